@@ -1,0 +1,10 @@
+pub mod Ask
+pub mod Box
+pub mod Model
+pub mod Questions
+pub mod Delays
+pub mod Steps
+pub mod Runs
+pub mod Tables
+pub mod Calls
+pub mod Cases
