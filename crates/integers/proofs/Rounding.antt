@@ -59,3 +59,20 @@ floor-unique {q} {z} d k h l = by (total (floorZ z d) q)
     by : (floorZ z d ≤ℤ q) ⊎ (q <ℤ floorZ z d) → q ≡ floorZ z d
     by (inl g) = omega (arithZ, floor-max {m = q} d k h)
     by (inr g) = absurd (omega (arithZ, floor-le z d k, # (floorZ z d) ⊙ d, (# q ⊕ # (pos 1)) ⊙ d, g ⊠ℕ< d))
+
+-- ---- rounding passes over a whole number
+
+pub floor-shift : (p z : ℤ) (d : ℕ) → 0 < d → floorZ (p *ℤ pos d +ℤ z) d ≡ p +ℤ floorZ z d
+floor-shift p z d k =
+    let f = floorZ z d in
+    sym (floor-unique {q = p +ℤ f} d k
+    (omega (arithZ, floor-le z d k, # f ⊙ d, (# p ⊕ # f) ⊙ d, # p ⊙ d ⊕ # z))
+    (omega (arithZ, lt-floor z d k, (# f ⊕ # (pos 1)) ⊙ d, (# p ⊕ # f ⊕ # (pos 1)) ⊙ d, # p ⊙ d ⊕ # z)))
+
+pub ceil-shift : (q z : ℤ) (d : ℕ) → 0 < d → ceilZ (q *ℤ pos d +ℤ z) d ≡ q +ℤ ceilZ z d
+unfolding ceilZ
+ceil-shift q z d k =
+    let f = floorZ (negℤ z) d in
+    let e : negℤ (q *ℤ pos d +ℤ z) ≡ negℤ q *ℤ pos d +ℤ negℤ z = omega (arithZ, ⊖ (# q ⊙ d ⊕ # z), ⊖ # q ⊙ d ⊕ ⊖ # z) in
+    let s : negℤ (negℤ q +ℤ f) ≡ q +ℤ negℤ f = omega (arithZ, ⊖ (⊖ # q ⊕ # f), # q ⊕ ⊖ # f) in
+    ap (λ (x : ℤ). negℤ (floorZ x d)) e ∙ ap negℤ (floor-shift (negℤ q) (negℤ z) d k) ∙ s

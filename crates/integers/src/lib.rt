@@ -1,8 +1,8 @@
 // Small functions on signed words and whole numbers.
 ghost use mathlib.Core.Path.{_≡_};
 ghost use Prim.Native.Nat.{ℕ, _≤_, _<_};
-ghost use lib.IntN.{ℤ, natAbs};
-ghost use lib.ListN.{length};
+ghost use lib.IntN.{ℤ, pos, natAbs};
+ghost use lib.ListN.{length, replicate};
 ghost use lib.Dec.{T};
 ghost use lib.Signed.{nonNeg};
 ghost use Rattle.integers.specs.Words as W;
@@ -80,4 +80,42 @@ pub fn ceil_div(z: i64, d: u64) -> i64
     ensures { λ r. ⌜ r ≡ ceilZ z d ⌝ }
 {
     0 - floor_div(0 - z, d)
+}
+
+// Makes all words zero.
+pub fn clear(words: &mut [i32])
+    ensures { λ _. ⌜ now (words .exit) ≡ replicate (length (now (words .entry))) (pos 0) ⌝ }
+{
+    let mut i: usize = 0;
+    while i < words.len() {
+        words[i] = 0;
+        i = i + 1;
+    }
+}
+
+// Copies all words to a list of the same length.
+pub fn copy(from: &[i32], to: &mut [i32])
+    requires { ⌜ length (now from) ≡ length (now to) ⌝ }
+    ensures { λ _. ⌜ now (to .exit) ≡ now (from .entry) ⌝ }
+{
+    let mut i: usize = 0;
+    while i < from.len() {
+        to[i] = from[i];
+        i = i + 1;
+    }
+}
+
+// Two lists of the same length hold the same words.
+pub fn equal(a: &[i32], b: &[i32]) -> bool
+    requires { ⌜ length (now a) ≡ length (now b) ⌝ }
+    ensures { λ r. ⌜ r ≡ W.same (now (a .entry)) (now (b .entry)) ⌝ }
+{
+    let mut i: usize = 0;
+    while i < a.len() {
+        if a[i] != b[i] {
+            return false;
+        }
+        i = i + 1;
+    }
+    true
 }

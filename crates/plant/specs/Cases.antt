@@ -66,8 +66,8 @@ pub record Starred : Type 0 where
   pub to-four : delaysTo (pos 3) (pos 4) (negsuc 1) (negsuc 0) (pos 0) ≡ from 3 2 (upTo 4 1)
   -- the last part with z 0, rate -1..-1, invariant -10..10: z -4..-1
   pub outward :
-    wallStep 2 (negsuc 9 ∷ pos 10 ∷ negsuc 9 ∷ pos 10 ∷ []) (negsuc 1 ∷ negsuc 0 ∷ negsuc 0 ∷ negsuc 0 ∷ []) (box₂ 3 4 0 0) 0 (pos 0)
-    ≡ present (pos 0 ∷ pos 0 ∷ negsuc 3 ∷ negsuc 0 ∷ [])
+      wallStep 2 (negsuc 9 ∷ pos 10 ∷ negsuc 9 ∷ pos 10 ∷ []) (negsuc 1 ∷ negsuc 0 ∷ negsuc 0 ∷ negsuc 0 ∷ []) (box₂ 3 4 0 0) 0 (pos 0)
+      ≡ present (pos 0 ∷ pos 0 ∷ negsuc 3 ∷ negsuc 0 ∷ [])
   -- part 0, wall 0: rate 1..1 only 0; 0..0 from 0, endless
   pub only-zero : delaysTo (pos 0) (pos 0) (pos 1) (pos 1) (pos 0) ≡ from 0 1 (upTo 0 1)
   pub zero-on : delaysTo (pos 0) (pos 0) (pos 0) (pos 0) (pos 0) ≡ from 0 1 Endless

@@ -1,0 +1,97 @@
+-- What code knows once a question was answered: the head's numbers after 2 to 4, a switch's numbers after 14, the length
+-- after 5. And that a model that passes all its questions has them.
+use mathlib.Core.Path.{_≡_, refl, sym}
+use mathlib.Core.Bool.{Bool, true, false}
+use mathlib.Core.List.{List}
+use Prim.Native.Nat.{ℕ, _<_, _≤_}
+use native.Mathlib.Omega.{arith}
+use lib.Dec.{leb, le→leb, leb→le}
+use lib.IntN.{ℤ}
+use lib.ListN.{length}
+use Rattle.integers.specs.Words.{word, eqZ}
+use Rattle.integers.proofs.Counted.{within-abs, within-one}
+use Rattle.plant.specs.Ask.{ask}
+use Rattle.plant.specs.Model.{n#, E#, resetMask, reset}
+use Rattle.plant.specs.Questions.{placesQuestion, singleOk, targetWall, landsOk, rangesQuestions}
+use Rattle.plant.proofs.Asks.{ask-intro}
+use Rattle.plant.proofs.Passed.{one-abs, head-nonneg, RangesPassed, ranges-passed, PlacesPassed, places-passed, SwitchPassed, Passed}
+use Rattle.model.specs.Whole.{Head, Whole, Placed}
+use Rattle.model.specs.Switch.{singleBox, landingOf}
+use Rattle.model.proofs.Positions.{head-first}
+
+pub head-passed : (m : List ℤ) → 4 ≤ length m → rangesQuestions m ≡ 0 → Head m
+head-passed m h e =
+    let r : RangesPassed m = ranges-passed m e in
+    record {
+      there = h;
+      not-negative = head-nonneg m r;
+      n-positive = within-one (word m 0) 6 (r .n-within);
+      n-small = one-abs (word m 0) 6 (r .n-within);
+      L-positive = within-one (word m 1) 64 (r .L-within);
+      L-small = one-abs (word m 1) 64 (r .L-within);
+      E-small = within-abs (word m 2) 128 (r .E-within);
+      B-small = within-abs (word m 3) 64 (r .B-within);
+    }
+
+pub placed : (m : List ℤ) (e : ℕ) → Whole m → e < E# m → placesQuestion m e ≡ 0 → Placed m e
+placed m e w l h =
+    let p : PlacesPassed m e = places-passed m e (w .head .n-positive) (w .head .L-positive) h in
+    record {
+      numbered = record { whole = w; below = l; not-negative = p .not-negative };
+      source-is = p .source-is;
+      target-is = p .target-is;
+      variable-is = p .variable-is;
+      source-side = p .source-side;
+      target-side = p .target-side;
+    }
+
+-- ---- a model that passes all its questions
+
+pub whole-passed : (m : List ℤ) → Passed m → Whole m
+whole-passed m p = record {
+  head = record {
+    there = omega (arith, p .long, head-first m);
+    not-negative = p .head;
+    n-positive = p .n-positive;
+    n-small = p .n-small;
+    L-positive = p .L-positive;
+    L-small = p .L-small;
+    E-small = p .E-small;
+    B-small = p .B-small;
+  };
+  long = p .long;
+}
+
+pub switch-placed : (m : List ℤ) → Passed m → (e : ℕ) → e < E# m → Placed m e
+switch-placed m p e l =
+    let s : SwitchPassed m e = p .of-switch e l in
+    record {
+      numbered = record { whole = whole-passed m p; below = l; not-negative = s .not-negative };
+      source-is = s .source-is;
+      target-is = s .target-is;
+      variable-is = s .variable-is;
+      source-side = s .source-side;
+      target-side = s .target-side;
+    }
+
+-- ---- the questions of a length
+
+pub too-short : (k n : ℕ) → n < k → 5 ≡ ask (leb k n) 5
+too-short k n h = by (leb k n) refl
+  where
+    by : (b : Bool) → leb k n ≡ b → 5 ≡ ask (leb k n) 5
+    by true e = absurd (omega (arith, leb→le k n (rw e tt)))
+    by false e = rw e
+
+pub long-enough : (k n : ℕ) → k ≤ n → 0 ≡ ask (leb k n) 5
+long-enough k n h = sym (ask-intro (leb k n) 5 (le→leb k n h))
+
+-- ---- 16 and 18, as code asks them
+
+pub single-is : (m : List ℤ) (e : ℕ) → singleBox (n# m) (resetMask m e) (reset m e) ≡ singleOk m e
+unfolding singleBox singleOk
+single-is m e = refl
+
+pub lands-is : (m : List ℤ) (e : ℕ) → eqZ (targetWall m e) (landingOf m e) ≡ landsOk m e
+unfolding landsOk
+lands-is m e = refl

@@ -1,0 +1,51 @@
+-- Four words are there; the first answer that is not yes counts.
+use borrow.Author.Needs.{needs}
+use Rattle.plant.specs.Questions as Q
+use Rattle.model.proofs.ranges_questions.Statement.{statement}
+use Rattle.model.proofs.ranges_questions.Tie as tie
+
+within-requires : tie.Need-within-requires
+within-requires c κs = search needs
+
+ask-requires : tie.Need-ask-requires
+ask-requires c κs = search needs
+
+within-requires-2 : tie.Need-within-requires-2
+within-requires-2 c κs = search needs
+
+ask-requires-2 : tie.Need-ask-requires-2
+ask-requires-2 c κs = search needs
+
+within-requires-3 : tie.Need-within-requires-3
+within-requires-3 c κs = search needs
+
+within-requires-4 : tie.Need-within-requires-4
+within-requires-4 c κs = search needs
+
+ask-requires-3 : tie.Need-ask-requires-3
+ask-requires-3 c κs = search needs
+
+or-else-requires : tie.Need-or-else-requires
+or-else-requires c κs = search needs
+
+or-else-requires-2 : tie.Need-or-else-requires-2
+or-else-requires-2 c κs = search needs
+
+returns : tie.Need-returns
+unfolding Q.rangesQuestions
+returns c = cc
+
+pub ranges-questions-spec : {M : Type 1} → statement M
+ranges-questions-spec =
+    tie.close
+    (tie.spec
+    within-requires
+    ask-requires
+    within-requires-2
+    ask-requires-2
+    within-requires-3
+    within-requires-4
+    ask-requires-3
+    or-else-requires
+    or-else-requires-2
+    returns)

@@ -1,0 +1,143 @@
+-- The checker and the tables of the passes: an accepted list of words holds every table k, so it touches what they touch;
+-- and a table that repeats and touches nothing is accepted, whatever words follow it.
+use mathlib.Core.Path.{_≡_, refl, sym, ap, _∙_, subst}
+use mathlib.Core.Bool.{Bool, true, false, not}
+use mathlib.Core.List.{List}
+use Prim.Native.Nat.{ℕ, zero, suc, _*_, _<_, _≤_}
+use native.Mathlib.Omega.{arith}
+use lib.Dec.{T, T-not, not-T, leb, le→leb}
+use lib.IntN.{ℤ}
+use lib.ListN.{length, take}
+use Rattle.integers.specs.Words.{onto}
+use Rattle.integers.proofs.Counted.{same-eq, same-intro}
+use Rattle.plant.specs.Ask.{ask, orElse, _then_}
+use Rattle.plant.specs.Box.{Face}
+use Rattle.plant.specs.Model.{n#, L#}
+use Rattle.plant.specs.Questions.{modelQuestions}
+use Rattle.plant.specs.Tables.{tableSize, tableOk, faceOf, newFace, pass, tableAfter, touching}
+use Rattle.plant.specs.Calls.{unchanged, checkerQuestions, checkBy, checkCall}
+use Rattle.plant.specs.Demands.{Accepts, Touches, Repeats}
+use Rattle.plant.proofs.Asks.{ask-yes, ask-intro, asked, then-both, then-intro}
+use Rattle.plant.proofs.Boxes.{FaceIn, face-eq, face-trans, face-antisym}
+use Rattle.plant.proofs.Passed.{Passed, passed}
+use Rattle.plant.proofs.Tables.{filled, Begins, ends, ends-in, in-ends, long-enough, face-read, table-ext, Valid, ok-valid, made-valid, made-ok}
+use Rattle.plant.proofs.Growth.{TableIn, narrower-refl, new-mono}
+use Rattle.plant.proofs.Keeps.{facesAfter, faces-ok, after-made, after-pass, after-begins, onto-begins, after-valid}
+use Rattle.plant.proofs.Forbidden.{touching-mono}
+use Rattle.plant.proofs.Sound.{Closed}
+
+-- ---- the number of a refusal
+
+pub ask-le : (b : Bool) (k : ℕ) → ask b k ≤ k
+ask-le true k = omega arith
+ask-le false k = omega arith
+
+pub then-le : (a b k : ℕ) → a ≤ k → b ≤ k → (a then b) ≤ k
+unfolding orElse
+then-le zero b k p q = q
+then-le (suc a) b k p q = p
+
+-- no refusal of the checker is 100
+checker-le : (q : ℕ) (long ok fixed clear : Bool) → q ≡ 0 → (q then ask long 20 then ask ok 32 then ask fixed 33 then ask clear 34) ≤ 34
+checker-le q long ok fixed clear asks =
+    then-le q _ 34 (omega (arith, asks))
+    (then-le (ask long 20) _ 34 (omega (arith, ask-le long 20))
+    (then-le (ask ok 32) _ 34 (omega (arith, ask-le ok 32))
+    (then-le (ask fixed 33) _ 34 (omega (arith, ask-le fixed 33)) (ask-le clear 34))))
+
+accepted-code : (q : ℕ) → q ≤ 34 → checkBy q .code ≡ 100 → q ≡ 0
+accepted-code zero l e = refl
+accepted-code (suc q) l e = absurd (omega arith)
+
+-- ---- an accepted list of words
+
+-- it passes 32, a pass adds nothing to it, and it touches nothing forbidden
+pub record Accepted (m t : List ℤ) : Type 0 where
+  pub is-valid : Valid m t
+  pub is-closed : Closed m t
+  pub is-clear : T (not (touching m t))
+
+module _ (m : List ℤ) (asks : modelQuestions m ≡ 0) where
+  ok : Passed m
+  ok = passed m asks
+
+  closed-of : (t : List ℤ) → T (unchanged m t) → Closed m t
+  unfolding unchanged pass
+  closed-of t h = record {
+    closed = λ l f u v.
+        face-trans (n# m) (newFace m t l f) (ends (n# m) (newFace m t l f)) (faceOf m t l f) (in-ends (n# m) (newFace m t l f))
+        (face-eq (n# m) (sym (face-read m (filled m ok) t (newFace m t) (sym (same-eq (pass m t) (take (tableSize m) t) h)) l f u v)));
+  }
+
+  pub accepted : (t : List ℤ) → Accepts m t → Accepted m t
+  unfolding checkCall checkerQuestions
+  accepted t h =
+      let a : _ × _ = then-both (modelQuestions m) _ (accepted-code (checkerQuestions m t) (checker-le (modelQuestions m) (leb (tableSize m) (length t)) (tableOk m t) (unchanged m t) (not (touching m t)) asks) h) in
+      let b : _ × _ = asked (leb (tableSize m) (length t)) 20 _ (omega arith) (a .1) in
+      let c : T (tableOk m t) × _ = asked (tableOk m t) 32 _ (omega arith) (b .1) in
+      let d : T (unchanged m t) × _ = asked (unchanged m t) 33 _ (omega arith) (c .1) in
+      record { is-valid = ok-valid m t (c .0); is-closed = closed-of t (d .0); is-clear = ask-yes (not (touching m t)) 34 (omega arith) (d .1) }
+
+  -- t holds table k if it holds the faces of which table k is made
+  table-held : (t : List ℤ) (k : ℕ) → ((l f : ℕ) → l < L# m → f < 2 * n# m → FaceIn (n# m) (facesAfter m k l f) (faceOf m t l f)) → TableIn m (tableAfter m k) t
+  table-held t k h = record {
+    each = λ l f u v. subst (λ (x : Face). FaceIn (n# m) x (faceOf m t l f)) (sym (face-read m (filled m ok) (tableAfter m k) (facesAfter m k) (after-begins m ok k) l f u v))
+        (face-trans (n# m) (ends (n# m) (facesAfter m k l f)) (facesAfter m k l f) (faceOf m t l f) (ends-in (n# m) (facesAfter m k l f)) (h l f u v));
+  }
+
+  -- it does: table 0 is all absent, and a pass of what it holds stays in it
+  faces-held : (t : List ℤ) → Accepted m t → (k l f : ℕ) → l < L# m → f < 2 * n# m → FaceIn (n# m) (facesAfter m k l f) (faceOf m t l f)
+  faces-held t a zero l f u v = tt
+  faces-held t a (suc k) l f u v =
+      face-trans (n# m) (newFace m (tableAfter m k) l f) (newFace m t l f) (faceOf m t l f)
+      (new-mono m m ok (narrower-refl m) (tableAfter m k) t (after-valid m ok k) (table-held t k (faces-held t a k)) l f u v) (a .is-closed .closed l f u v)
+
+  pub holds-table : (t : List ℤ) → Accepted m t → (k : ℕ) → TableIn m (tableAfter m k) t
+  holds-table t a k = table-held t k (faces-held t a k)
+
+  -- so where table k touches, every list of words is refused
+  pub touches-refused : (k : ℕ) → Touches m k → (t : List ℤ) → Accepts m t → ⊥
+  touches-refused k h t a =
+      let g : Accepted m t = accepted t a in
+      T-not (touching m t) (g .is-clear) (touching-mono m m ok (narrower-refl m) (tableAfter m k) t (after-valid m ok k) (holds-table t g k) h)
+
+  -- ---- a table that repeats and touches nothing
+
+  -- lists of words that begin with the same faces
+  same-faces : (t t′ : List ℤ) (g : ℕ → ℕ → Face) → Begins m t g → Begins m t′ g → TableIn m t t′
+  same-faces t t′ g b b′ = record { each = λ l f u v. face-eq (n# m) (face-read m (filled m ok) t g b l f u v ∙ sym (face-read m (filled m ok) t′ g b′ l f u v)) }
+
+  same-pass : (t t′ : List ℤ) → Valid m t → Valid m t′ → TableIn m t t′ → TableIn m t′ t → pass m t ≡ pass m t′
+  unfolding pass
+  same-pass t t′ v v′ p q = table-ext m (newFace m t) (newFace m t′)
+      (λ l f x y. face-antisym (n# m) (newFace m t l f) (newFace m t′ l f) (new-mono m m ok (narrower-refl m) t t′ v p l f x y) (new-mono m m ok (narrower-refl m) t′ t v′ q l f x y))
+
+  -- with any words put behind it
+  pub repeats-accepted : (k : ℕ) → (Touches m k → ⊥) → Repeats m k → (s : List ℤ) → Accepts m (onto (tableAfter m k) s)
+  unfolding checkCall checkerQuestions unchanged
+  repeats-accepted k clear repeats s = ap (λ (q : ℕ). checkBy q .code)
+      (then-intro asks
+      (then-intro (ask-intro (leb (tableSize m) (length t)) 20 (le→leb (tableSize m) (length t) (long-enough m (filled m ok) t (facesAfter m k) begins)))
+      (then-intro (ask-intro (tableOk m t) 32 (made-ok m (filled m ok) t (facesAfter m k) begins (faces-ok m ok k)))
+      (then-intro (ask-intro (unchanged m t) 33 (same-intro same-words)) (ask-intro (not (touching m t)) 34 (not-T (touching m t) clears))))))
+    where
+      t : List ℤ
+      t = onto (tableAfter m k) s
+
+      begins : Begins m t (facesAfter m k)
+      begins = onto-begins m ok k s
+
+      valid-t : Valid m t
+      valid-t = made-valid m (filled m ok) t (facesAfter m k) begins (faces-ok m ok k)
+
+      into : TableIn m t (tableAfter m k)
+      into = same-faces t (tableAfter m k) (facesAfter m k) begins (after-begins m ok k)
+
+      from : TableIn m (tableAfter m k) t
+      from = same-faces (tableAfter m k) t (facesAfter m k) (after-begins m ok k) begins
+
+      same-words : pass m t ≡ take (tableSize m) t
+      same-words = same-pass t (tableAfter m k) valid-t (after-valid m ok k) into from ∙ after-pass m k ∙ repeats ∙ after-made m k ∙ sym begins
+
+      clears : T (touching m t) → ⊥
+      clears h = clear (touching-mono m m ok (narrower-refl m) t (tableAfter m k) valid-t into h)

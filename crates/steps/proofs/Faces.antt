@@ -1,0 +1,170 @@
+-- What the steps hand over is the face of the definition: by the answer it is absent, or present with the box at the front of the lent words.
+-- That box is ordered and inside the invariant, so its words are levels.
+use mathlib.Core.Path.{_≡_, refl, sym, ap, _∙_, subst}
+use mathlib.Core.Bool.{Bool, true, false, cond, _&&_}
+use mathlib.Core.List.{List}
+use Prim.Native.Nat.{ℕ, _+_, _*_, _≤_, _<_}
+use native.Mathlib.Omega.{arith}
+use lib.Dec.{eqb}
+use lib.IntN.{ℤ, pos, negsuc, natAbs}
+use lib.Signed.{_≤ℤ_, ≤ℤ-refl}
+use lib.ListN.{length, take, length-take, take-append-drop}
+use lib.Seq.{length-take-le, getD-take}
+use Rattle.integers.specs.Words.{onto}
+use Rattle.integers.proofs.Parts.{⁺, ⁻, arithZ}
+use Rattle.integers.proofs.Order.{trans}
+use Rattle.integers.proofs.Extremes.{max-right, min-right}
+use Rattle.integers.proofs.Buffers.{take-onto}
+use Rattle.plant.specs.declared.Interval.{Interval}
+use Rattle.plant.specs.declared.Delays.{Delays}
+use Rattle.plant.specs.declared.Delays.the-variants.{Between, Never}
+use Rattle.plant.specs.Box.{low, high, ordered, Ordered, Inside, cut, Face, absent, present, unlessEmpty, onBox}
+use Rattle.plant.specs.Steps.{Bound, unbounded, bound, lowBound, highBound, cutLow, cutHigh, lowAfter, highAfter, boxAfter, faceAfter, wallDelays, wallStep, setMasked, guarded, landed, switchStep}
+use Rattle.plant.proofs.Boxes.{low-boxBy, high-boxBy, length-boxBy, length-cut, cut-right, FaceAll, unless-all, onBox-all}
+use Rattle.delays.specs.Ranges.{LevelAt, Levels}
+use Rattle.steps.specs.Given.{wallGives, landedBox, switchGives}
+
+-- ---- the face handed over
+
+-- by the answer r: the face's box is at the front of the words at exit, or there is none; the rest of them is unchanged
+pub record Handed (n : ℕ) (r : Bool) (exit out : List ℤ) (face : Face) : Type 0 where
+  pub is-face : face ≡ cond r (present (take (2 * n) exit)) absent
+  pub is-exit : exit ≡ onto (take (2 * n) exit) out
+  pub sized : length (take (2 * n) exit) ≡ 2 * n
+
+-- a box in the first places
+box-handed : (n : ℕ) (b out : List ℤ) (r : Bool) (face : Face) → length b ≡ 2 * n → face ≡ cond r (present b) absent → Handed n r (onto b out) out face
+unfolding onto
+box-handed n b out r face l e =
+    let t : take (2 * n) (onto b out) ≡ b = take-onto b out (2 * n) l in
+    record { is-face = rw t e; is-exit = rw t refl; sized = rw t l }
+
+-- no face, and nothing written
+none-handed : (n : ℕ) (out : List ℤ) → 2 * n ≤ length out → Handed n false out out absent
+unfolding onto
+none-handed n out h =
+    let l : length (take (2 * n) out) ≡ 2 * n = length-take-le (2 * n) out h in
+    record { is-face = refl; is-exit = rw l (sym (take-append-drop (2 * n) out)); sized = l }
+
+-- of an outcome that equals r and exit
+carried : (n : ℕ) (r : Bool) (exit out : List ℤ) (face : Face) (g : Bool × List ℤ) → (r, exit) ≡ g → Handed n (g .0) (g .1) out face → Handed n r exit out face
+carried n r exit out face g e h = subst (λ (x : Bool × List ℤ). Handed n (x .0) (x .1) out face) (sym e) h
+
+module _ (n : ℕ) (inv rate part : List ℤ) (d : ℕ) (b : ℤ) where
+  length-after : (t : Interval) → length (boxAfter n inv rate part d b t) ≡ 2 * n
+  unfolding boxAfter
+  length-after t = length-boxBy n (lowAfter n inv rate part d b t) (highAfter n inv rate part d b t)
+
+  after-handed : (t : Delays) (out : List ℤ) → 2 * n ≤ length out → let g = wallGives n inv rate part d b t out in Handed n (g .0) (g .1) out (faceAfter n inv rate part d b t)
+  unfolding unlessEmpty
+  after-handed Never out h = none-handed n out h
+  after-handed (Between t) out h = box-handed n (boxAfter n inv rate part d b t) out (ordered n (boxAfter n inv rate part d b t)) _ (length-after t) refl
+
+-- the wall step hands over the face that it gives
+pub wall-handed : (n : ℕ) (inv rate part : List ℤ) (d : ℕ) (b : ℤ) {r : Bool} {exit out : List ℤ} → 2 * n ≤ length out
+    → (r, exit) ≡ wallGives n inv rate part d b (wallDelays n inv rate part d b) out → Handed n r exit out (wallStep n inv rate part d b)
+unfolding wallStep
+wall-handed n inv rate part d b {r} {exit} {out} h e =
+    carried n r exit out _ (wallGives n inv rate part d b (wallDelays n inv rate part d b) out) e (after-handed n inv rate part d b (wallDelays n inv rate part d b) out h)
+
+module _ (n mask : ℕ) (guard reset inv from : List ℤ) where
+  length-landed : length (landedBox n mask guard reset inv from) ≡ 2 * n
+  unfolding landedBox
+  length-landed = length-cut n (cut n (setMasked n mask reset (cut n from guard)) reset) inv
+
+  -- both cuts, by their tests
+  two-cuts : (o p : Bool) (c l : List ℤ) (f : List ℤ → Face) → f c ≡ cond p (present l) absent → onBox (cond o (present c) absent) f ≡ cond (o && p) (present l) absent
+  two-cuts true p c l f e = e
+  two-cuts false p c l f e = refl
+
+  switch-is : switchStep n mask guard reset inv (present from) ≡ cond (ordered n (cut n from guard) && ordered n (landedBox n mask guard reset inv from)) (present (landedBox n mask guard reset inv from)) absent
+  unfolding switchStep guarded landed unlessEmpty landedBox
+  switch-is = two-cuts (ordered n (cut n from guard)) (ordered n (landedBox n mask guard reset inv from)) (cut n from guard) (landedBox n mask guard reset inv from) (landed n mask reset inv) refl
+
+-- the switch step from a present face hands over the face on which it lands
+pub switch-handed : (n mask : ℕ) (guard reset inv from : List ℤ) {r : Bool} {exit out : List ℤ}
+    → (r, exit) ≡ switchGives n mask guard reset inv from out → Handed n r exit out (switchStep n mask guard reset inv (present from))
+unfolding switchGives
+switch-handed n mask guard reset inv from {r} {exit} {out} e =
+    carried n r exit out _ (switchGives n mask guard reset inv from out) e
+    (box-handed n (landedBox n mask guard reset inv from) out (ordered n (cut n from guard) && ordered n (landedBox n mask guard reset inv from)) _ (length-landed n mask guard reset inv from) (switch-is n mask guard reset inv from))
+
+-- the ends of the box at the front
+pub front-low : (n : ℕ) (s : List ℤ) (i : ℕ) → i < n → low (take (2 * n) s) i ≡ low s i
+unfolding low
+front-low n s i l = getD-take (2 * n) s (2 * i) (pos 0) (omega arith)
+
+pub front-high : (n : ℕ) (s : List ℤ) (i : ℕ) → i < n → high (take (2 * n) s) i ≡ high s i
+unfolding high
+front-high n s i l = getD-take (2 * n) s (2 * i + 1) (pos 0) (omega arith)
+
+-- ---- its range
+
+-- a box of n variables, ordered and inside the invariant
+pub record InInvariant (n : ℕ) (inv b : List ℤ) : Type 0 where
+  pub sized : length b ≡ 2 * n
+  pub is-ordered : Ordered n b
+  pub inside : Inside n b inv
+
+in-unless : (n : ℕ) (inv b : List ℤ) → length b ≡ 2 * n → Inside n b inv → FaceAll (InInvariant n inv) (unlessEmpty n b)
+in-unless n inv b l i = unless-all n b (InInvariant n inv) (λ o. record { sized = l; is-ordered = o; inside = i })
+
+cut-low-in : (m : Bound) (v : ℤ) → v ≤ℤ cutLow m v
+cut-low-in unbounded v = ≤ℤ-refl v
+cut-low-in (bound x) v = max-right x v
+
+cut-high-in : (m : Bound) (v : ℤ) → cutHigh m v ≤ℤ v
+cut-high-in unbounded v = ≤ℤ-refl v
+cut-high-in (bound x) v = min-right x v
+
+module _ (n : ℕ) (inv rate part : List ℤ) (d : ℕ) (b : ℤ) where
+  after-inside : (t : Interval) → Inside n (boxAfter n inv rate part d b t) inv
+  unfolding boxAfter lowAfter highAfter
+  after-inside t = record {
+    lower = λ i l. rw (low-boxBy n (lowAfter n inv rate part d b t) (highAfter n inv rate part d b t) i l)
+        (cut-low-in (cond (eqb i d) (bound b) (lowBound (low part i) (low rate i) t)) (low inv i));
+    higher = λ i l. rw (high-boxBy n (lowAfter n inv rate part d b t) (highAfter n inv rate part d b t) i l)
+        (cut-high-in (cond (eqb i d) (bound b) (highBound (high part i) (high rate i) t)) (high inv i));
+  }
+
+  after-in : (t : Delays) → FaceAll (InInvariant n inv) (faceAfter n inv rate part d b t)
+  after-in Never = tt
+  after-in (Between t) = in-unless n inv (boxAfter n inv rate part d b t) (length-after n inv rate part d b t) (after-inside t)
+
+  pub wall-in : FaceAll (InInvariant n inv) (wallStep n inv rate part d b)
+  unfolding wallStep
+  wall-in = after-in (wallDelays n inv rate part d b)
+
+pub switch-in : (n mask : ℕ) (guard reset inv : List ℤ) (g : Face) → FaceAll (InInvariant n inv) (switchStep n mask guard reset inv g)
+unfolding switchStep landed
+switch-in n mask guard reset inv g =
+    onBox-all (InInvariant n inv) (landed n mask reset inv)
+    (λ b. let a = cut n (setMasked n mask reset b) reset in in-unless n inv (cut n a inv) (length-cut n a inv) (cut-right n a inv))
+    (onBox g (guarded n guard))
+
+abs-parts : (z : ℤ) → natAbs z ≡ ⁺ z + ⁻ z
+abs-parts (pos a) = omega arith
+abs-parts (negsuc a) = omega arith
+
+between : {k : ℕ} {v w : ℤ} (z : ℤ) → v ≤ℤ z → z ≤ℤ w → natAbs v ≤ k → natAbs w ≤ k → natAbs z ≤ k
+between {v = v} {w} (pos a) g h p q = omega (arithZ, abs-parts w)
+between {v = v} {w} (negsuc a) g h p q = omega (arithZ, abs-parts v)
+
+-- its words are levels
+pub in-levels : {n : ℕ} {inv b : List ℤ} → Levels n inv → InInvariant n inv b → Levels n b
+in-levels {n} {inv} {b} v h i l = record {
+  there = omega (arith, h .sized);
+  low-in = between (low b i) (h .inside .lower i l) (trans (h .is-ordered i l) (h .inside .higher i l)) (v i l .low-in) (v i l .high-in);
+  high-in = between (high b i) (trans (h .inside .lower i l) (h .is-ordered i l)) (h .inside .higher i l) (v i l .low-in) (v i l .high-in);
+}
+
+-- of a face that was handed over, those in the lent words too
+pub handed-levels : {n : ℕ} {r : Bool} {exit out inv : List ℤ} {face : Face} → Levels n inv → Handed n r exit out face → FaceAll (InInvariant n inv) face → r ≡ true → Levels n exit
+handed-levels {n} {r} {exit} {out} {inv} {face} v h p e i l =
+    let is-in : InInvariant n inv (take (2 * n) exit) = subst (FaceAll (InInvariant n inv)) (h .is-face ∙ ap (λ (x : Bool). cond x (present (take (2 * n) exit)) absent) e) p in
+    let at : LevelAt (take (2 * n) exit) i = in-levels v is-in i l in
+    record {
+      there = omega (arith, h .sized, length-take (2 * n) exit);
+      low-in = rw (← (front-low n exit i l)) (at .low-in);
+      high-in = rw (← (front-high n exit i l)) (at .high-in);
+    }

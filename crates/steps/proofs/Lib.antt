@@ -1,0 +1,4 @@
+pub mod Bounds
+pub mod Written
+pub mod Landing
+pub mod Faces

@@ -1,0 +1,50 @@
+-- What a loop over the variables has written to the front of the lent words, and tested, at i + 1 from what it has at i.
+use mathlib.Core.Path.{_≡_, refl, ap, ap₂, _∙_}
+use mathlib.Core.Bool.{Bool, true, _&&_}
+use mathlib.Core.List.{List, [], _∷_, _++_, append-assoc}
+use Prim.Native.Nat.{ℕ, zero, suc, _+_, _*_, _<_}
+use native.Mathlib.Numerals.{add-one}
+use native.Mathlib.Omega.{arith}
+use lib.IntN.{ℤ}
+use lib.Signed.{leZ}
+use lib.ListN.{length, set, length-append}
+use Rattle.integers.specs.Words.{onto}
+use Rattle.integers.specs.Counted.{allBelow}
+use Rattle.integers.proofs.Buffers.{onto-none, onto-set, cat-none, cat-more}
+use Rattle.plant.specs.Box.{low, high, boxBy, ordered}
+use Rattle.plant.proofs.Boxes.{low-boxBy, high-boxBy, length-boxBy}
+
+-- two stores at the first places that are not filled yet
+onto-two : (a out : List ℤ) (k : ℕ) (lo hi : ℤ) → length a ≡ k → k + 1 < length out → set (set (onto a out) k lo) (k + 1) hi ≡ onto (a ++ lo ∷ hi ∷ []) out
+onto-two a out k lo hi e h =
+    rw (onto-set a out k lo e (omega arith))
+    (onto-set (a ++ lo ∷ []) out (k + 1) hi (omega (arith, length-append a (lo ∷ []))) h ∙ ap (λ (l : List ℤ). onto l out) (append-assoc a (lo ∷ []) (hi ∷ [])))
+
+module _ (lo hi : ℕ → ℤ) where
+  pub none-written : (out : List ℤ) → out ≡ onto (boxBy 0 lo hi) out
+  unfolding boxBy
+  none-written out = rw (cat-none (λ i. lo i ∷ hi i ∷ [])) (onto-none out)
+
+  pub next-written : (i : ℕ) (out : List ℤ) → 2 * i + 1 < length out → set (set (onto (boxBy i lo hi) out) (2 * i) (lo i)) (2 * i + 1) (hi i) ≡ onto (boxBy (i + 1) lo hi) out
+  unfolding boxBy
+  next-written i out h = rw (cat-more i (λ i. lo i ∷ hi i ∷ [])) (onto-two (boxBy i lo hi) out (2 * i) (lo i) (hi i) (length-boxBy i lo hi) h)
+
+pub none-tested : (f : ℕ → Bool) → true ≡ allBelow 0 f
+unfolding allBelow
+none-tested f = refl
+
+pub next-tested : (f : ℕ → Bool) (i : ℕ) → allBelow i f && f i ≡ allBelow (i + 1) f
+unfolding allBelow
+next-tested f i = rw (add-one i)
+
+-- the same test of each number below k
+all-ext : (k : ℕ) (f g : ℕ → Bool) → ((i : ℕ) → i < k → f i ≡ g i) → allBelow k f ≡ allBelow k g
+unfolding allBelow
+all-ext zero f g e = refl
+all-ext (suc k) f g e = ap₂ (λ (a b : Bool). a && b) (all-ext k f g (λ i l. e i (omega arith))) (e k (omega arith))
+
+-- a box of ends is ordered if they are
+pub ordered-by : (n : ℕ) (lo hi : ℕ → ℤ) → ordered n (boxBy n lo hi) ≡ allBelow n (λ i. leZ (lo i) (hi i))
+unfolding ordered
+ordered-by n lo hi =
+    all-ext n (λ i. leZ (low (boxBy n lo hi) i) (high (boxBy n lo hi) i)) (λ i. leZ (lo i) (hi i)) (λ i l. ap₂ leZ (low-boxBy n lo hi i l) (high-boxBy n lo hi i l))

@@ -1,0 +1,64 @@
+-- Each branch is a case of the bound: unbounded, at the latest delay, at the earliest.
+use mathlib.Core.Path.{subst, _∙_}
+use mir.Facts.{toZ-ofZ}
+use Rattle.integers.proofs.Signed.{got64}
+use Rattle.delays.specs.Ranges.{SmallEnd}
+use borrow.Author.Needs.{needs}
+use Rattle.steps.proofs.high_cut.Statement.{statement}
+use Rattle.steps.proofs.high_cut.Tie as tie
+
+enum-told : tie.Need-enum-told
+enum-told c = search needs
+
+enum-known-latest : tie.Need-enum-known-latest
+enum-known-latest c = search needs
+
+high-at-requires : tie.Need-high-at-requires
+high-at-requires c κs =
+    let s = c .before .before .before .before in
+    simp (toZ-ofZ (s .fits .q), toZ-ofZ (s .fits .c))
+    (s .pre .0, s .pre .1, subst SmallEnd (c .before .latest .given .1) (s .pre .2 .latest-small))
+
+smaller-requires : tie.Need-smaller-requires
+smaller-requires c κs = search needs
+
+high-at-requires-2 : tie.Need-high-at-requires-2
+high-at-requires-2 c κs = search needs
+
+smaller-requires-2 : tie.Need-smaller-requires-2
+smaller-requires-2 c κs = search needs
+
+returns : tie.Need-returns
+returns c =
+    let f = c .before .before .before .fits in
+    simp (toZ-ofZ (f .hi), simp (toZ-ofZ (f .c)) at (c .before .before .if1 .taken), c .enum-told .given .1)
+
+returns-2 : tie.Need-returns-2
+returns-2 c =
+    let f = c .before .before .before .before .before .before .fits in
+    let t = simp (toZ-ofZ (f .c)) at (c .before .before .before .before .before .if1 .taken) in
+    let r = got64 (c .before .high-at .result) (c .before .high-at .ok) in
+    let g = simp (r, toZ-ofZ (f .hi)) at (c .smaller .ensures) in
+    got64 (c .smaller .result) (c .smaller .ok) ∙ g ∙ simp (c .before .high-at .ensures, toZ-ofZ (f .q), toZ-ofZ (f .c), t, c .before .before .before .latest .given .1)
+
+returns-3 : tie.Need-returns-3
+returns-3 c =
+    let f = c .before .before .before .before .fits in
+    let t = simp (toZ-ofZ (f .c)) at (c .before .before .before .if1 .left) in
+    let r = got64 (c .before .high-at2 .result) (c .before .high-at2 .ok) in
+    let g = simp (r, toZ-ofZ (f .hi)) at (c .smaller2 .ensures) in
+    got64 (c .smaller2 .result) (c .smaller2 .ok) ∙ g ∙ simp (c .before .high-at2 .ensures, toZ-ofZ (f .q), toZ-ofZ (f .c), t)
+
+pub high-cut-spec : {M : Type 1} → statement M
+high-cut-spec =
+    tie.close
+    (tie.spec
+    enum-told
+    enum-known-latest
+    high-at-requires
+    smaller-requires
+    high-at-requires-2
+    smaller-requires-2
+    returns
+    returns-2
+    returns-3)

@@ -1,0 +1,64 @@
+-- Each branch is a case of the bound: unbounded, at the latest delay, at the earliest.
+use mathlib.Core.Path.{subst, _∙_}
+use mir.Facts.{toZ-ofZ}
+use Rattle.integers.proofs.Signed.{got64}
+use Rattle.delays.specs.Ranges.{SmallEnd}
+use borrow.Author.Needs.{needs}
+use Rattle.steps.proofs.low_cut.Statement.{statement}
+use Rattle.steps.proofs.low_cut.Tie as tie
+
+enum-told : tie.Need-enum-told
+enum-told c = search needs
+
+enum-known-latest : tie.Need-enum-known-latest
+enum-known-latest c = search needs
+
+low-at-requires : tie.Need-low-at-requires
+low-at-requires c κs =
+    let s = c .before .before .before .before in
+    simp (toZ-ofZ (s .fits .p), toZ-ofZ (s .fits .a))
+    (s .pre .0, s .pre .1, subst SmallEnd (c .before .latest .given .1) (s .pre .2 .latest-small))
+
+larger-requires : tie.Need-larger-requires
+larger-requires c κs = search needs
+
+low-at-requires-2 : tie.Need-low-at-requires-2
+low-at-requires-2 c κs = search needs
+
+larger-requires-2 : tie.Need-larger-requires-2
+larger-requires-2 c κs = search needs
+
+returns : tie.Need-returns
+returns c =
+    let f = c .before .before .before .fits in
+    simp (toZ-ofZ (f .lo), simp (toZ-ofZ (f .a)) at (c .before .before .if1 .taken), c .enum-told .given .1)
+
+returns-2 : tie.Need-returns-2
+returns-2 c =
+    let f = c .before .before .before .before .before .before .fits in
+    let t = simp (toZ-ofZ (f .a)) at (c .before .before .before .before .before .if1 .taken) in
+    let r = got64 (c .before .low-at .result) (c .before .low-at .ok) in
+    let g = simp (r, toZ-ofZ (f .lo)) at (c .larger .ensures) in
+    got64 (c .larger .result) (c .larger .ok) ∙ g ∙ simp (c .before .low-at .ensures, toZ-ofZ (f .p), toZ-ofZ (f .a), t, c .before .before .before .latest .given .1)
+
+returns-3 : tie.Need-returns-3
+returns-3 c =
+    let f = c .before .before .before .before .fits in
+    let t = simp (toZ-ofZ (f .a)) at (c .before .before .before .if1 .left) in
+    let r = got64 (c .before .low-at2 .result) (c .before .low-at2 .ok) in
+    let g = simp (r, toZ-ofZ (f .lo)) at (c .larger2 .ensures) in
+    got64 (c .larger2 .result) (c .larger2 .ok) ∙ g ∙ simp (c .before .low-at2 .ensures, toZ-ofZ (f .p), toZ-ofZ (f .a), t)
+
+pub low-cut-spec : {M : Type 1} → statement M
+low-cut-spec =
+    tie.close
+    (tie.spec
+    enum-told
+    enum-known-latest
+    low-at-requires
+    larger-requires
+    low-at-requires-2
+    larger-requires-2
+    returns
+    returns-2
+    returns-3)

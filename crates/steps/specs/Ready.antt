@@ -1,0 +1,21 @@
+-- What the steps read is in range, and there is room for the box that they write.
+use mathlib.Core.List.{List}
+use Prim.Native.Nat.{ℕ, _*_, _≤_}
+use lib.IntN.{ℤ}
+use lib.ListN.{length}
+use Rattle.delays.specs.Ranges.{Level, Levels, Rates}
+
+-- to a wall value b
+pub record WallReady (n : ℕ) (inv rate part : List ℤ) (b : ℤ) (out : List ℤ) : Type 0 where
+  pub inv-in : Levels n inv
+  pub rate-in : Rates n rate
+  pub part-in : Levels n part
+  pub wall-in : Level b
+  pub room : 2 * n ≤ length out
+
+pub record SwitchReady (n : ℕ) (guard reset inv from out : List ℤ) : Type 0 where
+  pub guard-in : Levels n guard
+  pub reset-in : Levels n reset
+  pub inv-in : Levels n inv
+  pub from-in : Levels n from
+  pub room : 2 * n ≤ length out

@@ -1,0 +1,227 @@
+// The wall step and the switch step on boxes of n variables (document 01, "Wall step and switch step").
+// A step writes the box of the face that it gives to the front of a lent list, and answers whether it gives one.
+ghost use mathlib.Core.Path.{_≡_};
+ghost use mathlib.Core.Bool.{cond};
+ghost use Prim.Native.Nat.{ℕ, _<_};
+ghost use Rattle.integers.specs.Rounding.{maxZ, minZ};
+ghost use Rattle.plant.specs.Box.{low, high};
+ghost use Rattle.plant.specs.Steps.{lowAt, highAt, lowBound, highBound, cutLow, cutHigh, lowAfter, highAfter, boxAfter, wallDelays};
+ghost use Rattle.delays.specs.Ranges.{Level, Rate, LevelAt, RateAt, Small, SmallInterval};
+ghost use Rattle.steps.specs.Ready.{WallReady, SwitchReady};
+ghost use Rattle.steps.specs.Given.{given, wallGives, switchGives};
+use plant::Delays;
+use plant::End;
+use plant::Fraction;
+use plant::Interval;
+
+// p + a × t, down to a whole number.
+fn low_at(p: i64, a: i64, t: Fraction) -> i64
+    requires { ⌜ Level p × Rate a × Small t ⌝ }
+    ensures { λ r. ⌜ r ≡ lowAt p a t ⌝ }
+{
+    let num = t.num;
+    let den = t.den;
+    p + integers::floor_div(a * (num as i64), den)
+}
+
+// q + c × t, up to a whole number.
+fn high_at(q: i64, c: i64, t: Fraction) -> i64
+    requires { ⌜ Level q × Rate c × Small t ⌝ }
+    ensures { λ r. ⌜ r ≡ highAt q c t ⌝ }
+{
+    let num = t.num;
+    let den = t.den;
+    q + integers::ceil_div(c * (num as i64), den)
+}
+
+// The low p at rate a after the delays t, cut to the invariant's low lo.
+fn low_cut(p: i64, a: i64, t: Interval, lo: i64) -> i64
+    requires { ⌜ Level p × Rate a × SmallInterval t ⌝ }
+    ensures { λ r. ⌜ r ≡ cutLow (lowBound p a t) lo ⌝ }
+{
+    if a < 0 {
+        let latest = t.latest;
+        match latest {
+            End::Endless => lo,
+            End::At(f) => integers::larger(low_at(p, a, f), lo),
+        }
+    } else {
+        let f = t.earliest;
+        integers::larger(low_at(p, a, f), lo)
+    }
+}
+
+// The high q at rate c after the delays t, cut to the invariant's high hi.
+fn high_cut(q: i64, c: i64, t: Interval, hi: i64) -> i64
+    requires { ⌜ Level q × Rate c × SmallInterval t ⌝ }
+    ensures { λ r. ⌜ r ≡ cutHigh (highBound q c t) hi ⌝ }
+{
+    if 0 < c {
+        let latest = t.latest;
+        match latest {
+            End::Endless => hi,
+            End::At(f) => integers::smaller(high_at(q, c, f), hi),
+        }
+    } else {
+        let f = t.earliest;
+        integers::smaller(high_at(q, c, f), hi)
+    }
+}
+
+// The low of variable i after the delays t to the value b of variable d.
+fn low_after(
+    inv: &[i32],
+    rate: &[i32],
+    part: &[i32],
+    d: usize,
+    b: i64,
+    t: Interval,
+    i: usize,
+) -> i64
+    requires { ⌜ LevelAt (now inv) i × RateAt (now rate) i × LevelAt (now part) i × SmallInterval t ⌝ }
+    ensures { λ r. ⌜ ((n : ℕ) → r ≡ lowAfter n (now (inv .entry)) (now (rate .entry)) (now (part .entry)) d b t i) ⌝ }
+{
+    let k = 2 * i;
+    let lo = integers::word(inv, k);
+    if i == d {
+        integers::larger(b, lo)
+    } else {
+        let p = integers::word(part, k);
+        let a = integers::word(rate, k);
+        low_cut(p, a, t, lo)
+    }
+}
+
+// The high of variable i after the delays t to the value b of variable d.
+fn high_after(
+    inv: &[i32],
+    rate: &[i32],
+    part: &[i32],
+    d: usize,
+    b: i64,
+    t: Interval,
+    i: usize,
+) -> i64
+    requires { ⌜ LevelAt (now inv) i × RateAt (now rate) i × LevelAt (now part) i × SmallInterval t ⌝ }
+    ensures { λ r. ⌜ ((n : ℕ) → r ≡ highAfter n (now (inv .entry)) (now (rate .entry)) (now (part .entry)) d b t i) ⌝ }
+{
+    let j = 2 * i + 1;
+    let hi = integers::word(inv, j);
+    if i == d {
+        integers::smaller(b, hi)
+    } else {
+        let q = integers::word(part, j);
+        let c = integers::word(rate, j);
+        high_cut(q, c, t, hi)
+    }
+}
+
+// The box after the delays t to the value b of variable d: writes it, and answers whether it is ordered.
+pub fn box_after(
+    n: usize,
+    inv: &[i32],
+    rate: &[i32],
+    part: &[i32],
+    d: usize,
+    b: i64,
+    t: Interval,
+    out: &mut [i32],
+) -> bool
+    requires { ⌜ WallReady n (now inv) (now rate) (now part) b (now out) × SmallInterval t ⌝ }
+    ensures { λ r. ⌜ (r, now (out .exit)) ≡ given n (boxAfter n (now (inv .entry)) (now (rate .entry)) (now (part .entry)) d b t) (now (out .entry)) ⌝ }
+{
+    let mut ok = true;
+    let mut i = 0;
+    while i < n {
+        let lo = low_after(inv, rate, part, d, b, t, i);
+        let hi = high_after(inv, rate, part, d, b, t, i);
+        let k = 2 * i;
+        let j = k + 1;
+        out[k] = lo as i32;
+        out[j] = hi as i32;
+        ok = ok & (lo <= hi);
+        i += 1;
+    }
+    ok
+}
+
+// The wall step to the value b of variable d.
+pub fn wall_step(
+    n: usize,
+    inv: &[i32],
+    rate: &[i32],
+    part: &[i32],
+    d: usize,
+    b: i64,
+    out: &mut [i32],
+) -> bool
+    requires { ⌜ WallReady n (now inv) (now rate) (now part) b (now out) × (d < n) ⌝ }
+    ensures { λ r. ⌜ (r, now (out .exit)) ≡ wallGives n (now (inv .entry)) (now (rate .entry)) (now (part .entry)) d b (wallDelays n (now (inv .entry)) (now (rate .entry)) (now (part .entry)) d b) (now (out .entry)) ⌝ }
+{
+    let Delays::Between(t) = delays::wall_delays(rate, part, d, b) else {
+        return false;
+    };
+    box_after(n, inv, rate, part, d, b, t, out)
+}
+
+// What a switch leaves of a level: the reset's if the variable is masked.
+fn after_reset(masked: bool, reset: i64, before: i64) -> i64
+    ensures { λ r. ⌜ r ≡ cond masked reset before ⌝ }
+{
+    if masked { reset } else { before }
+}
+
+// The low of variable i after a switch from the low g, cut to the reset box and the target's invariant.
+fn landed_low(masked: bool, g: i64, reset: &[i32], inv: &[i32], i: usize) -> i64
+    requires { ⌜ LevelAt (now reset) i × LevelAt (now inv) i ⌝ }
+    ensures { λ r. ⌜ r ≡ maxZ (maxZ (cond masked (low (now (reset .entry)) i) g) (low (now (reset .entry)) i)) (low (now (inv .entry)) i) ⌝ }
+{
+    let k = 2 * i;
+    let v = integers::word(reset, k);
+    let set = after_reset(masked, v, g);
+    integers::larger(integers::larger(set, v), integers::word(inv, k))
+}
+
+// The high of variable i after a switch from the high g, cut to the reset box and the target's invariant.
+fn landed_high(masked: bool, g: i64, reset: &[i32], inv: &[i32], i: usize) -> i64
+    requires { ⌜ LevelAt (now reset) i × LevelAt (now inv) i ⌝ }
+    ensures { λ r. ⌜ r ≡ minZ (minZ (cond masked (high (now (reset .entry)) i) g) (high (now (reset .entry)) i)) (high (now (inv .entry)) i) ⌝ }
+{
+    let j = 2 * i + 1;
+    let v = integers::word(reset, j);
+    let set = after_reset(masked, v, g);
+    integers::smaller(integers::smaller(set, v), integers::word(inv, j))
+}
+
+// The switch step from the box of the source's face: writes the box on which it lands, and answers whether neither cut is empty.
+pub fn switch_step(
+    n: usize,
+    mask: usize,
+    guard: &[i32],
+    reset: &[i32],
+    inv: &[i32],
+    from: &[i32],
+    out: &mut [i32],
+) -> bool
+    requires { ⌜ SwitchReady n (now guard) (now reset) (now inv) (now from) (now out) ⌝ }
+    ensures { λ r. ⌜ (r, now (out .exit)) ≡ switchGives n mask (now (guard .entry)) (now (reset .entry)) (now (inv .entry)) (now (from .entry)) (now (out .entry)) ⌝ }
+{
+    let mut ok = true;
+    let mut rest = mask;
+    let mut i = 0;
+    while i < n {
+        let glo = delays::cut_low(from, guard, i);
+        let ghi = delays::cut_high(from, guard, i);
+        let masked = rest % 2 == 1;
+        let lo = landed_low(masked, glo, reset, inv, i);
+        let hi = landed_high(masked, ghi, reset, inv, i);
+        let k = 2 * i;
+        let j = k + 1;
+        out[k] = lo as i32;
+        out[j] = hi as i32;
+        ok = ok & ((glo <= ghi) & (lo <= hi));
+        rest = rest / 2;
+        i += 1;
+    }
+    ok
+}

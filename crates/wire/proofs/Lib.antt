@@ -1,0 +1,5 @@
+pub mod Buffers
+pub mod Bits
+pub mod Words
+pub mod Fields
+pub mod Examples

@@ -1,0 +1,37 @@
+-- Document 01, "Files": a field is a one-byte tag, a two-byte length of the payload (highest byte first), the payload.
+use mathlib.Core.Bool.{cond}
+use mathlib.Core.List.{List, [], _∷_, _++_}
+use Prim.Native.Nat.{ℕ, _+_, _*_, _/_, _%_}
+use lib.Dec.{leb}
+use lib.ListN.{length, getD}
+use Rattle.wire.specs.declared.Field.{Field}
+use Rattle.wire.specs.declared.Field.the-variants.{Whole, Cut, Short}
+
+-- ---- reading
+
+-- the length that the second and third byte give
+abbrev pub lengthAt : List ℕ → ℕ → ℕ
+lengthAt s at = getD s (at + 1) 0 * 256 + getD s (at + 2) 0
+
+-- the field that begins at a position: Short if under three bytes are left, Cut with its tag if its payload is not all there;
+-- else Whole with its tag, where its payload starts, the payload's length, and the position after it
+unfoldable pub fieldAt : List ℕ → ℕ → Field
+fieldAt s at =
+    cond (leb (at + 3) (length s))
+    (cond (leb (at + 3 + lengthAt s at) (length s))
+    (Whole (getD s at 0) (at + 3) (lengthAt s at) (at + 3 + lengthAt s at))
+    (Cut (getD s at 0)))
+    Short
+
+-- where field i of a run of fields begins, each with a payload of w words
+abbrev pub fieldPlace : (from w i : ℕ) → ℕ
+fieldPlace from w i = from + i * (3 + 4 * w)
+
+-- ---- writing
+
+-- the tag and the length
+abbrev pub header : (tag len : ℕ) → List ℕ
+header tag len = tag ∷ (len / 256) ∷ (len % 256) ∷ []
+
+unfoldable pub field : ℕ → List ℕ → List ℕ
+field tag payload = header tag (length payload) ++ payload
