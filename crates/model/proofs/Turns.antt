@@ -2,7 +2,7 @@
 use mathlib.Core.Path.{_≡_, refl, ap, ap₂, _∙_}
 use mathlib.Core.Bool.{Bool, true, not, _&&_, _||_}
 use mathlib.Core.List.{List}
-use Prim.Native.Nat.{ℕ, _+_, _*_, _<_}
+use Prim.Native.Nat.{ℕ, _+_, _-_, _*_, _<_, _≤_}
 use native.Mathlib.Numerals.{add-one}
 use native.Mathlib.Omega.{arith}
 use mir.Syntax.{w64}
@@ -10,13 +10,13 @@ use mir.Val.{SFits, toZ, ofZ}
 use mir.Facts.{toZ-ofZ}
 use lib.IntN.{ℤ, pos, negℤ, _-ℤ_}
 use lib.Signed.{leZ}
-use Rattle.integers.specs.Words.{word, eqZ}
+use Rattle.integers.specs.Words.{word, eqZ, within}
 use Rattle.integers.specs.Counted.{allBelow}
 use Rattle.integers.proofs.Signed.{abs-neg, fits64, as-signed, zero-minus}
 use Rattle.plant.specs.Box.{low, high}
 use Rattle.plant.specs.Model.{masked}
 use Rattle.model.specs.Switch.{singleBox}
-use Rattle.plant.specs.Questions.{boxOk, insideOk, zerosOk}
+use Rattle.plant.specs.Questions.{boxOk, insideOk, zerosOk, belowOk}
 
 all-none : (f : ℕ → Bool) → true ≡ allBelow 0 f
 unfolding allBelow
@@ -69,3 +69,7 @@ limit-fits k h = rw (neg-limit k h) (fits64 {z = negℤ (pos k)} (omega (arith, 
 
 pub limit-back : (k : ℕ) → k < 4294967296 → toZ w64 (ofZ w64 (pos 0 -ℤ toZ w64 k)) ≡ negℤ (pos k)
 limit-back k h = toZ-ofZ (limit-fits k h) ∙ neg-limit k h
+
+-- a word from 0 to k - 1
+pub below-top : (s : List ℤ) (at k : ℕ) {r : Bool} → k ≤ 1000 → r ≡ within (pos 0) (toZ w64 (k - 1)) (word s at) → r ≡ belowOk s at k
+below-top s at k h e = e ∙ ap (λ (z : ℤ). within (pos 0) z (word s at)) (as-signed (k - 1) (omega arith))

@@ -1,10 +1,9 @@
 // The questions of a model's words, and the reading of its records.
 ghost use mathlib.Core.Path.{_≡_};
-ghost use mathlib.Core.Bool.{cond, _&&_};
-ghost use Prim.Native.Nat.{ℕ, _+_, _*_, _≤_, _<_};
+ghost use mathlib.Core.Bool.{_&&_};
+ghost use Prim.Native.Nat.{_+_, _*_, _≤_, _<_};
 ghost use lib.Dec.{T};
 ghost use lib.ListN.{length};
-ghost use lib.IntN.{ℤ, pos};
 ghost use lib.Signed.{leZ, nonNeg};
 ghost use Rattle.integers.specs.Words as W;
 ghost use Rattle.plant.specs.Ask as S;
@@ -265,13 +264,9 @@ pub fn inside_ok(b: &[i32], c: &[i32], n: usize) -> bool
     while i < n {
         let lo = integers::word(b, 2 * i);
         let hi = integers::word(b, 2 * i + 1);
-        ok = ok
-            & range_ok(
-                lo,
-                hi,
-                integers::word(c, 2 * i),
-                integers::word(c, 2 * i + 1),
-            );
+        let least = integers::word(c, 2 * i);
+        let most = integers::word(c, 2 * i + 1);
+        ok = ok & range_ok(lo, hi, least, most);
         i = i + 1;
     }
     ok

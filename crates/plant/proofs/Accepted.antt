@@ -17,7 +17,7 @@ use Rattle.plant.specs.Questions.{modelQuestions}
 use Rattle.plant.specs.Tables.{tableSize, tableOk, faceOf, newFace, pass, tableAfter, touching}
 use Rattle.plant.specs.Calls.{unchanged, checkerQuestions, checkBy, checkCall}
 use Rattle.plant.specs.Demands.{Accepts, Touches, Repeats}
-use Rattle.plant.proofs.Asks.{ask-yes, ask-intro, asked, then-both, then-intro}
+use Rattle.plant.proofs.Asks.{ask-yes, ask-intro, ask-le, asked, then-both, then-intro, then-le}
 use Rattle.plant.proofs.Boxes.{FaceIn, face-eq, face-trans, face-antisym}
 use Rattle.plant.proofs.Passed.{Passed, passed}
 use Rattle.plant.proofs.Tables.{filled, Begins, ends, ends-in, in-ends, long-enough, face-read, table-ext, Valid, ok-valid, made-valid, made-ok}
@@ -27,15 +27,6 @@ use Rattle.plant.proofs.Forbidden.{touching-mono}
 use Rattle.plant.proofs.Sound.{Closed}
 
 -- ---- the number of a refusal
-
-pub ask-le : (b : Bool) (k : ℕ) → ask b k ≤ k
-ask-le true k = omega arith
-ask-le false k = omega arith
-
-pub then-le : (a b k : ℕ) → a ≤ k → b ≤ k → (a then b) ≤ k
-unfolding orElse
-then-le zero b k p q = q
-then-le (suc a) b k p q = p
 
 -- no refusal of the checker is 100
 checker-le : (q : ℕ) (long ok fixed clear : Bool) → q ≡ 0 → (q then ask long 20 then ask ok 32 then ask fixed 33 then ask clear 34) ≤ 34

@@ -16,13 +16,13 @@ use Rattle.plant.specs.Questions.{modelQuestions}
 use Rattle.plant.specs.Tables.{tableSize, tableAfter, touching, ceilingOf}
 use Rattle.plant.specs.Calls.{Analysed, answerReply, ceilingBy, ceilingCall, analysis, answerTable, analysisQuestions, answered, analyseBy, analyseCall}
 use Rattle.plant.specs.Demands.{Accepts, Acceptable, answers, Room, FirstDemand, Repeats, FirstIndex, SecondDemand, ThirdDemand}
-use Rattle.plant.proofs.Asks.{ask-intro, then-intro}
+use Rattle.plant.proofs.Asks.{ask-intro, ask-le, then-intro, then-le}
 use Rattle.plant.proofs.Passed.{passed}
 use Rattle.plant.proofs.Keeps.{after-valid}
 use Rattle.plant.proofs.Size.{size, size-le-ceiling, no-growth}
 use Rattle.plant.proofs.Sound.{met-touches}
 use Rattle.plant.proofs.Search.{first-index}
-use Rattle.plant.proofs.Accepted.{ask-le, then-le, Accepted, accepted, touches-refused, repeats-accepted}
+use Rattle.plant.proofs.Accepted.{Accepted, accepted, touches-refused, repeats-accepted}
 
 module _ (m : List ℤ) (asks : modelQuestions m ≡ 0) where
   -- ---- under a limit of at least the ceiling a table repeats

@@ -54,9 +54,9 @@ returns : tie.Need-returns
 unfolding Q.guardOk low high
 returns c =
     let w = c .before .before .before .before .source-wall in
-    let e = rw (got32 _ (c .before .before .before .same-arg .given), got32 (w .result) (w .ok)) at (c .before .before .same .ensures) in
-    let f = rw (got32 _ (c .before .same-arg2 .given), got32 (w .result) (w .ok)) at (c .same2 .ensures) in
-    cc
+    let e = rw (got32 (w .result) (w .ok), got32 _ (c .before .before .before .same-arg .given)) at (c .before .before .same .ensures) in
+    let f = rw (got32 (w .result) (w .ok), got32 _ (c .before .same-arg2 .given)) at (c .same2 .ensures) in
+    rw (e, f, w .ensures, c .before .before .before .before .before .guard .ensures, c .before .before .before .before .before .before .wall-variable .ensures)
 
 pub guard-ok-spec : {M : Type 1} → statement M
 guard-ok-spec =

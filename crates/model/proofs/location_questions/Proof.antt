@@ -4,6 +4,7 @@ use native.Mathlib.Omega.{arith}
 use lib.ListN.{length}
 use borrow.Author.Needs.{needs}
 use Rattle.plant.specs.Questions as Q
+use Rattle.plant.proofs.Asks.{both}
 use Rattle.model.proofs.Positions as at
 use Rattle.model.proofs.location_questions.Statement.{statement}
 use Rattle.model.proofs.location_questions.Tie as tie
@@ -47,7 +48,10 @@ or-else-requires-2 c κs = search needs
 
 returns : tie.Need-returns
 unfolding Q.locationQuestions
-returns c = cc
+returns c =
+    both (c .or-else2 .ensures) (rw (c .before .before .before .before .before .before .before .before .box-ok .ensures, c .before .before .before .before .before .before .before .before .before .invariant .ensures, c .before .before .before .before .before .before .before .before .before .before .variables .ensures) at (c .before .before .before .before .before .before .before .ask .ensures))
+    (both (c .before .or-else .ensures) (rw (c .before .before .before .before .before .box-ok2 .ensures, c .before .before .before .before .before .before .rate .ensures, c .before .before .before .before .before .before .before .before .before .before .variables .ensures) at (c .before .before .before .before .ask2 .ensures))
+    (rw (c .before .before .before .start-ok .ensures) at (c .before .before .ask3 .ensures)))
 
 pub location-questions-spec : {M : Type 1} → statement M
 location-questions-spec =

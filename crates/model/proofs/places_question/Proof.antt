@@ -9,6 +9,10 @@ use Rattle.model.proofs.Walls.{masks-small, masks-shift}
 use Rattle.model.proofs.places_question.Statement.{statement}
 use Rattle.model.proofs.places_question.Tie as tie
 
+-- a model has at most 6 variables
+small : (c : tie.After-variables) → c .variables .result ≤ 6
+small c = omega (arith, c .before .pre .0 .head, c .variables .ensures)
+
 variables-requires : tie.Need-variables-requires
 variables-requires c κs = search needs
 
@@ -35,10 +39,9 @@ shl-number-question c = search needs
 
 number-question-requires-6 : tie.Need-number-question-requires-6
 number-question-requires-6 c κs =
-    let n = c .before .before .before .before .before .before .variables .result in
-    let s = c .before .before .before .before .before .before .before in
-    let h : n ≤ 6 = omega (arith, s .pre .0 .head) in
-    (s .pre .0, s .pre .1, omega arith, omega (arith, masks-small n h), omega (arith, masks-small n h))
+    let s = c .before .before .before .before .before .before in
+    let n = s .variables .result in
+    (s .before .pre .0, s .before .pre .1, omega arith, omega (arith, masks-small n (small s)), omega (arith, masks-small n (small s)))
 
 or-else-requires : tie.Need-or-else-requires
 or-else-requires c κs = search needs
@@ -58,15 +61,12 @@ or-else-requires-5 c κs = search needs
 returns : tie.Need-returns
 unfolding Q.placesQuestion
 returns c =
-    let l = c .before .before .before .before .before .before .before .before .before .before .before .locations .ensures in
-    let v = c .before .before .before .before .before .before .before .before .before .before .before .before .variables in
-    let h : v .result ≤ 6 = omega (arith, c .before .before .before .before .before .before .before .before .before .before .before .before .before .pre .0 .head, v .ensures) in
-    both (c .or-else5 .ensures) (rw (add-zero, l) at (c .before .before .before .before .before .before .before .before .before .before .number-question .ensures))
-    (both (c .before .or-else4 .ensures) (rw l at (c .before .before .before .before .before .before .before .before .before .number-question2 .ensures))
-    (both (c .before .before .or-else3 .ensures) (rw (v .ensures) at (c .before .before .before .before .before .before .before .before .number-question3 .ensures))
+    both (c .or-else5 .ensures) (rw (add-zero, c .before .before .before .before .before .before .before .before .before .before .before .locations .ensures) at (c .before .before .before .before .before .before .before .before .before .before .number-question .ensures))
+    (both (c .before .or-else4 .ensures) (rw (c .before .before .before .before .before .before .before .before .before .before .before .locations .ensures) at (c .before .before .before .before .before .before .before .before .before .number-question2 .ensures))
+    (both (c .before .before .or-else3 .ensures) (rw (c .before .before .before .before .before .before .before .before .before .before .before .before .variables .ensures) at (c .before .before .before .before .before .before .before .before .number-question3 .ensures))
     (both (c .before .before .before .or-else2 .ensures) (c .before .before .before .before .before .before .before .number-question4 .ensures)
     (both (c .before .before .before .before .or-else .ensures) (c .before .before .before .before .before .before .number-question5 .ensures)
-    (rw (masks-shift (v .result) h, v .ensures) at (c .before .before .before .before .before .number-question6 .ensures))))))
+    (rw (masks-shift (c .before .before .before .before .before .before .before .before .before .before .before .before .variables .result) (small (c .before .before .before .before .before .before .before .before .before .before .before .before)), c .before .before .before .before .before .before .before .before .before .before .before .before .variables .ensures) at (c .before .before .before .before .before .number-question6 .ensures))))))
 
 pub places-question-spec : {M : Type 1} → statement M
 places-question-spec =

@@ -1,6 +1,7 @@
 -- Four words are there; the first answer that is not yes counts.
 use borrow.Author.Needs.{needs}
 use Rattle.plant.specs.Questions as Q
+use Rattle.plant.proofs.Asks.{both}
 use Rattle.model.proofs.ranges_questions.Statement.{statement}
 use Rattle.model.proofs.ranges_questions.Tie as tie
 
@@ -33,7 +34,10 @@ or-else-requires-2 c κs = search needs
 
 returns : tie.Need-returns
 unfolding Q.rangesQuestions
-returns c = cc
+returns c =
+    both (c .or-else2 .ensures) (rw (c .before .before .before .before .before .before .before .before .within .ensures) at (c .before .before .before .before .before .before .before .ask .ensures))
+    (both (c .before .or-else .ensures) (rw (c .before .before .before .before .before .before .within2 .ensures) at (c .before .before .before .before .before .ask2 .ensures))
+    (rw (c .before .before .before .before .within3 .ensures, c .before .before .before .within4 .ensures) at (c .before .before .ask3 .ensures)))
 
 pub ranges-questions-spec : {M : Type 1} → statement M
 ranges-questions-spec =

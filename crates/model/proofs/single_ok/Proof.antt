@@ -1,9 +1,10 @@
 -- The flag is the test of the variables passed: the invariant is the definition itself, at i.
 use mathlib.Core.Bool.{Bool, not, _||_}
 use mathlib.Core.Path.{ap₂, _≡_}
-use Prim.Native.Nat.{_≤_, _-_}
+use Prim.Native.Nat.{_*_, _≤_, _-_}
 use native.Mathlib.Omega.{arith}
 use borrow.Author.Needs.{needs}
+use Rattle.integers.specs.Words.{word}
 use Rattle.integers.proofs.Signed.{got32}
 use Rattle.model.specs.Switch.{singleBox}
 use Rattle.model.proofs.Turns.{single-none, single-more}
@@ -57,7 +58,7 @@ loop-again c =
     let s = c .before .before .before .before .before .before in
     let p = c .before .before .before .before .before .loop in
     let b = s .args .b .now in
-    let e = rw (got32 _ (c .before .before .before .same-arg .given), got32 _ (c .before .before .same-arg2 .given)) at (c .before .same .ensures) in
+    let e = rw (got32 (word b (2 * p .i)) (c .before .before .before .same-arg .given), got32 _ (c .before .before .same-arg2 .given)) at (c .before .same .ensures) in
     (omega arith, single-more (s .args .mask) b (p .i) (p .inv .1) (ap₂ (λ (x y : Bool). not x || y) (c .masked .ensures) e))
 
 returns : tie.Need-returns Inv-loop μ-loop

@@ -46,7 +46,7 @@ returns c =
     let g = c .before .before .before .before .before .before .start-flag in
     let e = rw (got32 (g .result) (g .ok)) at (c .before .before .before .before .same .ensures) in
     let f = rw (got32 (g .result) (g .ok)) at (c .before .before .same2 .ensures) in
-    cc
+    rw (e, f, c .before .before .before .zeros-ok .ensures, c .inside-ok .ensures, g .ensures, c .before .before .before .before .before .start-box .ensures, c .before .invariant .ensures, c .before .before .before .before .before .before .before .variables .ensures)
 
 pub start-ok-spec : {M : Type 1} → statement M
 start-ok-spec =

@@ -1,0 +1,10 @@
+pub mod Loops
+pub mod Faces
+pub mod PartWords
+pub mod Widths
+pub mod Search
+pub mod Joined
+pub mod Blocks
+pub mod Handing
+pub mod Reading
+pub mod Landing

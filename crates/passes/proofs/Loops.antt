@@ -1,0 +1,51 @@
+-- One turn of a loop over every number below k: tests that all hold, a search for one that holds, and a sum.
+use mathlib.Core.Path.{_≡_, refl, sym, ap₂}
+use mathlib.Core.Bool.{Bool, true, false, not, _&&_}
+use Prim.Native.Nat.{ℕ, zero, suc, _+_, _*_, _<_, _≤_}
+use native.Mathlib.Numerals.{add-one}
+use native.Mathlib.Omega.{arith}
+use Rattle.integers.specs.Counted.{allBelow, anyBelow, sumBelow}
+use Rattle.integers.proofs.Counted.{any-intro, is-true, true-is}
+
+-- a test that was negated
+pub not-yes : (t : Bool) → not t ≡ true → t ≡ false
+not-yes true e = sym e
+not-yes false e = refl
+
+pub not-no : (t : Bool) → not t ≡ false → t ≡ true
+not-no true e = refl
+not-no false e = sym e
+
+module _ (f : ℕ → Bool) where
+  pub all-none : true ≡ allBelow 0 f
+  unfolding allBelow
+  all-none = refl
+
+  pub all-more : (i : ℕ) {ok t : Bool} → ok ≡ allBelow i f → t ≡ f i → (ok && t) ≡ allBelow (i + 1) f
+  unfolding allBelow
+  all-more i e h = rw add-one (ap₂ (λ (a b : Bool). a && b) e h)
+
+  pub any-none : anyBelow 0 f ≡ false
+  unfolding anyBelow
+  any-none = refl
+
+  pub any-more : (i : ℕ) → anyBelow i f ≡ false → f i ≡ false → anyBelow (i + 1) f ≡ false
+  unfolding anyBelow
+  any-more i e h = rw (add-one, e, h) refl
+
+  pub any-found : (i k : ℕ) → i < k → f i ≡ true → anyBelow k f ≡ true
+  any-found i k l e = is-true (any-intro k f i l (true-is e))
+
+module _ (f : ℕ → ℕ) where
+  pub sum-none : sumBelow 0 f ≡ 0
+  unfolding sumBelow
+  sum-none = refl
+
+  pub sum-more : (i : ℕ) → sumBelow (i + 1) f ≡ sumBelow i f + f i
+  unfolding sumBelow
+  sum-more i = rw add-one refl
+
+  pub sum-small : (k most : ℕ) → ((i : ℕ) → i < k → f i ≤ most) → sumBelow k f ≤ k * most
+  unfolding sumBelow
+  sum-small zero most h = omega arith
+  sum-small (suc k) most h = omega (arith, sum-small k most (λ i l. h i (omega arith)), h k (omega arith))

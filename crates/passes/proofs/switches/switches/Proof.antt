@@ -1,0 +1,82 @@
+-- After e turns each face is joined with its wall steps and the steps of the switches below e.
+use lib.ListN.{length}
+use Rattle.plant.proofs.Tables.{table-length}
+use mathlib.Core.Path.{_≡_, ap, _∙_}
+use native.Mathlib.Omega.{arith}
+use Prim.Native.Nat.{ℕ, _-_, _≤_}
+use Rattle.plant.specs.Model.{E#}
+use Rattle.plant.specs.Tables.{tableBy, wallsJoined}
+use Rattle.model.specs.Whole.{Whole}
+use Rattle.passes.proofs.Reading.{whole, table-filled}
+use Rattle.passes.proofs.Landing.{joinedBelow, switches-none, switches-all, switches-more, is-table}
+use Rattle.passes.proofs.switches.switches.Statement.{statement}
+use Rattle.passes.proofs.switches.switches.Tie as tie
+
+abbrev Inv-loop : tie.InvT-loop
+Inv-loop model table out₀ count e₀ out e = (e ≤ E# model) × (out ≡ tableBy model (joinedBelow model table e))
+
+abbrev μ-loop : tie.MeasureT-loop
+μ-loop model table out₀ count e₀ out e = count - e
+
+whole-at : (c : tie.Start Inv-loop μ-loop) → Whole (c .args .model .now)
+whole-at c = whole (c .args .model .now) (c .args .table .now) (c .pre .0)
+
+switches-requires : tie.Need-switches-requires Inv-loop μ-loop
+switches-requires c κs = whole (c .args .model .now) (c .args .table .now) (c .pre .0) .head
+
+loop-holds : tie.Need-loop-holds Inv-loop μ-loop
+loop-holds c = let s = c .before in let m = s .args .model .now in let t = s .args .table .now in (omega arith, s .pre .1 ∙ switches-none m t)
+
+land-requires : tie.Need-land-requires Inv-loop μ-loop
+land-requires c κs =
+    let s = c .before .before .before .before in
+    let m = s .args .model .now in
+    let t = s .args .table .now in
+    let ok = s .pre .0 in
+    (ok, omega arith, is-table m t (table-filled m t ok) (joinedBelow m t (c .before .before .loop .e)) (c .before .before .loop .inv .1))
+
+add-e : tie.Need-add-e Inv-loop μ-loop
+add-e c = omega (arith, whole-at (c .before .before .before .before .before .before) .head .E-small)
+
+loop-less : tie.Need-loop-less Inv-loop μ-loop
+loop-less c = omega arith
+
+loop-again : tie.Need-loop-again Inv-loop μ-loop
+loop-again c =
+    let s = c .before .before .before .before .before .before in
+    let m = s .args .model .now in
+    let t = s .args .table .now in
+    let ok = s .pre .0 in
+    (omega arith, c .before .land .ensures ∙ switches-more m t (table-filled m t ok) (c .before .before .before .before .loop .e) (c .before .before .before .before .loop .inv .1))
+
+same-length : tie.Need-same-length Inv-loop μ-loop
+same-length c =
+    let s = c .before .before .before in
+    let m = s .args .model .now in
+    let t = s .args .table .now in
+    let ok = s .pre .0 in
+    let full = table-filled m t ok in
+    omega (arith, ap length (c .before .loop .inv .1), table-length m full (joinedBelow m t (c .before .loop .e)), ap length (s .pre .1), table-length m full (wallsJoined m t))
+
+returns : tie.Need-returns Inv-loop μ-loop
+returns c =
+    let s = c .before .before .before in
+    let m = s .args .model .now in
+    let t = s .args .table .now in
+    let e : c .before .loop .e ≡ E# m = omega (arith, c .before .before .switches .ensures) in
+    c .before .loop .inv .1 ∙ ap (λ (k : ℕ). tableBy m (joinedBelow m t k)) e ∙ switches-all m t
+
+pub switches-spec : {M : Type 1} → statement M
+switches-spec =
+    tie.close
+    (tie.spec
+    Inv-loop
+    μ-loop
+    switches-requires
+    loop-holds
+    land-requires
+    add-e
+    loop-less
+    loop-again
+    same-length
+    returns)

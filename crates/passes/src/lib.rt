@@ -1,0 +1,21 @@
+// What is asked of a table, and what passes over it come to (document 01, "Pass, ceiling", "Checker" and "Analysis").
+ghost use mathlib.Core.Path.{_≡_};
+ghost use lib.ListN.{length};
+ghost use Rattle.plant.specs.Tables as T;
+ghost use Rattle.passes.specs.Checked.{Checked};
+
+pub mod ceiling;
+pub mod parts;
+mod switches;
+pub mod touch;
+pub mod valid;
+mod walls;
+
+// A pass: writes to `out` the table after it, each face joined with every wall step and every switch step from `table`.
+pub fn pass<'a>(model: &'a [i32], table: &'a [i32], out: &mut [i32])
+    requires { ⌜ Checked (now model) (now table) × (length (now out) ≡ T.tableSize (now model)) ⌝ }
+    ensures { λ _. ⌜ now (out .exit) ≡ T.pass (now (model .entry)) (now (table .entry)) ⌝ }
+{
+    walls::walls(model, table, out);
+    switches::switches(model, table, out);
+}

@@ -1,0 +1,97 @@
+// The words of a table: faces, each a flag and a box (document 01, "Pass, ceiling").
+ghost use mathlib.Core.Path.{_≡_};
+ghost use Prim.Native.Nat.{_+_, _*_, _≤_};
+ghost use lib.IntN.{pos};
+ghost use lib.ListN.{length, take, drop};
+ghost use Rattle.integers.specs.Rounding.{maxZ, minZ};
+ghost use Rattle.integers.specs.Words.{word};
+ghost use Rattle.plant.specs.Box as B;
+ghost use Rattle.plant.specs.Box.{hull, boxAt, present, faceWords};
+ghost use Rattle.plant.specs.Tables.{wordsPerLocation, faceSize, faceRead};
+ghost use Rattle.tables.specs.Room.{Joinable};
+
+// Words per location, of 1 to 6 variables.
+const SIZES: [usize; 6] = [6, 20, 42, 72, 110, 156];
+
+pub fn words_per_location(n: usize) -> usize
+    requires { ⌜ (1 ≤ n) × (n ≤ 6) ⌝ }
+    ensures { λ r. ⌜ r ≡ wordsPerLocation n ⌝ }
+{
+    SIZES[n - 1]
+}
+
+// Where face f of location l begins.
+pub fn face_at(n: usize, l: usize, f: usize) -> usize
+    requires { ⌜ (1 ≤ n) × (n ≤ 6) × (l ≤ 64) × (f ≤ 12) ⌝ }
+    ensures { λ r. ⌜ r ≡ l * wordsPerLocation n + f * faceSize n ⌝ }
+{
+    l * words_per_location(n) + f * (1 + 2 * n)
+}
+
+// The words of the face that begins at a place.
+pub fn face(words: &[i32], at: usize, n: usize) -> &[i32]
+    requires { ⌜ at + faceSize n ≤ length (now words) ⌝ }
+    ensures { λ r. ⌜ now r ≡ take (faceSize n) (drop at (now (words .entry))) ⌝ }
+{
+    let end = at + (1 + 2 * n);
+    &words[at..end]
+}
+
+// ---- joins
+
+fn lower(x: i32, y: i32) -> i32
+    ensures { λ r. ⌜ r ≡ minZ x y ⌝ }
+{
+    if x < y { x } else { y }
+}
+
+fn upper(x: i32, y: i32) -> i32
+    ensures { λ r. ⌜ r ≡ maxZ x y ⌝ }
+{
+    if x < y { y } else { x }
+}
+
+// The face becomes the box.
+fn place(n: usize, from: &[i32], face: &mut [i32])
+    requires { ⌜ Joinable n (now from) (now face) ⌝ }
+    ensures { λ _. ⌜ now (face .exit) ≡ faceWords n (present (now (from .entry))) ⌝ }
+{
+    let end = 2 * n;
+    face[0] = 1;
+    let mut i: usize = 0;
+    while i < end {
+        let j = i + 1;
+        face[j] = from[i];
+        i = j;
+    }
+}
+
+// A present face is widened to the smallest box holding both.
+fn widen(n: usize, from: &[i32], face: &mut [i32])
+    requires { ⌜ Joinable n (now from) (now face) × (word (now face) 0 ≡ pos 1) ⌝ }
+    ensures { λ _. ⌜ now (face .exit) ≡ faceWords n (present (hull n (boxAt n (now (face .entry)) 1) (now (from .entry)))) ⌝ }
+{
+    let mut i: usize = 0;
+    while i < n {
+        let k = 2 * i;
+        let l = k + 1;
+        let h = k + 2;
+        let low = lower(face[l], from[k]);
+        let high = upper(face[h], from[l]);
+        face[l] = low;
+        face[h] = high;
+        i = i + 1;
+    }
+}
+
+// Joins a box to a face: the smallest box holding both.
+pub fn join(n: usize, from: &[i32], face: &mut [i32])
+    requires { ⌜ Joinable n (now from) (now face) ⌝ }
+    ensures { λ _. ⌜ now (face .exit) ≡ faceWords n (B.join n (faceRead n (now (face .entry)) 0) (present (now (from .entry)))) ⌝ }
+{
+    if integers::same(face[0], 1) {
+        widen(n, from, face);
+    } else {
+        place(n, from, face);
+    }
+}
