@@ -1,0 +1,154 @@
+-- The calls by cases: the number or the answer that the definition gives in each branch of the code.
+use mathlib.Core.Path.{_≡_, refl, sym, ap, ap₂, _∙_}
+use mathlib.Core.Bool.{Bool, true, false}
+use mathlib.Core.List.{List, _++_}
+use Prim.Native.Nat.{ℕ, zero, suc, _<_, _≤_}
+use native.Mathlib.Omega.{arith}
+use lib.Dec.{leb, le→leb}
+use lib.IntN.{ℤ, pos}
+use lib.ListN.{length, drop, replicate}
+use lib.Seq.{take-all}
+use borrow.Author.Tests.{lt-leb}
+use Rattle.integers.specs.Words.{same, onto}
+use Rattle.plant.specs.declared.Answer.{Answer}
+use Rattle.plant.specs.Ask.{ask, orElse, _then_}
+use Rattle.plant.specs.Questions.{modelQuestions}
+use Rattle.plant.specs.Tables.{tableSize, tableOk, pass, touching, ceilingOf}
+use Rattle.plant.specs.Calls.{Reply, refused, answerReply, ceilingBy, ceilingCall, unchanged, checkerQuestions, checkBy, checkCall, analysis, answerTable, passesOf, analysisQuestions, Analysed, answered, analyseBy, analyseCall}
+use Rattle.plant.proofs.Asks.{go, halt, ask-intro, then-intro}
+use Rattle.plant.proofs.Passed.{passed}
+use Rattle.plant.proofs.Keeps.{after-length}
+use Rattle.analysis.specs.Questions.{tableQuestions}
+use Rattle.analysis.proofs.Front.{front, questions-front}
+
+-- ---- the ceiling
+
+module _ (m : List ℤ) where
+  by-refused : (q : ℕ) → (q ≡ 0 → ⊥) → refused q ≡ ceilingBy m q
+  by-refused zero n = absurd (n refl)
+  by-refused (suc q) n = refl
+
+  pub ceiling-refused : (q : ℕ) → q ≡ modelQuestions m → (q ≡ 0 → ⊥) → refused q ≡ ceilingCall m
+  unfolding ceilingCall
+  ceiling-refused q e n = by-refused q n ∙ ap (ceilingBy m) e
+
+  pub ceiling-passes : (k : ℕ) → modelQuestions m ≡ 0 → k ≡ ceilingOf m → _≡_ {A = Reply} (record { code = 100; value = k }) (ceilingCall m)
+  unfolding ceilingCall
+  ceiling-passes k e f = ap (λ (x : ℕ). record { code = 100; value = x }) f ∙ ap (ceilingBy m) (sym e)
+
+-- ---- 20 and 21: a list that is long enough, or not
+
+long : (m t : List ℤ) (k : ℕ) → tableSize m ≤ length t → ask (leb (tableSize m) (length t)) k ≡ 0
+long m t k h = ask-intro (leb (tableSize m) (length t)) k (le→leb (tableSize m) (length t) h)
+
+short : (m t : List ℤ) (k : ℕ) → length t < tableSize m → k ≡ ask (leb (tableSize m) (length t)) k
+short m t k h = ap (λ (b : Bool). ask b k) (sym (lt-leb _ _ h))
+
+-- ---- the questions of a table's words
+
+module _ (m t : List ℤ) (size : length t ≡ tableSize m) where
+  -- all of the words are the table
+  unchanged-is : unchanged m t ≡ same (pass m t) t
+  unfolding unchanged
+  unchanged-is = ap (same (pass m t)) (take-all (tableSize m) t (omega arith))
+
+  pub not-valid : tableOk m t ≡ false → 32 ≡ tableQuestions m t
+  unfolding tableQuestions orElse
+  not-valid h = simp h
+
+  module _ (valid : tableOk m t ≡ true) where
+    pub changes : same (pass m t) t ≡ false → 33 ≡ tableQuestions m t
+    unfolding tableQuestions orElse
+    changes h = simp (valid, unchanged-is, h)
+
+    module _ (fixed : same (pass m t) t ≡ true) where
+      pub touches : touching m t ≡ true → 34 ≡ tableQuestions m t
+      unfolding tableQuestions orElse
+      touches h = simp (valid, unchanged-is, fixed, h)
+
+      pub all-three : touching m t ≡ false → 0 ≡ tableQuestions m t
+      unfolding tableQuestions orElse
+      all-three h = simp (valid, unchanged-is, fixed, h)
+
+-- ---- the checker
+
+module _ (m t : List ℤ) where
+  refused-by : (q : ℕ) → (q ≡ 0 → ⊥) → refused q ≡ checkBy q
+  refused-by zero n = absurd (n refl)
+  refused-by (suc q) n = refl
+
+  -- a number that the chain of questions comes to
+  check-number : (q : ℕ) → q ≡ checkerQuestions m t → (q ≡ 0 → ⊥) → refused q ≡ checkCall m t
+  unfolding checkCall
+  check-number q e n = refused-by q n ∙ ap checkBy e
+
+  pub check-model : (q : ℕ) → q ≡ modelQuestions m → (q ≡ 0 → ⊥) → refused q ≡ checkCall m t
+  unfolding checkerQuestions
+  check-model q e n = check-number q (halt _ e n) n
+
+  module _ (asks : modelQuestions m ≡ 0) where
+    pub check-short : length t < tableSize m → refused 20 ≡ checkCall m t
+    unfolding checkerQuestions
+    check-short h = check-number 20 (go refl asks (halt _ (short m t 20 h) (λ e. omega arith))) (λ e. omega arith)
+
+    module _ (room : tableSize m ≤ length t) (q : ℕ) (e : q ≡ tableQuestions m (front m t)) where
+      chain : q ≡ checkerQuestions m t
+      unfolding checkerQuestions tableQuestions
+      chain = go refl asks (go refl (long m t 20 room) (e ∙ questions-front m (passed m asks) t))
+
+      pub check-table : (q ≡ 0 → ⊥) → refused q ≡ checkCall m t
+      check-table n = check-number q chain n
+
+      pub check-accepted : q ≡ 0 → _≡_ {A = Reply} (record { code = 100; value = 0 }) (checkCall m t)
+      unfolding checkCall
+      check-accepted z = ap checkBy (sym z ∙ chain)
+
+-- ---- the analysis
+
+module _ (m : List ℤ) (limit : ℕ) (table work : List ℤ) where
+  -- the reply of a refusal, with nothing changed
+  abbrev unmoved : ℕ → Analysed
+  unmoved q = record { reply = refused q; table = table; work = work }
+
+  unmoved-by : (q : ℕ) → (q ≡ 0 → ⊥) → unmoved q ≡ analyseBy q m limit table work
+  unmoved-by zero n = absurd (n refl)
+  unmoved-by (suc q) n = refl
+
+  analyse-number : (q : ℕ) → q ≡ analysisQuestions m table work → (q ≡ 0 → ⊥) → unmoved q ≡ analyseCall m limit table work
+  unfolding analyseCall
+  analyse-number q e n = unmoved-by q n ∙ ap (λ (x : ℕ). analyseBy x m limit table work) e
+
+  pub analyse-model : (q : ℕ) → q ≡ modelQuestions m → (q ≡ 0 → ⊥) → unmoved q ≡ analyseCall m limit table work
+  unfolding analysisQuestions
+  analyse-model q e n = analyse-number q (halt _ e n) n
+
+  module _ (asks : modelQuestions m ≡ 0) where
+    pub analyse-short-table : length table < tableSize m → unmoved 20 ≡ analyseCall m limit table work
+    unfolding analysisQuestions
+    analyse-short-table h = analyse-number 20 (go refl asks (halt _ (short m table 20 h) (λ e. omega arith))) (λ e. omega arith)
+
+    module _ (room : tableSize m ≤ length table) where
+      pub analyse-short-work : length work < tableSize m → unmoved 21 ≡ analyseCall m limit table work
+      unfolding analysisQuestions
+      analyse-short-work h = analyse-number 21 (go refl asks (go refl (long m table 20 room) (short m work 21 h))) (λ e. omega arith)
+
+      -- an answer a that leaves t at the front of the table buffer and w in the work buffer
+      module _ (work-room : tableSize m ≤ length work) (a : Answer) (is-analysis : a ≡ analysis m limit) (t : List ℤ) (is-table : t ≡ answerTable m a) (size : ℕ) (is-size : size ≡ tableSize m) (w : List ℤ) (is-clear : w ≡ replicate (length work) (pos 0)) where
+        all-yes : 0 ≡ analysisQuestions m table work
+        unfolding analysisQuestions
+        all-yes = sym (then-intro asks (then-intro (long m table 20 room) (long m work 21 work-room)))
+
+        length-is : size ≡ length (answerTable m a)
+        unfolding answerTable
+        length-is = is-size ∙ sym (after-length m (passed m asks) (passesOf a))
+
+        begins : t ++ drop size table ≡ onto (answerTable m a) table
+        unfolding onto
+        begins = ap₂ (λ (x : List ℤ) (k : ℕ). x ++ drop k table) is-table length-is
+
+        pub analyse-answered : _≡_ {A = Analysed} (record { reply = answerReply a; table = t ++ drop size table; work = w }) (analyseCall m limit table work)
+        unfolding analyseCall
+        analyse-answered =
+            ap₂ (λ (x y : List ℤ). record { reply = answerReply a; table = x; work = y }) begins is-clear
+            ∙ ap (λ (x : Answer). answered m x table work) is-analysis
+            ∙ ap (λ (x : ℕ). analyseBy x m limit table work) all-yes

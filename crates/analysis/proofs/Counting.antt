@@ -1,0 +1,124 @@
+-- The counted passes: what holds at each turn, and what the definition answers where the turn ends the search.
+use mathlib.Core.Path.{_≡_, refl, sym, ap, ap₂, _∙_}
+use mathlib.Core.Bool.{true, false}
+use mathlib.Core.List.{List, _++_}
+use Prim.Native.Nat.{ℕ, zero, suc, _+_, _*_, _-_, _<_, _≤_}
+use native.Mathlib.Nat.{zero-mul, suc-mul}
+use native.Mathlib.Numerals.{add-one}
+use native.Mathlib.Omega.{arith}
+use lib.IntN.{ℤ, pos}
+use lib.ListN.{length, replicate, replicate-append-replicate}
+use Rattle.integers.specs.Words.{same}
+use Rattle.integers.specs.Counted.{cat}
+use Rattle.integers.proofs.Counted.{is-true}
+use Rattle.plant.specs.declared.Answer.{Answer}
+use Rattle.plant.specs.declared.Answer.the-variants.{Safe, Unknown, Unfinished}
+use Rattle.plant.specs.Box.{absent, faceWords}
+use Rattle.plant.specs.Model.{n#, L#}
+use Rattle.plant.specs.Tables.{wordsPerLocation, faceSize, tableSize, tableBy, tableOk, pass, tableAfter, touching}
+use Rattle.plant.specs.Calls.{search, analysis, answerTable}
+use Rattle.plant.proofs.Passed.{Passed}
+use Rattle.plant.proofs.Tables.{Filled, filled, made-ok}
+use Rattle.plant.proofs.Keeps.{facesAfter, faces-ok, after-length, after-begins, after-pass}
+
+-- ---- table 0 is all zero words
+
+cat-zeros : (k w : ℕ) (g : ℕ → List ℤ) → ((i : ℕ) → g i ≡ replicate w (pos 0)) → cat k g ≡ replicate (k * w) (pos 0)
+unfolding cat
+cat-zeros zero w g h = rw zero-mul refl
+cat-zeros (suc k) w g h = ap₂ (λ (a b : List ℤ). a ++ b) (cat-zeros k w g h) (h k) ∙ replicate-append-replicate (k * w) w (pos 0) ∙ ap (λ (x : ℕ). replicate x (pos 0)) (sym (suc-mul k w))
+
+zeros-first : (m : List ℤ) → Filled m → replicate (tableSize m) (pos 0) ≡ tableAfter m 0
+unfolding tableAfter tableBy tableSize faceWords
+zeros-first m full =
+    sym (cat-zeros (L# m) (wordsPerLocation (n# m)) (λ l. cat (2 * n# m) (λ f. faceWords (n# m) absent))
+    (λ l. cat-zeros (2 * n# m) (faceSize (n# m)) (λ f. faceWords (n# m) absent) (λ f. refl) ∙ ap (λ (x : ℕ). replicate x (pos 0)) (sym full)))
+
+-- ---- each table k passes 32
+
+after-ok : (m : List ℤ) → Passed m → (k : ℕ) → tableOk m (tableAfter m k) ≡ true
+after-ok m ok k = is-true (made-ok m (filled m ok) (tableAfter m k) (facesAfter m k) (after-begins m ok k) (faces-ok m ok k))
+
+-- ---- the answer at table k
+
+module _ (m : List ℤ) (k : ℕ) where
+  at-unknown : (left : ℕ) → touching m (tableAfter m k) ≡ true → search m left k ≡ Unknown k
+  unfolding search
+  at-unknown zero h = rw h refl
+  at-unknown (suc left) h = rw h refl
+
+  module _ (clear : touching m (tableAfter m k) ≡ false) where
+    at-safe : (left : ℕ) → same (tableAfter m (suc k)) (tableAfter m k) ≡ true → search m left k ≡ Safe k
+    unfolding search
+    at-safe zero e = simp (clear, e)
+    at-safe (suc left) e = simp (clear, e)
+
+    module _ (changes : same (tableAfter m (suc k)) (tableAfter m k) ≡ false) where
+      at-limit : search m 0 k ≡ Unfinished k
+      unfolding search
+      at-limit = simp (clear, changes)
+
+      at-more : (left : ℕ) → search m (suc left) k ≡ search m left (suc k)
+      unfolding search
+      at-more left = simp (clear, changes)
+
+-- ---- a turn
+
+-- before turn k: the table is table k, and the answer is what the search gives from here
+pub record Going (m : List ℤ) (limit : ℕ) (table work : List ℤ) (k : ℕ) : Type 0 where
+  pub k-within : k ≤ limit
+  pub goes-on : analysis m limit ≡ search m (limit - k) k
+  pub table-is : table ≡ tableAfter m k
+  pub work-size : length work ≡ tableSize m
+
+pub going-first : (m : List ℤ) → Passed m → (limit : ℕ) (table work : List ℤ) → length table ≡ tableSize m → length work ≡ tableSize m → Going m limit (replicate (length table) (pos 0)) work 0
+unfolding analysis
+going-first m ok limit table work e f = record {
+  k-within = omega arith;
+  goes-on = ap (λ (left : ℕ). search m left 0) (omega arith);
+  table-is = ap (λ (x : ℕ). replicate x (pos 0)) e ∙ zeros-first m (filled m ok);
+  work-size = f;
+}
+
+-- an answer, and the table that is left
+abbrev Answers : List ℤ → ℕ → List ℤ → Answer → Type 0
+Answers m limit table a = (a ≡ analysis m limit) × (table ≡ answerTable m a)
+
+module _ (m : List ℤ) (limit : ℕ) (table work : List ℤ) (k : ℕ) (g : Going m limit table work k) where
+  pub going-length : Passed m → length table ≡ tableSize m
+  going-length ok = ap length (g .table-is) ∙ after-length m ok k
+
+  pub going-ok : Passed m → tableOk m table ≡ true
+  going-ok ok = rw (g .table-is) (after-ok m ok k)
+
+  pub going-unknown : touching m table ≡ true → Answers m limit table (Unknown k)
+  unfolding answerTable
+  going-unknown h = (sym (g .goes-on ∙ at-unknown m k (limit - k) (ap (touching m) (sym (g .table-is)) ∙ h)), g .table-is)
+
+  module _ (clear : touching m table ≡ false) where
+    clear-is : touching m (tableAfter m k) ≡ false
+    clear-is = ap (touching m) (sym (g .table-is)) ∙ clear
+
+    same-is : same (tableAfter m (suc k)) (tableAfter m k) ≡ same (pass m table) table
+    same-is = ap (λ (t : List ℤ). same t (tableAfter m k)) (sym (after-pass m k)) ∙ ap (λ (t : List ℤ). same (pass m t) t) (sym (g .table-is))
+
+    pub going-safe : same (pass m table) table ≡ true → Answers m limit table (Safe k)
+    unfolding answerTable
+    going-safe e = (sym (g .goes-on ∙ at-safe m k clear-is (limit - k) (same-is ∙ e)), g .table-is)
+
+    module _ (changes : same (pass m table) table ≡ false) where
+      pub going-limit : k ≡ limit → Answers m limit table (Unfinished k)
+      unfolding answerTable
+      going-limit e =
+          let z : limit - k ≡ 0 = omega arith in
+          (sym (g .goes-on ∙ ap (λ (left : ℕ). search m left k) z ∙ at-limit m k clear-is (same-is ∙ changes)), g .table-is)
+
+      pub going-more : k < limit → (after : List ℤ) → length after ≡ tableSize m → Going m limit (pass m table) after (k + 1)
+      going-more l after e =
+          let s : limit - k ≡ suc (limit - (k + 1)) = omega arith in
+          record {
+            k-within = omega arith;
+            goes-on = g .goes-on ∙ ap (λ (left : ℕ). search m left k) s ∙ at-more m k clear-is (same-is ∙ changes) (limit - (k + 1)) ∙ ap (search m (limit - (k + 1))) (sym (add-one k));
+            table-is = ap (pass m) (g .table-is) ∙ after-pass m k ∙ ap (tableAfter m) (sym (add-one k));
+            work-size = e;
+          }

@@ -1,0 +1,4 @@
+pub mod Sizes
+pub mod Front
+pub mod Counting
+pub mod Calls

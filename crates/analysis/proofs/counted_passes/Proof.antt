@@ -1,0 +1,143 @@
+-- Before each turn the table is table k, and the answer is the one that the search gives from there on (`Going`).
+use mathlib.Core.Path.{_≡_, sym, _∙_, subst}
+use mathlib.Core.Bool.{true, false}
+use mathlib.Core.List.{List}
+use Prim.Native.Nat.{_+_, _-_, _<_}
+use native.Mathlib.Omega.{arith}
+use lib.IntN.{ℤ}
+use lib.ListN.{length}
+use Rattle.plant.specs.Tables.{tableSize, tableOk, touching}
+use Rattle.plant.proofs.Passed.{Passed, passed}
+use Rattle.analysis.proofs.Counting.{Going, going-first, going-length, going-ok, going-unknown, going-safe, going-limit, going-more}
+use Rattle.analysis.proofs.counted_passes.Statement.{statement}
+use Rattle.analysis.proofs.counted_passes.Tie as tie
+
+abbrev Inv-loop : tie.InvT-loop
+Inv-loop model limit table₀ work₀ k₀ table work k = Going model limit table work k
+
+abbrev μ-loop : tie.MeasureT-loop
+μ-loop model limit table₀ work₀ k₀ table work k = limit - k
+
+-- ---- at the head of a turn
+
+abbrev Head : Type 0
+Head = tie.At-loop Inv-loop μ-loop
+
+ok : (h : Head) → Passed (h .before .before .before .before .args .model .now)
+ok h = passed (h .before .before .before .before .args .model .now) (h .before .before .before .before .pre .0 .passes)
+
+table-size : (h : Head) → length (h .loop .table) ≡ tableSize (h .before .before .before .before .args .model .now)
+table-size h = going-length _ _ _ _ _ (h .loop .inv) (ok h)
+
+valid : (h : Head) → tableOk (h .before .before .before .before .args .model .now) (h .loop .table) ≡ true
+valid h = going-ok _ _ _ _ _ (h .loop .inv) (ok h)
+
+-- both buffers keep the length that they had
+table-kept : (h : Head) → length (h .loop .table) ≡ length (h .before .before .before .before .args .table .now)
+table-kept h = table-size h ∙ sym (h .before .before .before .before .pre .0 .size)
+
+work-kept : (h : Head) → length (h .loop .work) ≡ length (h .before .before .before .before .args .work .now)
+work-kept h = h .loop .inv .work-size ∙ sym (h .before .before .before .before .pre .1 .size)
+
+-- ---- after the pass
+
+abbrev Made : Type 0
+Made = tie.After-fixpoint Inv-loop μ-loop
+
+untouched : (q : Made) → touching (q .before .before .before .before .before .before .before .before .before .before .args .model .now) (q .before .before .before .before .before .before .loop .table) ≡ false
+untouched q = sym (q .before .before .before .before .touching .ensures) ∙ q .before .before .before .if1 .left
+
+made-kept : (q : Made) → length (q .fixpoint .last .1 .1 .0) ≡ length (q .before .before .before .before .before .before .before .before .before .before .args .work .now)
+made-kept q = q .fixpoint .kept .1 .1 .0 ∙ work-kept (q .before .before .before .before .before .before)
+
+-- ---- the turns
+
+clear-requires : tie.Need-clear-requires Inv-loop μ-loop
+clear-requires c κs = tt
+
+loop-holds : tie.Need-loop-holds Inv-loop μ-loop
+loop-holds c =
+    let a = c .before .before .before .args in
+    let p = c .before .before .before .pre in
+    subst (λ (t : List ℤ). Going (a .model .now) (a .limit) t (a .work .now) 0) (sym (c .before .clear .ensures))
+    (going-first (a .model .now) (passed (a .model .now) (p .0 .passes)) (a .limit) (a .table .now) (a .work .now) (p .0 .size) (p .1 .size))
+
+touching-requires : tie.Need-touching-requires Inv-loop μ-loop
+touching-requires c κs =
+    let n = table-size (c .before) in
+    (record { passes = c .before .before .before .before .before .pre .0 .passes; room = omega (arith, n) }, valid (c .before))
+
+same-length : tie.Need-same-length Inv-loop μ-loop
+same-length c = table-kept (c .before .before .before)
+
+same-length-2 : tie.Need-same-length-2 Inv-loop μ-loop
+same-length-2 c = work-kept (c .before .before .before)
+
+returns : tie.Need-returns Inv-loop μ-loop
+returns c = going-unknown _ _ _ _ _ (c .before .before .before .loop .inv) (sym (c .before .touching .ensures) ∙ c .if1 .taken)
+
+fixpoint-requires : tie.Need-fixpoint-requires Inv-loop μ-loop
+fixpoint-requires c κs =
+    let p = c .before .before .before .before .before .before .before .before .before .pre .0 .passes in
+    (record { passes = p; size = table-size (c .before .before .before .before .before) }, valid (c .before .before .before .before .before), record { passes = p; size = c .before .before .before .before .before .loop .inv .work-size })
+
+same-length-3 : tie.Need-same-length-3 Inv-loop μ-loop
+same-length-3 c = table-kept (c .before .before .before .before .before .before .before .before)
+
+same-length-4 : tie.Need-same-length-4 Inv-loop μ-loop
+same-length-4 c = made-kept (c .before .before)
+
+returns-2 : tie.Need-returns-2 Inv-loop μ-loop
+returns-2 c = going-safe _ _ _ _ _ (c .before .before .before .before .before .before .before .before .loop .inv) (untouched (c .before .before)) (sym (c .before .before .fixpoint .ensures .0) ∙ c .if2 .taken)
+
+same-length-5 : tie.Need-same-length-5 Inv-loop μ-loop
+same-length-5 c = table-kept (c .before .before .before .before .before .before .before .before .before)
+
+same-length-6 : tie.Need-same-length-6 Inv-loop μ-loop
+same-length-6 c = made-kept (c .before .before .before)
+
+returns-3 : tie.Need-returns-3 Inv-loop μ-loop
+returns-3 c = going-limit _ _ _ _ _ (c .before .before .before .before .before .before .before .before .before .loop .inv) (untouched (c .before .before .before)) (sym (c .before .before .before .fixpoint .ensures .0) ∙ c .before .if2 .left) (c .if3 .taken)
+
+copy-requires : tie.Need-copy-requires Inv-loop μ-loop
+copy-requires c κs = made-kept (c .before .before .before .before .before) ∙ c .before .before .before .before .before .before .before .before .before .before .before .before .before .before .before .pre .1 .size ∙ sym (c .before .before .before .before .before .before .before .before .before .before .before .before .before .before .before .pre .0 .size) ∙ sym (table-kept (c .before .before .before .before .before .before .before .before .before .before .before))
+
+below-limit : (c : tie.After-copy-arg2 Inv-loop μ-loop) → c .before .before .before .before .before .before .before .before .before .before .before .loop .k < c .before .before .before .before .before .before .before .before .before .before .before .before .before .before .before .args .limit
+below-limit c = omega (arith, c .before .before .before .before .before .before .before .before .before .before .before .loop .inv .k-within, c .before .before .if3 .left)
+
+add-k : tie.Need-add-k Inv-loop μ-loop
+add-k c = omega (arith, below-limit (c .before .before), c .before .before .before .before .before .before .before .before .before .before .before .before .before .before .before .before .before .fits .limit)
+
+loop-less : tie.Need-loop-less Inv-loop μ-loop
+loop-less c = omega (arith, below-limit (c .before .before))
+
+loop-again : tie.Need-loop-again Inv-loop μ-loop
+loop-again c =
+    let q = c .before .before .before .before .before .before .before in
+    let h = c .before .before .before .before .before .before .before .before .before .before .before .before .before in
+    subst (λ (t : List ℤ). Going (h .before .before .before .before .args .model .now) (h .before .before .before .before .args .limit) t (q .fixpoint .last .1 .1 .0) (h .loop .k + 1)) (sym (c .before .copy .ensures ∙ q .fixpoint .ensures .1))
+    (going-more _ _ _ _ _ (h .loop .inv) (untouched q) (sym (q .fixpoint .ensures .0) ∙ c .before .before .before .before .before .if2 .left) (below-limit (c .before .before)) (q .fixpoint .last .1 .1 .0) (made-kept q ∙ h .before .before .before .before .pre .1 .size))
+
+pub counted-passes-spec : {M : Type 1} → statement M
+counted-passes-spec =
+    tie.close
+    (tie.spec
+    Inv-loop
+    μ-loop
+    clear-requires
+    loop-holds
+    touching-requires
+    same-length
+    same-length-2
+    returns
+    fixpoint-requires
+    same-length-3
+    same-length-4
+    returns-2
+    same-length-5
+    same-length-6
+    returns-3
+    copy-requires
+    add-k
+    loop-less
+    loop-again)

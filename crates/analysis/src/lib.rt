@@ -1,0 +1,130 @@
+// The ceiling, the checker and the analysis of a model's words (document 01, "Checker" and "Analysis").
+ghost use mathlib.Core.Path.{_≡_};
+ghost use mathlib.Core.Bool.{true};
+ghost use Rattle.integers.specs.Words.{same};
+ghost use Rattle.plant.specs.Questions.{modelQuestions};
+ghost use Rattle.plant.specs.Tables.{tableSize, tableOk, pass};
+ghost use Rattle.plant.specs.Calls as C;
+ghost use Rattle.plant.specs.Calls.{Analysed, answerReply, verdictReply, ceilingReply, ceilingCall, checkCall, answerTable, analyseCall};
+ghost use Rattle.analysis.specs.Ready.{Sized};
+ghost use Rattle.analysis.specs.Questions.{tableQuestions};
+use plant::Answer;
+use plant::Ceiling;
+use plant::Verdict;
+
+// How many words a table of the model has.
+fn table_size(model: &[i32]) -> usize
+    requires { ⌜ modelQuestions (now model) ≡ 0 ⌝ }
+    ensures { λ r. ⌜ r ≡ tableSize (now (model .entry)) ⌝ }
+{
+    model::locations(model) * tables::words_per_location(model::variables(model))
+}
+
+// ---- the ceiling
+
+// How many passes settle every answer, or the number of the model's question that is not yes.
+pub fn ceiling(model: &[i32]) -> Ceiling
+    ensures { λ r. ⌜ ceilingReply r ≡ ceilingCall (now (model .entry)) ⌝ }
+{
+    let q = model::questions(model);
+    if q != 0 {
+        return Ceiling::Refused(q);
+    }
+    Ceiling::Passes(passes::ceiling::ceiling_of(model))
+}
+
+// ---- the checker
+
+// Makes a pass of the table, into `after`, and tells whether it leaves the table as it is.
+fn fixpoint<'a>(model: &'a [i32], table: &'a [i32], after: &mut [i32]) -> bool
+    requires { ⌜ Sized (now model) (now table) × (tableOk (now model) (now table) ≡ true) × Sized (now model) (now after) ⌝ }
+    ensures { λ r. ⌜ (r ≡ same (pass (now (model .entry)) (now (table .entry))) (now (table .entry))) × (now (after .exit) ≡ pass (now (model .entry)) (now (table .entry))) ⌝ }
+{
+    passes::pass(model, table, after);
+    integers::equal(after, table)
+}
+
+// The questions of a table's words, 32 to 34: 0 if all are yes, else the number of the first that is not.
+fn table_questions<'a>(model: &'a [i32], table: &'a [i32]) -> u32
+    requires { ⌜ Sized (now model) (now table) ⌝ }
+    ensures { λ r. ⌜ r ≡ tableQuestions (now (model .entry)) (now (table .entry)) ⌝ }
+{
+    if !passes::valid::table_ok(model, table) {
+        return 32;
+    }
+    // The largest table: 64 locations of 156 words.
+    let mut after = [0i32; 9984];
+    let size = table.len();
+    if !fixpoint(model, table, &mut after[..size]) {
+        return 33;
+    }
+    if passes::touch::touching(model, table) {
+        return 34;
+    }
+    0
+}
+
+// Accepts exactly if the model's questions, 20 and 32 to 34 are all yes.
+pub fn check<'a>(model: &'a [i32], table: &'a [i32]) -> Verdict
+    ensures { λ r. ⌜ verdictReply r ≡ checkCall (now (model .entry)) (now (table .entry)) ⌝ }
+{
+    let q = model::questions(model);
+    if q != 0 {
+        return Verdict::Refused(q);
+    }
+    let end = table_size(model);
+    if table.len() < end {
+        return Verdict::Refused(20);
+    }
+    let q = table_questions(model, &table[..end]);
+    if q != 0 {
+        return Verdict::Refused(q);
+    }
+    Verdict::Accepted
+}
+
+// ---- the analysis
+
+// Counts passes from table 0 on until a part of table k touches, a pass leaves table k as it is, or k is the limit. Leaves
+// table k; `work` is where a pass is made, and the caller clears it.
+fn counted_passes(model: &[i32], limit: u32, table: &mut [i32], work: &mut [i32]) -> Answer
+    requires { ⌜ Sized (now model) (now table) × Sized (now model) (now work) ⌝ }
+    ensures { λ r. ⌜ (r ≡ C.analysis (now (model .entry)) limit) × (now (table .exit) ≡ answerTable (now (model .entry)) r) ⌝ }
+{
+    integers::clear(table);
+    let mut k: u32 = 0;
+    loop {
+        if passes::touch::touching(model, table) {
+            return Answer::Unknown(k);
+        }
+        if fixpoint(model, table, work) {
+            return Answer::Safe(k);
+        }
+        if k == limit {
+            return Answer::Unfinished(k);
+        }
+        integers::copy(work, table);
+        k += 1;
+    }
+}
+
+// The answer after the model's questions, 20 and 21. The table buffer then begins with the answer's table, and the work buffer
+// is all zero; a refusal changes nothing.
+pub fn analyse(model: &[i32], limit: u32, table: &mut [i32], work: &mut [i32]) -> Answer
+    ensures { λ r. ⌜ record { reply = answerReply r; table = now (table .exit); work = now (work .exit) } ≡ analyseCall (now (model .entry)) limit (now (table .entry)) (now (work .entry)) ⌝ }
+{
+    let q = model::questions(model);
+    if q != 0 {
+        return Answer::Refused(q);
+    }
+    let size = table_size(model);
+    if table.len() < size {
+        return Answer::Refused(20);
+    }
+    if work.len() < size {
+        return Answer::Refused(21);
+    }
+    let answer = counted_passes(model, limit, &mut table[..size], &mut work[..size]);
+    integers::clear(work);
+    answer
+}
