@@ -1,0 +1,11 @@
+pub mod Cases
+pub mod ModelReading
+pub mod Beginning
+pub mod ModelRoundTrip
+pub mod Keys
+pub mod Faces
+pub mod Listed
+pub mod TableAsked
+pub mod TableBack
+pub mod TableWriting
+pub mod TableReading
