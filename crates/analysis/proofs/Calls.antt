@@ -4,7 +4,7 @@ use mathlib.Core.Bool.{Bool, true, false}
 use mathlib.Core.List.{List, _++_}
 use Prim.Native.Nat.{ℕ, zero, suc, _<_, _≤_}
 use native.Mathlib.Omega.{arith}
-use lib.Dec.{leb, le→leb}
+use lib.Dec.{leb, le→leb, leb→le}
 use lib.IntN.{ℤ, pos}
 use lib.ListN.{length, drop, replicate}
 use lib.Seq.{take-all}
@@ -15,7 +15,7 @@ use Rattle.plant.specs.Ask.{ask, orElse, _then_}
 use Rattle.plant.specs.Questions.{modelQuestions}
 use Rattle.plant.specs.Tables.{tableSize, tableOk, pass, touching, ceilingOf}
 use Rattle.plant.specs.Calls.{Reply, refused, answerReply, ceilingBy, ceilingCall, unchanged, checkerQuestions, checkBy, checkCall, analysis, answerTable, passesOf, analysisQuestions, Analysed, answered, analyseBy, analyseCall}
-use Rattle.plant.proofs.Asks.{go, halt, ask-intro, then-intro}
+use Rattle.plant.proofs.Asks.{go, halt, ask-intro, ask-yes, then-intro, then-both}
 use Rattle.plant.proofs.Passed.{passed}
 use Rattle.plant.proofs.Keeps.{after-length}
 use Rattle.analysis.specs.Questions.{tableQuestions}
@@ -103,52 +103,70 @@ module _ (m t : List ℤ) where
       unfolding checkCall
       check-accepted z = ap checkBy (sym z ∙ chain)
 
+-- ---- the questions of an analysis
+
+module _ (m table work : List ℤ) where
+  pub asks-model : (q : ℕ) → q ≡ modelQuestions m → (q ≡ 0 → ⊥) → q ≡ analysisQuestions m table work
+  unfolding analysisQuestions
+  asks-model q e n = halt _ e n
+
+  module _ (asks : modelQuestions m ≡ 0) where
+    pub short-table : length table < tableSize m → 20 ≡ analysisQuestions m table work
+    unfolding analysisQuestions
+    short-table h = go refl asks (halt _ (short m table 20 h) (λ e. omega arith))
+
+    module _ (table-room : tableSize m ≤ length table) where
+      pub short-work : length work < tableSize m → 21 ≡ analysisQuestions m table work
+      unfolding analysisQuestions
+      short-work h = go refl asks (go refl (long m table 20 table-room) (short m work 21 h))
+
+      pub all-yes : tableSize m ≤ length work → 0 ≡ analysisQuestions m table work
+      unfolding analysisQuestions
+      all-yes h = sym (then-intro asks (then-intro (long m table 20 table-room) (long m work 21 h)))
+
+  -- what a yes to all of them tells
+  module _ (yes : analysisQuestions m table work ≡ 0) where
+    rest : (modelQuestions m ≡ 0) × ((ask (leb (tableSize m) (length table)) 20 then ask (leb (tableSize m) (length work)) 21) ≡ 0)
+    unfolding analysisQuestions
+    rest = then-both _ _ yes
+
+    pub model-asked : modelQuestions m ≡ 0
+    model-asked = rest .0
+
+    pub table-room : tableSize m ≤ length table
+    table-room = leb→le _ _ (ask-yes (leb (tableSize m) (length table)) 20 (omega arith) (then-both _ _ (rest .1) .0))
+
+    pub work-room : tableSize m ≤ length work
+    work-room = leb→le _ _ (ask-yes (leb (tableSize m) (length work)) 21 (omega arith) (then-both _ _ (rest .1) .1))
+
 -- ---- the analysis
 
 module _ (m : List ℤ) (limit : ℕ) (table work : List ℤ) where
-  -- the reply of a refusal, with nothing changed
-  abbrev unmoved : ℕ → Analysed
-  unmoved q = record { reply = refused q; table = table; work = work }
-
-  unmoved-by : (q : ℕ) → (q ≡ 0 → ⊥) → unmoved q ≡ analyseBy q m limit table work
+  unmoved-by : (q : ℕ) → (q ≡ 0 → ⊥) → _≡_ {A = Analysed} (record { reply = refused q; table = table; work = work }) (analyseBy q m limit table work)
   unmoved-by zero n = absurd (n refl)
   unmoved-by (suc q) n = refl
 
-  analyse-number : (q : ℕ) → q ≡ analysisQuestions m table work → (q ≡ 0 → ⊥) → unmoved q ≡ analyseCall m limit table work
-  unfolding analyseCall
-  analyse-number q e n = unmoved-by q n ∙ ap (λ (x : ℕ). analyseBy x m limit table work) e
+  module _ (q : ℕ) (e : q ≡ analysisQuestions m table work) where
+    -- a refusal changes nothing
+    pub analyse-refused : (q ≡ 0 → ⊥) → _≡_ {A = Analysed} (record { reply = refused q; table = table; work = work }) (analyseCall m limit table work)
+    unfolding analyseCall
+    analyse-refused n = unmoved-by q n ∙ ap (λ (x : ℕ). analyseBy x m limit table work) e
 
-  pub analyse-model : (q : ℕ) → q ≡ modelQuestions m → (q ≡ 0 → ⊥) → unmoved q ≡ analyseCall m limit table work
-  unfolding analysisQuestions
-  analyse-model q e n = analyse-number q (halt _ e n) n
+    pub analyse-answered : (x : Analysed) → q ≡ 0 → x ≡ answered m (analysis m limit) table work → x ≡ analyseCall m limit table work
+    unfolding analyseCall
+    analyse-answered x z is = is ∙ ap (λ (k : ℕ). analyseBy k m limit table work) (sym z ∙ e)
 
-  module _ (asks : modelQuestions m ≡ 0) where
-    pub analyse-short-table : length table < tableSize m → unmoved 20 ≡ analyseCall m limit table work
-    unfolding analysisQuestions
-    analyse-short-table h = analyse-number 20 (go refl asks (halt _ (short m table 20 h) (λ e. omega arith))) (λ e. omega arith)
+  -- an answer a that leaves t at the front of the table buffer and w in the work buffer
+  module _ (asks : modelQuestions m ≡ 0) (a : Answer) (is-analysis : a ≡ analysis m limit) (t : List ℤ) (is-table : t ≡ answerTable m a) (size : ℕ) (is-size : size ≡ tableSize m) (w : List ℤ) (is-clear : w ≡ replicate (length work) (pos 0)) where
+    length-is : size ≡ length (answerTable m a)
+    unfolding answerTable
+    length-is = is-size ∙ sym (after-length m (passed m asks) (passesOf a))
 
-    module _ (room : tableSize m ≤ length table) where
-      pub analyse-short-work : length work < tableSize m → unmoved 21 ≡ analyseCall m limit table work
-      unfolding analysisQuestions
-      analyse-short-work h = analyse-number 21 (go refl asks (go refl (long m table 20 room) (short m work 21 h))) (λ e. omega arith)
+    begins : t ++ drop size table ≡ onto (answerTable m a) table
+    unfolding onto
+    begins = ap₂ (λ (x : List ℤ) (k : ℕ). x ++ drop k table) is-table length-is
 
-      -- an answer a that leaves t at the front of the table buffer and w in the work buffer
-      module _ (work-room : tableSize m ≤ length work) (a : Answer) (is-analysis : a ≡ analysis m limit) (t : List ℤ) (is-table : t ≡ answerTable m a) (size : ℕ) (is-size : size ≡ tableSize m) (w : List ℤ) (is-clear : w ≡ replicate (length work) (pos 0)) where
-        all-yes : 0 ≡ analysisQuestions m table work
-        unfolding analysisQuestions
-        all-yes = sym (then-intro asks (then-intro (long m table 20 room) (long m work 21 work-room)))
-
-        length-is : size ≡ length (answerTable m a)
-        unfolding answerTable
-        length-is = is-size ∙ sym (after-length m (passed m asks) (passesOf a))
-
-        begins : t ++ drop size table ≡ onto (answerTable m a) table
-        unfolding onto
-        begins = ap₂ (λ (x : List ℤ) (k : ℕ). x ++ drop k table) is-table length-is
-
-        pub analyse-answered : _≡_ {A = Analysed} (record { reply = answerReply a; table = t ++ drop size table; work = w }) (analyseCall m limit table work)
-        unfolding analyseCall
-        analyse-answered =
-            ap₂ (λ (x y : List ℤ). record { reply = answerReply a; table = x; work = y }) begins is-clear
-            ∙ ap (λ (x : Answer). answered m x table work) is-analysis
-            ∙ ap (λ (x : ℕ). analyseBy x m limit table work) all-yes
+    pub is-answered : _≡_ {A = Analysed} (record { reply = answerReply a; table = t ++ drop size table; work = w }) (answered m (analysis m limit) table work)
+    is-answered =
+        ap₂ (λ (x y : List ℤ). record { reply = answerReply a; table = x; work = y }) begins is-clear
+        ∙ ap (λ (x : Answer). answered m x table work) is-analysis

@@ -5,7 +5,7 @@ ghost use Rattle.integers.specs.Words.{same};
 ghost use Rattle.plant.specs.Questions.{modelQuestions};
 ghost use Rattle.plant.specs.Tables.{tableSize, tableOk, pass};
 ghost use Rattle.plant.specs.Calls as C;
-ghost use Rattle.plant.specs.Calls.{Analysed, answerReply, verdictReply, ceilingReply, ceilingCall, checkCall, answerTable, analyseCall};
+ghost use Rattle.plant.specs.Calls.{Analysed, answerReply, verdictReply, ceilingReply, ceilingCall, checkCall, answerTable, analysisQuestions, answered, analyseCall};
 ghost use Rattle.analysis.specs.Ready.{Sized};
 ghost use Rattle.analysis.specs.Questions.{tableQuestions};
 use plant::Answer;
@@ -108,23 +108,42 @@ fn counted_passes(model: &[i32], limit: u32, table: &mut [i32], work: &mut [i32]
     }
 }
 
-// The answer after the model's questions, 20 and 21. The table buffer then begins with the answer's table, and the work buffer
-// is all zero; a refusal changes nothing.
-pub fn analyse(model: &[i32], limit: u32, table: &mut [i32], work: &mut [i32]) -> Answer
-    ensures { λ r. ⌜ record { reply = answerReply r; table = now (table .exit); work = now (work .exit) } ≡ analyseCall (now (model .entry)) limit (now (table .entry)) (now (work .entry)) ⌝ }
+// The questions of an analysis, the model's, 20 and 21: 0 if all are yes, else the number of the first that is not.
+pub fn questions<'a>(model: &'a [i32], table: &'a [i32], work: &'a [i32]) -> u32
+    ensures { λ r. ⌜ r ≡ analysisQuestions (now (model .entry)) (now (table .entry)) (now (work .entry)) ⌝ }
 {
     let q = model::questions(model);
     if q != 0 {
-        return Answer::Refused(q);
+        return q;
     }
     let size = table_size(model);
     if table.len() < size {
-        return Answer::Refused(20);
+        return 20;
     }
     if work.len() < size {
-        return Answer::Refused(21);
+        return 21;
     }
+    0
+}
+
+// The answer after its questions. The table buffer then begins with the answer's table, and the work buffer is all zero.
+pub fn analyse_passed(model: &[i32], limit: u32, table: &mut [i32], work: &mut [i32]) -> Answer
+    requires { ⌜ analysisQuestions (now model) (now table) (now work) ≡ 0 ⌝ }
+    ensures { λ r. ⌜ record { reply = answerReply r; table = now (table .exit); work = now (work .exit) } ≡ answered (now (model .entry)) (C.analysis (now (model .entry)) limit) (now (table .entry)) (now (work .entry)) ⌝ }
+{
+    let size = table_size(model);
     let answer = counted_passes(model, limit, &mut table[..size], &mut work[..size]);
     integers::clear(work);
     answer
+}
+
+// The questions, and then the answer; a refusal changes nothing.
+pub fn analyse(model: &[i32], limit: u32, table: &mut [i32], work: &mut [i32]) -> Answer
+    ensures { λ r. ⌜ record { reply = answerReply r; table = now (table .exit); work = now (work .exit) } ≡ analyseCall (now (model .entry)) limit (now (table .entry)) (now (work .entry)) ⌝ }
+{
+    let q = questions(model, table, work);
+    if q != 0 {
+        return Answer::Refused(q);
+    }
+    analyse_passed(model, limit, table, work)
 }

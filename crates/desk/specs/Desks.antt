@@ -1,0 +1,80 @@
+-- Document 01, "Desk and host": the desk's counters, and what a desk call does to them and to lent memory.
+use mathlib.Core.Path.{_≡_}
+use mathlib.Core.Bool.{Bool, cond, _&&_}
+use mathlib.Core.List.{List, [], _∷_}
+use Prim.Native.Nat.{ℕ, zero, suc, _+_}
+use lib.Dec.{leb}
+use lib.IntN.{ℤ}
+use Rattle.plant.specs.Ask.{ask, _then_}
+use Rattle.plant.specs.Calls.{Reply, refused, Analysed, analysis, analysisQuestions, answered}
+use Rattle.desk.specs.declared.Desk.{Desk}
+
+-- a counter's largest number
+abbrev pub most : ℕ
+most = 4294967295
+
+abbrev pub freshDesk : Desk
+freshDesk = record { jobs = 0; passes = 0 }
+
+-- the counters can take one job more and the limit
+unfoldable pub countersOk : Desk → ℕ → Bool
+countersOk d limit = leb (d .jobs + 1) most && leb (d .passes + limit) most
+
+-- the questions of an analysis; then: jobs + 1 and passes + limit at most 4,294,967,295? 22
+unfoldable pub deskQuestions : (d : Desk) (m : List ℤ) (limit : ℕ) (table work : List ℤ) → ℕ
+deskQuestions d m limit table work = analysisQuestions m table work then ask (countersOk d limit) 22
+
+-- the desk, and the reply with the lent buffers
+pub record Served : Type 0 where
+  pub desk : Desk
+  pub analysed : Analysed
+
+-- an answered call moves jobs by 1 and passes by k; a refusal moves nothing and changes nothing lent
+abbrev pub counted : Desk → Analysed → Served
+counted d a = record { desk = record { jobs = d .jobs + 1; passes = d .passes + a .reply .value }; analysed = a }
+
+abbrev pub deskBy : ℕ → (d : Desk) (m : List ℤ) (limit : ℕ) (table work : List ℤ) → Served
+deskBy zero d m limit table work = counted d (answered m (analysis m limit) table work)
+deskBy (suc k) d m limit table work = record { desk = d; analysed = record { reply = refused (suc k); table = table; work = work } }
+
+unfoldable pub deskCall : (d : Desk) (m : List ℤ) (limit : ℕ) (table work : List ℤ) → Served
+deskCall d m limit table work = deskBy (deskQuestions d m limit table work) d m limit table work
+
+-- ---- a list of desk calls, with any models, limits and buffers
+
+pub record Call : Type 0 where
+  pub model : List ℤ
+  pub limit : ℕ
+  pub table : List ℤ
+  pub work : List ℤ
+
+abbrev pub serve : Desk → Call → Served
+serve d c = deskCall d (c .model) (c .limit) (c .table) (c .work)
+
+-- the desk after all of them
+unfoldable pub deskAfter : Desk → List Call → Desk
+deskAfter d [] = d
+deskAfter d (c ∷ cs) = deskAfter (serve d c .desk) cs
+
+-- the replies, in order
+unfoldable pub replies : Desk → List Call → List Reply
+replies d [] = []
+replies d (c ∷ cs) = serve d c .analysed .reply ∷ replies (serve d c .desk) cs
+
+-- the answered ones: safe, unknown, unfinished
+abbrev pub isAnswer : Reply → Bool
+isAnswer r = leb 100 (r .code)
+
+-- how many answers there are among replies, and the sum of the passes answered
+unfoldable pub answersOf : List Reply → ℕ
+answersOf [] = 0
+answersOf (r ∷ rs) = cond (isAnswer r) 1 0 + answersOf rs
+
+unfoldable pub passesOf : List Reply → ℕ
+passesOf [] = 0
+passesOf (r ∷ rs) = cond (isAnswer r) (r .value) 0 + passesOf rs
+
+-- for every list of desk calls from a fresh desk: passes is the sum of the passes answered, jobs the number of answered calls
+pub record DeskCounts (cs : List Call) : Type 0 where
+  pub passes-sum : deskAfter freshDesk cs .passes ≡ passesOf (replies freshDesk cs)
+  pub jobs-number : deskAfter freshDesk cs .jobs ≡ answersOf (replies freshDesk cs)

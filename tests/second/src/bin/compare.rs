@@ -1,0 +1,63 @@
+//! Compares decide and check of libhost.a with the second implementation.
+//!
+//!     HOST_LIB_DIR=<directory of libhost.a> \
+//!         cargo run --release --offline --features host --bin compare [models] [damaged] [seed]
+//!
+//! Exit status: 0 no difference; 1 a difference, printed with its input in hex; 2 some
+//! number that a call can give never came up under the full counts; 3 built without the
+//! library (then only `--dry` runs: the second implementation against itself).
+//! `--trace` prints every input to standard error before the tested call, for a program
+//! that stops within one.
+
+use second::compare::{Comparison, Tested};
+use second::host_ffi;
+
+const MODELS: u64 = 20_000;
+const DAMAGED: u64 = 100_000;
+const SEED: u64 = 0x01_9912;
+
+fn main() {
+    let mut arguments: Vec<String> = std::env::args().skip(1).collect();
+    let dry = arguments.iter().any(|a| a == "--dry");
+    let trace = arguments.iter().any(|a| a == "--trace");
+    arguments.retain(|a| a != "--dry" && a != "--trace");
+    let number = |place: usize, usual: u64| match arguments.get(place) {
+        Some(text) => text.parse().unwrap_or_else(|_| panic!("not a number: {text}")),
+        None => usual,
+    };
+    let (models, damaged, seed) = (number(0, MODELS), number(1, DAMAGED), number(2, SEED));
+    if !host_ffi::LINKED {
+        println!("built without the feature `host`: nothing under test is linked in");
+        if !dry {
+            std::process::exit(3);
+        }
+        println!("dry run: the second implementation against itself");
+    }
+    println!("seed {seed}, {models} random models, {damaged} damaged inputs");
+
+    let tested = Tested { decide: host_ffi::decide, check: host_ffi::check };
+    let mut comparison = Comparison::new(tested, seed);
+    comparison.trace = trace;
+    let outcome = comparison.all(models, damaged);
+    let counts = &comparison.counts;
+    println!("fixed cases compared: {}", counts.fixed);
+    println!("random models compared: {} (by n: {:?})", counts.models, &counts.by_n[1..]);
+    println!("damaged inputs compared: {}", counts.damaged);
+    println!("most passes of an answer: {}", counts.most_passes);
+    println!("decide gave {:?}", counts.decide);
+    println!("check gave {:?}", counts.check);
+    if let Err(difference) = outcome {
+        println!("DIFFERENCE\n{difference:?}");
+        std::process::exit(1);
+    }
+    let not_seen = counts.not_seen();
+    if not_seen.is_empty() {
+        println!("every number of both calls came up");
+    } else {
+        println!("never came up: {}", not_seen.join(", "));
+        if models >= MODELS && damaged >= DAMAGED {
+            std::process::exit(2);
+        }
+    }
+    println!("no difference");
+}

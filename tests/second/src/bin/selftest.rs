@@ -1,0 +1,425 @@
+//! Runs many random models and damaged inputs through this implementation's own invariants.
+//!
+//!     cargo run --release --offline --bin selftest [models] [seed]
+//!
+//! Stops with a panic at the first breach. What is asked of every random model:
+//!
+//! * its file reads back as its words, and a file that reads is what writing gives;
+//! * the answer, k and table are those of the literal passes (module `plain`), k being the
+//!   first index; k is at most the ceiling, and below it if unfinished;
+//! * buffers after the call stand as document 01 says;
+//! * safe: the checker accepts the table; unknown: it refuses that table, the table at rest
+//!   and random ones; the host's two calls say the same as the calls on words;
+//! * runs: every random run is one; on safe models none of its configurations is forbidden
+//!   and each is reached by one delay from a part of the answer's table;
+//! * damaged inputs: lent memory after each refusal is unchanged or zero, as its number says;
+//! * desk: over a list of calls from a fresh desk, passes is the sum of the passes answered.
+
+use std::collections::BTreeMap;
+
+use second::analysis::Answer;
+use second::calls::{self, Buffers};
+use second::ceiling;
+use second::checker::ask_table;
+use second::desk::Desk;
+use second::files::{model_file, table_file};
+use second::generate::*;
+use second::host::MOST_MODEL_WORDS;
+use second::model::Plant;
+use second::plain;
+use second::random::Random;
+use second::simulate::{is_forbidden, is_reached, is_run, random_run, Move};
+
+const MODELS: u64 = 10_000;
+const SEED: u64 = 0x01_9912;
+
+/// Calls by call and number; 0 stands for an answer or acceptance.
+type Seen = BTreeMap<&'static str, BTreeMap<u32, u64>>;
+
+#[derive(Default)]
+struct Counts {
+    answers: BTreeMap<&'static str, u64>,
+    by_n: [u64; 7],
+    passes: u64,
+    most_passes: u32,
+    /// Answers by k: 0, 1, 2, 3 to 5, 6 to 10, 11 to 100, more.
+    by_passes: [u64; 7],
+    literal_passes: u64,
+    runs: u64,
+    configurations: u64,
+    delays: u64,
+    switches: u64,
+    forbidden_met_on_unknown: u64,
+    tables_refused: u64,
+    desk_calls: u64,
+    seen: Seen,
+}
+
+fn note<T>(seen: &mut Seen, call: &'static str, outcome: &Result<T, u32>) {
+    let number = match outcome {
+        Ok(_) => 0,
+        Err(refusal) => *refusal,
+    };
+    *seen.entry(call).or_default().entry(number).or_default() += 1;
+}
+
+fn random_words(random: &mut Random, length: usize) -> Vec<i32> {
+    (0..length).map(|_| random.next() as i32).collect()
+}
+
+/// Read a model into a buffer, and ask that the buffer stands as its number says.
+fn read_model(random: &mut Random, counts: &mut Counts, file: &[u8], length: usize) -> Option<Vec<i32>> {
+    let before = random_words(random, length);
+    let (outcome, after) = calls::read_model(file, before.clone());
+    note(&mut counts.seen, "read model", &outcome);
+    match outcome {
+        Ok(count) => {
+            assert_eq!(after[count..], before[count..]);
+            let words = after[..count].to_vec();
+            assert_eq!(model_file(&words), file, "a file that reads is what writing gives");
+            assert!(Plant::from_words(&words).is_ok());
+            Some(words)
+        }
+        Err(6..=8 | 11..=19) => {
+            assert!(after.iter().all(|&w| w == 0));
+            None
+        }
+        Err(number) => {
+            assert!((1..=5).contains(&number));
+            assert_eq!(after, before);
+            None
+        }
+    }
+}
+
+/// Read a table, and ask that the buffer stands as its number says.
+fn read_table(random: &mut Random, counts: &mut Counts, model: &[i32], file: &[u8], length: usize) {
+    let before = random_words(random, length);
+    let (outcome, after) = calls::read_table(model, file, before.clone());
+    note(&mut counts.seen, "read table", &outcome);
+    match outcome {
+        Ok(count) => {
+            assert_eq!(after[count..], before[count..]);
+            let plant = Plant::from_words(model).unwrap();
+            assert_eq!(count, plant.sizes.table_words());
+            assert_eq!(table_file(&plant, &after[..count]), file, "a file that reads is what writing gives");
+        }
+        Err(32 | 35..=38) => assert!(after.iter().all(|&w| w == 0)),
+        Err(number) => {
+            assert!((2..=5).contains(&number) || (11..=20).contains(&number));
+            assert_eq!(after, before);
+        }
+    }
+}
+
+fn one_model(random: &mut Random, counts: &mut Counts) {
+    let words = random_model(random).words();
+    let plant = Plant::from_words(&words).expect("a random model passes its questions");
+    let sizes = plant.sizes;
+    let size = sizes.table_words();
+    counts.by_n[sizes.n] += 1;
+
+    // Its file.
+    let file = model_file(&words);
+    let spare = random.below(5);
+    assert_eq!(read_model(random, counts, &file, words.len() + spare), Some(words.clone()));
+
+    // The answer, against the literal passes.
+    let limit = random_limit(random, &plant);
+    let spare_work = random.below(4);
+    let lent = Buffers { table: random_words(random, size + spare), work: random_words(random, size + spare_work) };
+    let (outcome, after) = calls::analysis(&words, limit, lent.clone());
+    note(&mut counts.seen, "analysis", &outcome);
+    let (answer, k) = outcome.expect("a model with buffers of its size is answered");
+    let table = &after.table[..size];
+    assert_eq!(after.table[size..], lent.table[size..]);
+    assert_eq!(after.work, vec![0; lent.work.len()]);
+    *counts.answers.entry(answer.word()).or_default() += 1;
+    counts.passes += k as u64;
+    counts.most_passes = counts.most_passes.max(k);
+    counts.by_passes[match k {
+        0..=2 => k as usize,
+        3..=5 => 3,
+        6..=10 => 4,
+        11..=100 => 5,
+        _ => 6,
+    }] += 1;
+    assert!(k <= limit);
+    let ceiling = ceiling::of_plant(&plant);
+    assert!(k as u64 <= ceiling);
+    assert!(answer != Answer::Unfinished || (k == limit && (k as u64) < ceiling));
+    let mut faces = plain::from_words(&plant, &vec![0; size]);
+    let mut index = 0;
+    let found = loop {
+        if plain::forbidden_touched(&plant, &faces) {
+            break Answer::Unknown;
+        }
+        let next = plain::pass(&plant, &faces);
+        counts.literal_passes += 1;
+        if next == faces {
+            break Answer::Safe;
+        }
+        if index == limit {
+            break Answer::Unfinished;
+        }
+        faces = next;
+        index += 1;
+    };
+    assert_eq!((answer, k), (found, index));
+    assert_eq!(table, plain::to_words(&plant, &faces));
+
+    // Checker, host calls.
+    let accepted = calls::checker(&words, &after.table);
+    note(&mut counts.seen, "checker", &accepted);
+    assert_eq!(accepted.is_ok(), answer == Answer::Safe);
+    let written = table_file(&plant, table);
+    assert_eq!(calls::check(&file, &written), accepted.err().map_or(100, u64::from));
+    let room = sizes.table_file_room();
+    let before: Vec<u8> = (0..room + spare).map(|_| random.next() as u8).collect();
+    let (number, bytes) = calls::decide(&file, before.clone(), limit);
+    assert_eq!(number, (answer.code() as u64) << 32 | k as u64);
+    assert_eq!(bytes[..written.len()], written);
+    assert_eq!(bytes[written.len()..], before[written.len()..]);
+    let (length, bytes) = calls::write_table(&words, &after.table, before.clone());
+    note(&mut counts.seen, "write table", &length);
+    assert_eq!(length, Ok(written.len()));
+    assert_eq!(bytes[..written.len()], written);
+    assert_eq!(bytes[written.len()..], before[written.len()..]);
+    read_table(random, counts, &words, &written, size + spare);
+
+    // Other tables.
+    let mut rest = vec![0; size];
+    let at_rest = close(&plant, &mut rest, pass_budget(&sizes));
+    let mut other = random_table(random, &plant);
+    close(&plant, &mut other, 40);
+    if answer == Answer::Unknown {
+        for list in [&rest, &other] {
+            assert!(ask_table(&plant, list).is_err());
+            counts.tables_refused += 1;
+        }
+    }
+    if at_rest && answer != Answer::Unfinished {
+        assert_eq!(ask_table(&plant, &rest).is_ok(), answer == Answer::Safe);
+    }
+
+    // Runs.
+    for _ in 0..3 {
+        let denominator = random.pick(&[1, 2, 3, 4, 6, 12, 60, 7, 420]);
+        let Some(run) = random_run(&plant, random, denominator, 15) else {
+            continue;
+        };
+        counts.runs += 1;
+        assert!(is_run(&plant, &run));
+        for (step, _) in &run.moves {
+            match step {
+                Move::Delay(_) => counts.delays += 1,
+                Move::Switch(_) => counts.switches += 1,
+            }
+        }
+        for at in std::iter::once(&run.first).chain(run.moves.iter().map(|m| &m.1)) {
+            counts.configurations += 1;
+            let met = is_forbidden(&plant, denominator, at);
+            if answer == Answer::Safe {
+                assert!(!met, "a forbidden box is met on a safe model");
+                assert!(is_reached(&plant, table, denominator, at), "no part reaches {at:?}");
+            } else if met {
+                counts.forbidden_met_on_unknown += 1;
+            }
+        }
+    }
+
+    damaged_inputs(random, counts, &plant, &file, table, &rest);
+    desk_list(random, counts, &words, size, limit.min(20));
+}
+
+/// Damaged files, words and tables in every call.
+fn damaged_inputs(random: &mut Random, counts: &mut Counts, plant: &Plant, file: &[u8], table: &[i32], rest: &[i32]) {
+    let sizes = plant.sizes;
+    let words = plant.words();
+    for _ in 0..4 {
+        let mut bytes = if random.chance(2, 3) { edited_model_file(random, plant) } else { file.to_vec() };
+        if random.chance(1, 2) {
+            damage_bytes(random, &mut bytes);
+        }
+        let length = match random.below(8) {
+            0 => random.below(words.len() + 1),
+            1 => MOST_MODEL_WORDS,
+            _ => words.len() + random.below(3),
+        };
+        read_model(random, counts, &bytes, length);
+    }
+    for _ in 0..3 {
+        // Words: edited, cut or lengthened.
+        let mut list = words.to_vec();
+        if random.chance(2, 3) {
+            for (index, word) in model_edit(random, plant) {
+                list[index] = word;
+            }
+        }
+        match random.below(6) {
+            0 => list.truncate(random.below(list.len() + 1)),
+            1 => list.truncate(random.below(6)),
+            2 => list.extend([1, 2, 3]),
+            _ => {}
+        }
+        let outcome = calls::ceiling(&list);
+        note(&mut counts.seen, "ceiling", &outcome);
+        let model_number = outcome.err();
+        let size = sizes.table_words();
+        let short = |random: &mut Random| if random.chance(1, 6) { random.below(size) } else { size };
+        let (table_length, work_length) = (short(random), short(random));
+        let lent = Buffers { table: random_words(random, table_length), work: random_words(random, work_length) };
+        let (outcome, after) = calls::analysis(&list, random.below(8) as u32, lent.clone());
+        note(&mut counts.seen, "analysis", &outcome);
+        if outcome.is_err() {
+            assert_eq!(after, lent);
+        }
+        if model_number.is_some() {
+            assert_eq!(outcome.err(), model_number);
+        }
+
+        // Tables as words.
+        let mut damaged = if random.chance(1, 2) { rest.to_vec() } else { table.to_vec() };
+        damage_table(random, plant, &mut damaged);
+        if random.chance(1, 8) {
+            damaged.truncate(random.below(damaged.len() + 1));
+        }
+        let outcome = calls::checker(&list, &damaged);
+        note(&mut counts.seen, "checker", &outcome);
+        if model_number.is_some() {
+            assert_eq!(outcome.err(), model_number);
+        }
+        let room = sizes.table_file_room();
+        let length = if random.chance(1, 6) { random.below(room) } else { room };
+        let before = vec![0xC3; length];
+        let (outcome, after) = calls::write_table(&list, &damaged, before.clone());
+        note(&mut counts.seen, "write table", &outcome);
+        match outcome {
+            Err(_) => assert_eq!(after, before),
+            Ok(count) => {
+                // What was written reads back as the same table.
+                let size = Plant::from_words(&list).unwrap().sizes.table_words();
+                let (outcome, read) = calls::read_table(&list, &after[..count], vec![9; size]);
+                assert_eq!(outcome, Ok(size));
+                assert_eq!(read, damaged[..size]);
+            }
+        }
+
+        // Tables as files.
+        let base = if random.chance(1, 2) { rest } else { table };
+        let bytes = damaged_table_file(random, plant, base);
+        let length = if random.chance(1, 8) { random.below(size) } else { size + random.below(3) };
+        read_table(random, counts, &list, &bytes, length);
+    }
+}
+
+/// A list of desk calls, some of them refused.
+fn desk_list(random: &mut Random, counts: &mut Counts, words: &[i32], size: usize, limit: u32) {
+    let mut desk = Desk::default();
+    let (mut jobs, mut passes) = (0u64, 0u64);
+    for _ in 0..3 {
+        let length = if random.chance(1, 5) { size - 1 } else { size };
+        let limit = if random.chance(1, 5) { 0 } else { limit };
+        let lent = Buffers { table: vec![1; length], work: vec![2; size] };
+        let (outcome, after, buffers) = calls::desk(desk, words, limit, lent.clone());
+        note(&mut counts.seen, "desk", &outcome);
+        counts.desk_calls += 1;
+        match outcome {
+            Ok((_, k)) => {
+                jobs += 1;
+                passes += k as u64;
+            }
+            Err(_) => {
+                assert_eq!(after, desk);
+                assert_eq!(buffers, lent);
+            }
+        }
+        desk = after;
+        assert_eq!((desk.jobs as u64, desk.passes as u64), (jobs, passes));
+    }
+    // Counters near their end.
+    let near = Desk {
+        jobs: u32::MAX - random.below(2) as u32,
+        passes: u32::MAX - random.below(2 * limit as usize + 2) as u32,
+    };
+    let lent = Buffers { table: vec![1; size], work: vec![2; size] };
+    let (outcome, after, buffers) = calls::desk(near, words, limit, lent.clone());
+    note(&mut counts.seen, "desk", &outcome);
+    counts.desk_calls += 1;
+    let fits = near.jobs < u32::MAX && limit <= u32::MAX - near.passes;
+    match outcome {
+        Ok((_, k)) => {
+            assert!(fits);
+            assert_eq!(after, Desk { jobs: near.jobs + 1, passes: near.passes + k });
+        }
+        Err(number) => {
+            assert!(!fits);
+            assert_eq!(number, 22);
+            assert_eq!((after, buffers), (near, lent));
+        }
+    }
+}
+
+/// The numbers that each call can give, 0 for an answer.
+fn possible(call: &str) -> Vec<u32> {
+    let words: Vec<u32> = [0].into_iter().chain(2..=5).chain(11..=19).collect();
+    let more: &[u32] = match call {
+        "read model" => &[1, 6, 7, 8],
+        "ceiling" => &[],
+        "checker" => &[20, 32, 33, 34],
+        "analysis" => &[20, 21],
+        "read table" => &[20, 35, 36, 37, 38, 32],
+        "write table" => &[20, 32, 39],
+        // The desk's model questions are the analysis's; here it is called on whole models.
+        "desk" => return vec![0, 20, 22],
+        _ => unreachable!(),
+    };
+    words.into_iter().chain(more.iter().copied()).collect()
+}
+
+fn run(models: u64, seed: u64) -> Counts {
+    let mut random = Random::new(seed);
+    let mut counts = Counts::default();
+    for _ in 0..models {
+        one_model(&mut random, &mut counts);
+    }
+    counts
+}
+
+#[test]
+fn a_short_self_test() {
+    let counts = run(400, 1);
+    assert!(counts.answers.len() == 3);
+}
+
+fn main() {
+    let arguments: Vec<u64> =
+        std::env::args().skip(1).map(|a| a.parse().expect("arguments are numbers: models, seed")).collect();
+    let models = arguments.first().copied().unwrap_or(MODELS);
+    let seed = arguments.get(1).copied().unwrap_or(SEED);
+    println!("seed {seed}, {models} random models");
+    let counts = run(models, seed);
+    println!("models by n: {:?}", &counts.by_n[1..]);
+    println!("answers: {:?}", counts.answers);
+    println!(
+        "passes answered {} (at most {} in one answer), literal passes compared {}",
+        counts.passes, counts.most_passes, counts.literal_passes
+    );
+    println!("answers by k (0, 1, 2, 3-5, 6-10, 11-100, more): {:?}", counts.by_passes);
+    println!(
+        "runs {}, configurations {}, delays {}, switches {}; forbidden met on models not safe {}",
+        counts.runs, counts.configurations, counts.delays, counts.switches, counts.forbidden_met_on_unknown
+    );
+    println!("further tables refused on unknown models {}, desk calls {}", counts.tables_refused, counts.desk_calls);
+    let mut missing = Vec::new();
+    for (call, numbers) in &counts.seen {
+        println!("{call}: {numbers:?}");
+        let possible = possible(call);
+        assert!(numbers.keys().all(|n| possible.contains(n) || (*call == "desk" && *n == 21)), "{call}");
+        missing.extend(possible.iter().filter(|n| !numbers.contains_key(n)).map(|n| format!("{call} {n}")));
+    }
+    if !missing.is_empty() {
+        println!("never came up: {}", missing.join(", "));
+    }
+    println!("all invariants hold");
+}

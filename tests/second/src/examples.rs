@@ -1,0 +1,142 @@
+//! Document 01's plant P and source 000's examples, as drafts.
+
+use crate::draft::{grid, Draft, LocationDraft};
+
+/// Plant P of document 01.
+pub fn plant_p() -> Draft {
+    Draft {
+        n: 2,
+        locations: vec![LocationDraft {
+            invariant: vec![0, 10, 0, 10],
+            rates: vec![1, 1, 1, 2],
+            start: Some(vec![0, 0, 2, 5]),
+        }],
+        switches: vec![],
+        forbidden: vec![(0, vec![9, 10, 0, 4])],
+    }
+}
+
+/// P with x 5, y 9..10 forbidden.
+pub fn plant_p_unknown() -> Draft {
+    Draft { forbidden: vec![(0, vec![5, 5, 9, 10])], ..plant_p() }
+}
+
+/// P's answer's table.
+pub fn plant_p_table() -> Vec<i32> {
+    vec![1, 0, 0, 2, 5, 0, 0, 0, 0, 0, 0, 0, 0, 0, 0, 1, 2, 8, 10, 10]
+}
+
+/// P's wider table, accepted too: face 0 with y 2..10, face 1 with y 10, face 3 with x 0..10.
+pub fn plant_p_wider() -> Vec<i32> {
+    vec![1, 0, 0, 2, 10, 1, 10, 10, 10, 10, 0, 0, 0, 0, 0, 1, 0, 10, 10, 10]
+}
+
+/// Figure 1 of source 000 as a plant: x from 1 to 7, y from 1 to 7, the start is face F1
+/// (x 1, y 2..5), rates x 1..1, y 1..2. The face on y = 7 is F2: x 2..6.
+pub fn figure_1() -> Draft {
+    Draft {
+        n: 2,
+        locations: vec![LocationDraft {
+            invariant: vec![1, 7, 1, 7],
+            rates: vec![1, 1, 1, 2],
+            start: Some(vec![1, 1, 2, 5]),
+        }],
+        switches: vec![],
+        forbidden: vec![],
+    }
+}
+
+/// Section 3.4's box, all lengths times two so that the halves are whole: x and y 0..4,
+/// t 0..8, all rates 1, start x in `start`, y = t = 0. Not divided.
+pub fn whole_box(start: (i32, i32)) -> Draft {
+    boxes_of(&[vec![0, 4], vec![0, 4], vec![0, 8]], start)
+}
+
+/// The same box divided at x = 2 and y = 2. Location 0 is low in x and y, 1 high in x,
+/// 2 high in y, 3 high in both.
+pub fn divided_box(start: (i32, i32)) -> Draft {
+    boxes_of(&[vec![0, 2, 4], vec![0, 2, 4], vec![0, 8]], start)
+}
+
+fn boxes_of(cuts: &[Vec<i32>], start: (i32, i32)) -> Draft {
+    let mut draft = grid(cuts, |_| vec![1; 6]);
+    draft.locations[0].start = Some(vec![start.0, start.1, 0, 0, 0, 0]);
+    draft
+}
+
+/// The least whole number whose square is at least `value`, or one less if `value` is no
+/// square and `up` is false.
+fn root(value: i32, up: bool) -> i32 {
+    let mut r = 0;
+    while r * r < value {
+        r += 1;
+    }
+    if r * r > value && !up {
+        r - 1
+    } else {
+        r
+    }
+}
+
+/// The two-tank plant of source 000, section 4, on a grid of six by six cells.
+///
+/// How it was made. The report gives equation (1) but no parameters; these are chosen:
+/// levels x1 and x2 run from 0 to 60 and are cut every 10; the pipe's height k3 = 20 lies
+/// on a cut, so each cell has one case of the equation. Rates are in hundredths of a level
+/// per unit of time (a common factor of all rates only changes the unit of time), with
+/// k1 = 5, k2 = k4 = 1, so the plant rests at x2 = 25, x1 = 30. In each cell the flow
+/// through the pipe and the outflow are bounded by their values at the cell's corners,
+/// where the roots have their extremes, rounded outward to whole hundredths: unlike the
+/// report's script this holds for the whole cell. Where x1 - x2 + k3 would be negative
+/// the flow through the pipe is taken as 0 (no flow back).
+///
+/// Start: x1 40..45, x2 5..8. Forbidden: tank 2 at its rim, x2 59..60, in any cell.
+pub fn two_tank() -> Draft {
+    let (k1, k3) = (500, 20);
+    let cuts: Vec<i32> = (0..=6).map(|i| 10 * i).collect();
+    let flow = |h: i32, up: bool| root(10_000 * h.max(0), up);
+    let mut draft = grid(&[cuts.clone(), cuts], |cell| {
+        let (low_1, high_1, low_2, high_2) = (cell[0], cell[1], cell[2], cell[3]);
+        let (least_head, most_head) =
+            if high_2 <= k3 { (low_1, high_1) } else { (low_1 - high_2 + k3, high_1 - low_2 + k3) };
+        let (least_pipe, most_pipe) = (flow(least_head, false), flow(most_head, true));
+        let (least_out, most_out) = (flow(low_2, false), flow(high_2, true));
+        vec![k1 - most_pipe, k1 - least_pipe, least_pipe - most_out, most_pipe - least_out]
+    });
+    draft.locations[4].start = Some(vec![40, 45, 5, 8]);
+    for location in 30..36 {
+        draft.forbidden.push((location, vec![0, 60, 59, 60]));
+    }
+    draft
+}
+
+/// A plant of 64 locations for timing: a grid over n variables (n = 2: 8 by 8; n = 3: 4 by
+/// 4 by 4; n = 6: 2 in each), with cells `width` wide, rates of both signs, the start in
+/// location 0 and nothing forbidden in reach.
+pub fn large_grid(n: usize, width: i32) -> Draft {
+    let per_variable = match n {
+        1 => 64,
+        2 => 8,
+        3 => 4,
+        6 => 2,
+        _ => panic!("64 is no whole power for n = {n}"),
+    };
+    let cuts: Vec<Vec<i32>> = vec![(0..=per_variable).map(|i| i * width).collect(); n];
+    let mut turn = 0;
+    let mut draft = grid(&cuts, |_| {
+        turn += 1;
+        (0..n as i32)
+            .flat_map(|i| {
+                let slow = (turn * 7 + i * 3) % 5 - 2; // -2..2
+                let spread = (turn + i) % 3 + 1; // 1..3
+                [slow, slow + spread]
+            })
+            .collect()
+    });
+    draft.locations[0].start = Some((0..n).flat_map(|_| [0, 1]).collect());
+    // Boxes beyond the invariants: asked about in every search, never touched.
+    for location in 0..draft.locations.len() {
+        draft.forbidden.push((location, vec![-5; 2 * n]));
+    }
+    draft
+}

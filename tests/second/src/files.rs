@@ -1,0 +1,227 @@
+//! Files: fields of a one-byte tag, a two-byte length, a payload; words of four bytes,
+//! highest byte first.
+
+use crate::model::{ask_records, Plant, Sizes};
+use crate::tables::well_formed;
+use crate::Refusal;
+
+pub const HEAD: u8 = 1;
+pub const LOCATION: u8 = 2;
+pub const SWITCH: u8 = 3;
+pub const FORBIDDEN: u8 = 4;
+pub const FACE: u8 = 5;
+pub const TABLE_HEAD: u8 = 6;
+
+/// The bytes of one field.
+pub fn field(tag: u8, words: &[i32]) -> Vec<u8> {
+    let mut bytes = vec![tag];
+    bytes.extend(((4 * words.len()) as u16).to_be_bytes());
+    for word in words {
+        bytes.extend(word.to_be_bytes());
+    }
+    bytes
+}
+
+/// The model file of a model's words (the sizes at the head must fit the list).
+pub fn model_file(words: &[i32]) -> Vec<u8> {
+    let sizes = Sizes {
+        n: words[0] as usize,
+        locations: words[1] as usize,
+        switches: words[2] as usize,
+        forbidden: words[3] as usize,
+    };
+    let mut bytes = field(HEAD, &words[..4]);
+    for l in 0..sizes.locations {
+        bytes.extend(field(LOCATION, &words[sizes.location_at(l)..sizes.location_at(l + 1)]));
+    }
+    for s in 0..sizes.switches {
+        bytes.extend(field(SWITCH, &words[sizes.switch_at(s)..sizes.switch_at(s + 1)]));
+    }
+    for f in 0..sizes.forbidden {
+        bytes.extend(field(FORBIDDEN, &words[sizes.forbidden_at(f)..sizes.forbidden_at(f + 1)]));
+    }
+    bytes
+}
+
+/// A cursor over the bytes of a file.
+struct Cursor<'a> {
+    bytes: &'a [u8],
+}
+
+/// What the next field looks like.
+enum Next<'a> {
+    /// Fewer than three bytes left, or another tag.
+    NotDue,
+    /// The due tag, but another length or not all of the payload.
+    Short,
+    /// The payload.
+    Payload(&'a [u8]),
+}
+
+impl<'a> Cursor<'a> {
+    /// The next field, if it has this tag and a payload of this many words.
+    fn next(&mut self, tag: u8, words: usize) -> Next<'a> {
+        if self.bytes.len() < 3 || self.bytes[0] != tag {
+            return Next::NotDue;
+        }
+        let length = u16::from_be_bytes([self.bytes[1], self.bytes[2]]) as usize;
+        if length != 4 * words || self.bytes.len() - 3 < length {
+            return Next::Short;
+        }
+        let (payload, rest) = self.bytes[3..].split_at(length);
+        self.bytes = rest;
+        Next::Payload(payload)
+    }
+
+    fn ended(&self) -> bool {
+        self.bytes.is_empty()
+    }
+}
+
+fn words_of(payload: &[u8]) -> impl Iterator<Item = i32> + '_ {
+    payload.chunks_exact(4).map(|b| i32::from_be_bytes([b[0], b[1], b[2], b[3]]))
+}
+
+/// Reads a model file into the word buffer and gives how many words it has.
+/// Refused by 6 to 8 or 11 to 19: the whole buffer is zero. Refused by 1 to 5: unchanged.
+pub fn read_model(file: &[u8], buffer: &mut [i32]) -> Result<usize, Refusal> {
+    let mut cursor = Cursor { bytes: file };
+    let Next::Payload(payload) = cursor.next(HEAD, 4) else {
+        return Err(1);
+    };
+    let mut model: Vec<i32> = words_of(payload).collect();
+    let sizes = Sizes::ask(model[0], model[1], model[2], model[3])?;
+    if buffer.len() < sizes.model_words() {
+        return Err(5);
+    }
+    match read_records(&mut cursor, &sizes, &mut model) {
+        Ok(()) => {
+            buffer[..model.len()].copy_from_slice(&model);
+            Ok(model.len())
+        }
+        Err(refusal) => {
+            buffer.fill(0);
+            Err(refusal)
+        }
+    }
+}
+
+/// Questions 6 to 8 and 11 to 19; adds the records' words to the head's.
+fn read_records(cursor: &mut Cursor, sizes: &Sizes, model: &mut Vec<i32>) -> Result<(), Refusal> {
+    let due = [
+        (LOCATION, sizes.locations, sizes.location_words()),
+        (SWITCH, sizes.switches, sizes.switch_words()),
+        (FORBIDDEN, sizes.forbidden, sizes.forbidden_words()),
+    ];
+    for (tag, count, words) in due {
+        for _ in 0..count {
+            match cursor.next(tag, words) {
+                Next::NotDue => return Err(6),
+                Next::Short => return Err(7),
+                Next::Payload(payload) => model.extend(words_of(payload)),
+            }
+        }
+    }
+    if !cursor.ended() {
+        return Err(8);
+    }
+    ask_records(sizes, model)
+}
+
+/// The table file of a well-formed table.
+pub fn table_file(plant: &Plant, table: &[i32]) -> Vec<u8> {
+    let sizes = plant.sizes;
+    let mut count = 0;
+    let mut faces = Vec::new();
+    for l in 0..sizes.locations {
+        for face in 0..sizes.faces() {
+            let words = &table[sizes.face_at(l, face)..][..sizes.face_words()];
+            if words[0] == 1 {
+                count += 1;
+                let mut record = vec![l as i32, face as i32];
+                record.extend(&words[1..]);
+                faces.extend(field(FACE, &record));
+            }
+        }
+    }
+    let mut bytes = field(TABLE_HEAD, &[count]);
+    bytes.extend(faces);
+    bytes
+}
+
+/// Writes a table file into the byte buffer and gives how many bytes it has.
+/// The rest of the buffer is unchanged; a refusal changes nothing.
+pub fn write_table(model: &[i32], list: &[i32], buffer: &mut [u8]) -> Result<usize, Refusal> {
+    let plant = Plant::from_words(model)?;
+    let size = plant.sizes.table_words();
+    if list.len() < size {
+        return Err(20);
+    }
+    let table = &list[..size];
+    if !well_formed(&plant, table) {
+        return Err(32);
+    }
+    if buffer.len() < plant.sizes.table_file_room() {
+        return Err(39);
+    }
+    let file = table_file(&plant, table);
+    buffer[..file.len()].copy_from_slice(&file);
+    Ok(file.len())
+}
+
+/// Reads a table file into the word buffer and gives how many words the table has.
+/// Refused by 32 or 35 to 38: the whole buffer is zero. Any other refusal: unchanged.
+pub fn read_table(model: &[i32], file: &[u8], buffer: &mut [i32]) -> Result<usize, Refusal> {
+    let plant = Plant::from_words(model)?;
+    let size = plant.sizes.table_words();
+    if buffer.len() < size {
+        return Err(20);
+    }
+    match parse_table(&plant, file) {
+        Ok(table) => {
+            buffer[..size].copy_from_slice(&table);
+            Ok(size)
+        }
+        Err(refusal) => {
+            buffer.fill(0);
+            Err(refusal)
+        }
+    }
+}
+
+/// Questions 35 to 38, then 32; the table's words.
+pub fn parse_table(plant: &Plant, file: &[u8]) -> Result<Vec<i32>, Refusal> {
+    let sizes = plant.sizes;
+    let mut cursor = Cursor { bytes: file };
+    let Next::Payload(payload) = cursor.next(TABLE_HEAD, 1) else {
+        return Err(35);
+    };
+    let count = words_of(payload).next().unwrap();
+    if count < 0 || count as usize > sizes.faces() * sizes.locations {
+        return Err(35);
+    }
+    let mut table = vec![0; sizes.table_words()];
+    let mut before: Option<(i32, i32)> = None;
+    for _ in 0..count {
+        let Next::Payload(payload) = cursor.next(FACE, 2 + 2 * sizes.n) else {
+            return Err(36);
+        };
+        let record: Vec<i32> = words_of(payload).collect();
+        let (l, face) = (record[0], record[1]);
+        let exists = (0..sizes.locations as i32).contains(&l) && (0..sizes.faces() as i32).contains(&face);
+        if !exists || before.is_some_and(|earlier| (l, face) <= earlier) {
+            return Err(37);
+        }
+        before = Some((l, face));
+        let words = &mut table[sizes.face_at(l as usize, face as usize)..][..sizes.face_words()];
+        words[0] = 1;
+        words[1..].copy_from_slice(&record[2..]);
+    }
+    if !cursor.ended() {
+        return Err(38);
+    }
+    if !well_formed(plant, &table) {
+        return Err(32);
+    }
+    Ok(table)
+}

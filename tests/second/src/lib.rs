@@ -1,0 +1,44 @@
+//! A second implementation of the plant checker.
+//!
+//! Written from document 01 and the readings alone, to be compared with the
+//! program under test. It uses the standard library only.
+//!
+//! * `model`     – sizes, model words, questions 2 to 5 and 11 to 19
+//! * `fraction`  – exact fractions
+//! * `delays`    – delays to a wall; touching by one delay for all variables
+//! * `steps`     – wall step, switch step, join
+//! * `tables`    – words per location, question 32, the pass
+//! * `ceiling`, `checker`, `analysis`, `desk`, `files`, `host`, `listing`
+//! * `calls`     – every public call as a function from values to values
+//! * `draft`     – a model in the making, and grids of cells
+//! * `plain`     – a slow, literal pass and touching, to check the quick ones
+//! * `simulate`  – random runs, from the section "Runs" alone
+//! * `generate`  – random models and damaged inputs; `random` is its number source
+//! * `examples`  – document 01's plant P, source 000's examples
+//! * `compare`   – compares two implementations of the host calls
+//! * `host_ffi`  – the C calls of libhost.a (feature `host`), or a stand-in
+
+pub mod analysis;
+pub mod calls;
+pub mod ceiling;
+pub mod checker;
+pub mod compare;
+pub mod delays;
+pub mod desk;
+pub mod draft;
+pub mod examples;
+pub mod files;
+pub mod fraction;
+pub mod generate;
+pub mod host;
+pub mod host_ffi;
+pub mod listing;
+pub mod model;
+pub mod plain;
+pub mod random;
+pub mod simulate;
+pub mod steps;
+pub mod tables;
+
+/// A refusal: the number of the first question that was answered no.
+pub type Refusal = u32;

@@ -1,0 +1,258 @@
+//! The plant model as a list of signed 32-bit words, and the questions asked of it.
+
+use crate::Refusal;
+
+/// Levels lie in -LEVEL..LEVEL.
+pub const LEVEL: i32 = 1_000_000;
+/// Rates lie in -RATE..RATE.
+pub const RATE: i32 = 1_000;
+pub const MAX_VARIABLES: usize = 6;
+pub const MAX_LOCATIONS: usize = 64;
+pub const MAX_SWITCHES: usize = 128;
+pub const MAX_FORBIDDEN: usize = 64;
+/// Room for the bounds of one box of the largest n.
+pub const MAX_BOX: usize = 2 * MAX_VARIABLES;
+
+/// Table words of one location, for n = 1 to 6.
+pub const WORDS_PER_LOCATION: [usize; 6] = [6, 20, 42, 72, 110, 156];
+
+/// The four numbers at the head of a model, once they have been allowed.
+#[derive(Clone, Copy, Debug, PartialEq, Eq)]
+pub struct Sizes {
+    pub n: usize,
+    pub locations: usize,
+    pub switches: usize,
+    pub forbidden: usize,
+}
+
+impl Sizes {
+    /// Questions 2, 3 and 4 of the head's four words.
+    pub fn ask(n: i32, l: i32, e: i32, b: i32) -> Result<Sizes, Refusal> {
+        if !(1..=MAX_VARIABLES as i32).contains(&n) {
+            return Err(2);
+        }
+        if !(1..=MAX_LOCATIONS as i32).contains(&l) {
+            return Err(3);
+        }
+        if !(0..=MAX_SWITCHES as i32).contains(&e) || !(0..=MAX_FORBIDDEN as i32).contains(&b) {
+            return Err(4);
+        }
+        Ok(Sizes { n: n as usize, locations: l as usize, switches: e as usize, forbidden: b as usize })
+    }
+
+    pub fn location_words(&self) -> usize {
+        6 * self.n + 1
+    }
+    pub fn switch_words(&self) -> usize {
+        6 + 4 * self.n
+    }
+    pub fn forbidden_words(&self) -> usize {
+        1 + 2 * self.n
+    }
+    /// Place of the first word of location l.
+    pub fn location_at(&self, l: usize) -> usize {
+        4 + l * self.location_words()
+    }
+    /// Place of the first word of switch s.
+    pub fn switch_at(&self, s: usize) -> usize {
+        self.location_at(self.locations) + s * self.switch_words()
+    }
+    /// Place of the first word of forbidden box f.
+    pub fn forbidden_at(&self, f: usize) -> usize {
+        self.switch_at(self.switches) + f * self.forbidden_words()
+    }
+    /// Words of the whole model.
+    pub fn model_words(&self) -> usize {
+        self.forbidden_at(self.forbidden)
+    }
+    /// Faces of one location.
+    pub fn faces(&self) -> usize {
+        2 * self.n
+    }
+    /// Words of one face: the flag, then a low and a high for each variable.
+    pub fn face_words(&self) -> usize {
+        1 + 2 * self.n
+    }
+    /// Words of a whole table.
+    pub fn table_words(&self) -> usize {
+        self.locations * WORDS_PER_LOCATION[self.n - 1]
+    }
+    /// Place of the flag of a face in a table.
+    pub fn face_at(&self, l: usize, face: usize) -> usize {
+        l * WORDS_PER_LOCATION[self.n - 1] + face * self.face_words()
+    }
+    /// Bytes that a table file can need at most (question 39).
+    pub fn table_file_room(&self) -> usize {
+        7 + self.locations * 2 * self.n * (11 + 8 * self.n)
+    }
+}
+
+/// A model that has passed its questions, over its own words only.
+#[derive(Clone, Copy, Debug)]
+pub struct Plant<'a> {
+    pub sizes: Sizes,
+    words: &'a [i32],
+}
+
+#[derive(Clone, Copy, Debug)]
+pub struct Location<'a> {
+    pub invariant: &'a [i32],
+    pub rates: &'a [i32],
+    pub started: bool,
+    pub start: &'a [i32],
+}
+
+#[derive(Clone, Copy, Debug)]
+pub struct Switch<'a> {
+    pub source: usize,
+    pub target: usize,
+    pub d: usize,
+    pub source_side: usize,
+    pub target_side: usize,
+    pub mask: u32,
+    pub guard: &'a [i32],
+    pub reset: &'a [i32],
+}
+
+#[derive(Clone, Copy, Debug)]
+pub struct Forbidden<'a> {
+    pub location: usize,
+    pub bounds: &'a [i32],
+}
+
+impl<'a> Plant<'a> {
+    /// All questions of a model given as words: 5 under four words, then 2 to 5, 11 to 19.
+    pub fn from_words(list: &'a [i32]) -> Result<Plant<'a>, Refusal> {
+        if list.len() < 4 {
+            return Err(5);
+        }
+        let sizes = Sizes::ask(list[0], list[1], list[2], list[3])?;
+        if list.len() < sizes.model_words() {
+            return Err(5);
+        }
+        let words = &list[..sizes.model_words()];
+        ask_records(&sizes, words)?;
+        Ok(Plant { sizes, words })
+    }
+
+    /// The model's own words.
+    pub fn words(&self) -> &'a [i32] {
+        self.words
+    }
+
+    pub fn location(&self, l: usize) -> Location<'a> {
+        let two_n = 2 * self.sizes.n;
+        let record = &self.words[self.sizes.location_at(l)..][..self.sizes.location_words()];
+        Location {
+            invariant: &record[..two_n],
+            rates: &record[two_n..2 * two_n],
+            started: record[2 * two_n] == 1,
+            start: &record[2 * two_n + 1..],
+        }
+    }
+
+    pub fn switch(&self, s: usize) -> Switch<'a> {
+        let two_n = 2 * self.sizes.n;
+        let record = &self.words[self.sizes.switch_at(s)..][..self.sizes.switch_words()];
+        Switch {
+            source: record[0] as usize,
+            target: record[1] as usize,
+            d: record[2] as usize,
+            source_side: record[3] as usize,
+            target_side: record[4] as usize,
+            mask: record[5] as u32,
+            guard: &record[6..6 + two_n],
+            reset: &record[6 + two_n..],
+        }
+    }
+
+    pub fn forbidden(&self, f: usize) -> Forbidden<'a> {
+        let record = &self.words[self.sizes.forbidden_at(f)..][..self.sizes.forbidden_words()];
+        Forbidden { location: record[0] as usize, bounds: &record[1..] }
+    }
+}
+
+/// Every low at most its high, and all within least..most.
+fn ordered_in_range(bounds: &[i32], least: i32, most: i32) -> bool {
+    bounds.chunks_exact(2).all(|r| least <= r[0] && r[0] <= r[1] && r[1] <= most)
+}
+
+/// Every low at most its high, and all inside the outer box.
+pub fn ordered_inside(bounds: &[i32], outer: &[i32]) -> bool {
+    bounds.chunks_exact(2).zip(outer.chunks_exact(2)).all(|(r, o)| o[0] <= r[0] && r[0] <= r[1] && r[1] <= o[1])
+}
+
+/// Questions 11 to 19, record by record. `words` are the model's words, of the right length.
+pub fn ask_records(sizes: &Sizes, words: &[i32]) -> Result<(), Refusal> {
+    let n = sizes.n;
+    let two_n = 2 * n;
+    let invariant_of = |l: usize| &words[sizes.location_at(l)..][..two_n];
+
+    for l in 0..sizes.locations {
+        let record = &words[sizes.location_at(l)..][..sizes.location_words()];
+        let invariant = &record[..two_n];
+        let rates = &record[two_n..2 * two_n];
+        let flag = record[2 * two_n];
+        let start = &record[2 * two_n + 1..];
+        if !ordered_in_range(invariant, -LEVEL, LEVEL) {
+            return Err(11);
+        }
+        if !ordered_in_range(rates, -RATE, RATE) {
+            return Err(12);
+        }
+        let start_stands = match flag {
+            0 => start.iter().all(|&w| w == 0),
+            1 => ordered_inside(start, invariant),
+            _ => false,
+        };
+        if !start_stands {
+            return Err(13);
+        }
+    }
+
+    for s in 0..sizes.switches {
+        let record = &words[sizes.switch_at(s)..][..sizes.switch_words()];
+        let (source, target, d) = (record[0], record[1], record[2]);
+        let (source_side, target_side, mask) = (record[3], record[4], record[5]);
+        let guard = &record[6..6 + two_n];
+        let reset = &record[6 + two_n..];
+        let location_exists = |l: i32| 0 <= l && (l as usize) < sizes.locations;
+        let side_exists = |side: i32| side == 0 || side == 1;
+        if !(location_exists(source)
+            && location_exists(target)
+            && 0 <= d
+            && (d as usize) < n
+            && side_exists(source_side)
+            && side_exists(target_side)
+            && 0 <= mask
+            && mask < 1 << n)
+        {
+            return Err(14);
+        }
+        if !ordered_in_range(guard, -LEVEL, LEVEL) || !ordered_in_range(reset, -LEVEL, LEVEL) {
+            return Err(15);
+        }
+        if (0..n).any(|i| mask >> i & 1 == 1 && reset[2 * i] != reset[2 * i + 1]) {
+            return Err(16);
+        }
+        let d = d as usize;
+        let source_wall = invariant_of(source as usize)[2 * d + source_side as usize];
+        let target_wall = invariant_of(target as usize)[2 * d + target_side as usize];
+        if guard[2 * d] != source_wall || guard[2 * d + 1] != source_wall {
+            return Err(17);
+        }
+        let arrives = if mask >> d & 1 == 1 { reset[2 * d] } else { source_wall };
+        if arrives != target_wall {
+            return Err(18);
+        }
+    }
+
+    for f in 0..sizes.forbidden {
+        let record = &words[sizes.forbidden_at(f)..][..sizes.forbidden_words()];
+        let location_exists = 0 <= record[0] && (record[0] as usize) < sizes.locations;
+        if !location_exists || !ordered_in_range(&record[1..], -LEVEL, LEVEL) {
+            return Err(19);
+        }
+    }
+    Ok(())
+}

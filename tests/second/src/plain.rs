@@ -1,0 +1,230 @@
+//! A slow, literal pass and touching over lists of ranges, to check the quick ones.
+//!
+//! The delays to a wall are found here from their meaning, not from document 01's cases:
+//! t is a delay to wall b exactly if p + a·t ≤ b ≤ q + c·t. The ends of the set of such
+//! t ≥ 0 are 0 or a t with equality, or the set has no last member.
+
+use crate::model::Plant;
+
+/// A low and a high for each variable.
+pub type Ranges = Vec<(i64, i64)>;
+/// One entry for each location and face; None is an absent face.
+pub type Faces = Vec<Vec<Option<Ranges>>>;
+
+/// num/den with den > 0.
+type Ratio = (i128, i128);
+
+fn ranges(bounds: &[i32]) -> Ranges {
+    bounds.chunks_exact(2).map(|r| (r[0] as i64, r[1] as i64)).collect()
+}
+
+/// The table's words as faces.
+pub fn from_words(plant: &Plant, table: &[i32]) -> Faces {
+    let sizes = plant.sizes;
+    (0..sizes.locations)
+        .map(|l| {
+            (0..2 * sizes.n)
+                .map(|face| {
+                    let place = (l * 2 * sizes.n + face) * (1 + 2 * sizes.n);
+                    (table[place] == 1).then(|| ranges(&table[place + 1..][..2 * sizes.n]))
+                })
+                .collect()
+        })
+        .collect()
+}
+
+/// The faces as the table's words.
+pub fn to_words(plant: &Plant, faces: &Faces) -> Vec<i32> {
+    let mut words = Vec::new();
+    for face in faces.iter().flatten() {
+        match face {
+            None => words.extend(vec![0; 1 + 2 * plant.sizes.n]),
+            Some(held) => {
+                words.push(1);
+                for &(low, high) in held {
+                    words.push(low as i32);
+                    words.push(high as i32);
+                }
+            }
+        }
+    }
+    words
+}
+
+/// The value p + rate·t, as a ratio over t's denominator.
+fn after(p: i64, rate: i64, t: Ratio) -> Ratio {
+    (p as i128 * t.1 + rate as i128 * t.0, t.1)
+}
+
+fn at_most(value: Ratio, bound: i64) -> bool {
+    value.0 <= bound as i128 * value.1
+}
+
+fn at_least(value: Ratio, bound: i64) -> bool {
+    value.0 >= bound as i128 * value.1
+}
+
+fn less(x: Ratio, y: Ratio) -> bool {
+    x.0 * y.1 < y.0 * x.1
+}
+
+/// The t ≥ 0 with p + rate·t = value, if there is exactly one.
+fn equality(p: i64, rate: i64, value: i64) -> Option<Ratio> {
+    let way = value as i128 - p as i128;
+    let rate = rate as i128;
+    let t = if rate > 0 { (way, rate) } else { (-way, -rate) };
+    (rate != 0 && t.0 >= 0).then_some(t)
+}
+
+/// First and last delay to the wall; the last is None if there is no last. None if no delay.
+pub fn delays((p, q): (i64, i64), (a, c): (i64, i64), b: i64) -> Option<(Ratio, Option<Ratio>)> {
+    let good = |t: Ratio| at_most(after(p, a, t), b) && at_least(after(q, c, t), b);
+    let mut trials: Vec<Ratio> = vec![(0, 1)];
+    trials.extend(equality(p, a, b));
+    trials.extend(equality(q, c, b));
+    trials.retain(|&t| good(t));
+    let first = trials.iter().copied().reduce(|x, y| if less(y, x) { y } else { x })?;
+    // All equalities lie below 10^7, so a good t beyond that means that there is no last.
+    if good((10_000_000, 1)) {
+        return Some((first, None));
+    }
+    let last = trials.iter().copied().reduce(|x, y| if less(x, y) { y } else { x })?;
+    Some((first, Some(last)))
+}
+
+/// The wall step by its meaning: least and greatest values over the delays.
+pub fn wall_step(part: &Ranges, rates: &Ranges, invariant: &Ranges, d: usize, b: i64) -> Option<Ranges> {
+    let (first, last) = delays(part[d], rates[d], b)?;
+    let mut out = Vec::new();
+    for i in 0..part.len() {
+        let (least, most) = invariant[i];
+        let (mut low, mut high) = (b, b);
+        if i != d {
+            let ((p, q), (a, c)) = (part[i], rates[i]);
+            let floor = |t: Ratio| {
+                let (num, den) = after(p, a, t);
+                num.div_euclid(den) as i64
+            };
+            let roof = |t: Ratio| {
+                let (num, den) = after(q, c, t);
+                -((-num).div_euclid(den)) as i64
+            };
+            // A line's least value over an interval is at one of its ends.
+            (low, high) = match last {
+                Some(last) => (floor(first).min(floor(last)), roof(first).max(roof(last))),
+                None => (if a < 0 { least } else { floor(first) }, if c > 0 { most } else { roof(first) }),
+            };
+        }
+        (low, high) = (low.max(least), high.min(most));
+        if low > high {
+            return None;
+        }
+        out.push((low, high));
+    }
+    Some(out)
+}
+
+/// The smallest box holding both.
+fn hull(held: &Option<Ranges>, new: &Ranges) -> Option<Ranges> {
+    Some(match held {
+        None => new.clone(),
+        Some(held) => held.iter().zip(new).map(|(x, y)| (x.0.min(y.0), x.1.max(y.1))).collect(),
+    })
+}
+
+fn cut(x: &Ranges, y: &Ranges) -> Option<Ranges> {
+    let both: Ranges = x.iter().zip(y).map(|(x, y)| (x.0.max(y.0), x.1.min(y.1))).collect();
+    both.iter().all(|r| r.0 <= r.1).then_some(both)
+}
+
+/// The parts of location l: the start box under flag 1 and the present faces.
+pub fn parts(plant: &Plant, faces: &Faces, l: usize) -> Vec<Ranges> {
+    let location = plant.location(l);
+    let mut parts = Vec::new();
+    if location.started {
+        parts.push(ranges(location.start));
+    }
+    parts.extend(faces[l].iter().flatten().cloned());
+    parts
+}
+
+/// One pass.
+pub fn pass(plant: &Plant, old: &Faces) -> Faces {
+    let n = plant.sizes.n;
+    let mut new = old.clone();
+    for l in 0..plant.sizes.locations {
+        let location = plant.location(l);
+        let invariant = ranges(location.invariant);
+        for part in parts(plant, old, l) {
+            for d in 0..n {
+                for (side, b) in [invariant[d].0, invariant[d].1].into_iter().enumerate() {
+                    if let Some(reached) = wall_step(&part, &ranges(location.rates), &invariant, d, b) {
+                        new[l][2 * d + side] = hull(&new[l][2 * d + side], &reached);
+                    }
+                }
+            }
+        }
+    }
+    for s in 0..plant.sizes.switches {
+        let switch = plant.switch(s);
+        let Some(face) = &old[switch.source][2 * switch.d + switch.source_side] else {
+            continue;
+        };
+        let Some(mut moved) = cut(face, &ranges(switch.guard)) else {
+            continue;
+        };
+        let reset = ranges(switch.reset);
+        for i in 0..n {
+            if switch.mask & (1 << i) != 0 {
+                moved[i] = reset[i];
+            }
+        }
+        let invariant = ranges(plant.location(switch.target).invariant);
+        let Some(landed) = cut(&moved, &reset).and_then(|moved| cut(&moved, &invariant)) else {
+            continue;
+        };
+        let held = &mut new[switch.target][2 * switch.d + switch.target_side];
+        *held = hull(held, &landed);
+    }
+    new
+}
+
+/// Touching by intersecting the times that each condition allows.
+pub fn touches(part: &Ranges, rates: &Ranges, invariant: &Ranges, bounds: &Ranges) -> bool {
+    let Some(bounds) = cut(bounds, invariant) else {
+        return false;
+    };
+    let mut from: Ratio = (0, 1);
+    let mut until: Option<Ratio> = None;
+    for i in 0..part.len() {
+        // room + slope·t ≥ 0 for both conditions
+        let conditions = [(bounds[i].1 - part[i].0, -rates[i].0), (part[i].1 - bounds[i].0, rates[i].1)];
+        for (room, slope) in conditions {
+            let (room, slope) = (room as i128, slope as i128);
+            if slope == 0 && room < 0 {
+                return false;
+            }
+            if slope > 0 && less(from, (-room, slope)) {
+                from = (-room, slope);
+            }
+            if slope < 0 {
+                let end = (room, -slope);
+                if until.is_none_or(|until| less(end, until)) {
+                    until = Some(end);
+                }
+            }
+        }
+    }
+    until.is_none_or(|until| !less(until, from))
+}
+
+/// Some part touches a forbidden box of its location.
+pub fn forbidden_touched(plant: &Plant, faces: &Faces) -> bool {
+    (0..plant.sizes.forbidden).any(|f| {
+        let forbidden = plant.forbidden(f);
+        let location = plant.location(forbidden.location);
+        parts(plant, faces, forbidden.location)
+            .iter()
+            .any(|part| touches(part, &ranges(location.rates), &ranges(location.invariant), &ranges(forbidden.bounds)))
+    })
+}

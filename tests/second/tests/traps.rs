@@ -1,0 +1,372 @@
+//! Does the comparison find wrong programs? A third, literal decider in which one mistake
+//! at a time can be switched on (document 01's traps and others); each must be found within
+//! few random models, and the decider without a mistake must agree.
+
+use std::cell::Cell;
+
+use second::compare::{Comparison, Tested};
+use second::files::{parse_table, table_file};
+use second::host;
+use second::model::Plant;
+
+const NONE: u8 = 0;
+const ROUNDS_TOWARDS_ZERO: u8 = 1;
+const FAST_RATE_FOR_LATEST: u8 = 2;
+const DROPS_DELAY_ZERO: u8 = 3;
+const READS_NEW_FACES: u8 = 4;
+const DELAY_FOR_EACH_VARIABLE: u8 = 5;
+const ENDLESS_UNBOUNDS_ALL: u8 = 6;
+const ENDLESS_BEFORE_NONE: u8 = 7;
+const CUTS_BEFORE_ROUNDING: u8 = 8;
+const LANDS_WITHOUT_GUARD: u8 = 9;
+const LANDS_WITHOUT_RESET_BOX: u8 = 10;
+const LANDS_OUTSIDE_TARGET: u8 = 11;
+const FORGETS_MASK: u8 = 12;
+const FORBIDDEN_NOT_CUT: u8 = 13;
+const SAFE_BEFORE_UNKNOWN: u8 = 14;
+const NO_LAST_PASS: u8 = 15;
+const SKIPS_OWN_WALL: u8 = 16;
+const STARTS_UNDER_FLAG_ZERO: u8 = 17;
+const LANDS_ON_THE_OTHER_SIDE: u8 = 18;
+const CHECKS_WITHOUT_STARTS: u8 = 19;
+const TRAPS: u8 = 19;
+
+thread_local! {
+    /// The mistake that is switched on.
+    static TRAP: Cell<u8> = const { Cell::new(NONE) };
+}
+
+fn on(trap: u8) -> bool {
+    TRAP.get() == trap
+}
+
+type Ranges = Vec<(i64, i64)>;
+type Faces = Vec<Vec<Option<Ranges>>>;
+
+fn ranges(bounds: &[i32]) -> Ranges {
+    bounds.chunks(2).map(|r| (r[0] as i64, r[1] as i64)).collect()
+}
+
+fn cut(x: &Ranges, y: &Ranges) -> Option<Ranges> {
+    let both: Ranges = x.iter().zip(y).map(|(x, y)| (x.0.max(y.0), x.1.min(y.1))).collect();
+    both.iter().all(|r| r.0 <= r.1).then_some(both)
+}
+
+type Time = (i64, i64);
+
+/// Earliest and latest (None: endless).
+fn delays(p: i64, q: i64, a: i64, c: i64, b: i64) -> Option<(Time, Option<Time>)> {
+    let none = (b < p && a >= 0) || (b > q && c <= 0);
+    let endless = (a <= 0 && 0 <= c) || (b < p && c >= 0) || (b > q && a <= 0);
+    if on(ENDLESS_BEFORE_NONE) && none && endless {
+        return Some(((0, 1), None));
+    }
+    if none || (on(DROPS_DELAY_ZERO) && p <= b && b <= q) {
+        return None;
+    }
+    let first = if b < p {
+        (p - b, -a)
+    } else if b > q {
+        (b - q, c)
+    } else {
+        (0, 1)
+    };
+    let last = if endless {
+        None
+    } else if c < 0 {
+        Some((q - b, if on(FAST_RATE_FOR_LATEST) { -a } else { -c }))
+    } else {
+        Some((b - p, if on(FAST_RATE_FOR_LATEST) { c } else { a }))
+    };
+    Some((first, last))
+}
+
+fn wall_step(part: &Ranges, rates: &Ranges, inv: &Ranges, d: usize, b: i64) -> Option<Ranges> {
+    let (first, last) = delays(part[d].0, part[d].1, rates[d].0, rates[d].1, b)?;
+    let mut out = Vec::new();
+    for i in 0..part.len() {
+        if i == d {
+            out.push((b, b));
+            continue;
+        }
+        let ((p, q), (a, c)) = (part[i], rates[i]);
+        let value = |x: i64, rate: i64, t: Time| (x * t.1 + rate * t.0, t.1);
+        let low = if a < 0 { last.map(|t| value(p, a, t)) } else { Some(value(p, a, first)) };
+        let high = if c > 0 { last.map(|t| value(q, c, t)) } else { Some(value(q, c, first)) };
+        let (mut low, mut high) = (low, high);
+        if on(ENDLESS_UNBOUNDS_ALL) && last.is_none() {
+            (low, high) = (None, None);
+        }
+        if on(CUTS_BEFORE_ROUNDING) {
+            let beyond = low.is_some_and(|v| v.0 > inv[i].1 * v.1) || high.is_some_and(|v| v.0 < inv[i].0 * v.1);
+            if beyond {
+                return None;
+            }
+        }
+        let floor = |v: (i64, i64)| if on(ROUNDS_TOWARDS_ZERO) { v.0 / v.1 } else { v.0.div_euclid(v.1) };
+        let roof = |v: (i64, i64)| if on(ROUNDS_TOWARDS_ZERO) { v.0 / v.1 } else { -(-v.0).div_euclid(v.1) };
+        out.push((low.map_or(inv[i].0, floor), high.map_or(inv[i].1, roof)));
+    }
+    cut(&out, inv)
+}
+
+fn join(held: &mut Option<Ranges>, new: Ranges) {
+    *held = Some(match held {
+        None => new,
+        Some(held) => held.iter().zip(&new).map(|(x, y)| (x.0.min(y.0), x.1.max(y.1))).collect(),
+    });
+}
+
+fn start(plant: &Plant, l: usize) -> Option<Ranges> {
+    let location = plant.location(l);
+    (location.started || on(STARTS_UNDER_FLAG_ZERO)).then(|| ranges(location.start))
+}
+
+fn pass(plant: &Plant, before: &Faces, starts: bool) -> Faces {
+    let n = plant.sizes.n;
+    let mut new = before.clone();
+    for l in 0..plant.sizes.locations {
+        let location = plant.location(l);
+        let (rates, inv) = (ranges(location.rates), ranges(location.invariant));
+        for number in 0..=2 * n {
+            let part = if number == 0 {
+                start(plant, l).filter(|_| starts)
+            } else if on(READS_NEW_FACES) {
+                new[l][number - 1].clone()
+            } else {
+                before[l][number - 1].clone()
+            };
+            let Some(part) = part else { continue };
+            for face in 0..2 * n {
+                if on(SKIPS_OWN_WALL) && face + 1 == number {
+                    continue;
+                }
+                let b = location.invariant[face] as i64;
+                if let Some(reached) = wall_step(&part, &rates, &inv, face / 2, b) {
+                    join(&mut new[l][face], reached);
+                }
+            }
+        }
+    }
+    for s in 0..plant.sizes.switches {
+        let switch = plant.switch(s);
+        let from = if on(READS_NEW_FACES) { &new } else { before };
+        let Some(face) = from[switch.source][2 * switch.d + switch.source_side].clone() else { continue };
+        let guard = ranges(switch.guard);
+        let moved = if on(LANDS_WITHOUT_GUARD) { Some(face) } else { cut(&face, &guard) };
+        let Some(mut moved) = moved else { continue };
+        let reset = ranges(switch.reset);
+        for i in 0..n {
+            if switch.mask >> i & 1 == 1 && !on(FORGETS_MASK) {
+                moved[i] = reset[i];
+            }
+        }
+        let inv = ranges(plant.location(switch.target).invariant);
+        let mut landed = Some(moved);
+        if !on(LANDS_WITHOUT_RESET_BOX) {
+            landed = landed.and_then(|moved| cut(&moved, &reset));
+        }
+        if !on(LANDS_OUTSIDE_TARGET) {
+            landed = landed.and_then(|moved| cut(&moved, &inv));
+        }
+        let Some(landed) = landed else { continue };
+        let side = if on(LANDS_ON_THE_OTHER_SIDE) && inv[switch.d].0 == inv[switch.d].1 {
+            1 - switch.target_side
+        } else {
+            switch.target_side
+        };
+        join(&mut new[switch.target][2 * switch.d + side], landed);
+    }
+    new
+}
+
+/// The t from `from` to `until` (None: no end) that satisfy both conditions of one variable.
+fn times(part: (i64, i64), rate: (i64, i64), bounds: (i64, i64)) -> Option<(Time, Option<Time>)> {
+    let (mut from, mut until): (Time, Option<Time>) = ((0, 1), None);
+    for (room, slope) in [(bounds.1 - part.0, -rate.0), (part.1 - bounds.0, rate.1)] {
+        if slope == 0 && room < 0 {
+            return None;
+        }
+        if slope > 0 && -room * from.1 > from.0 * slope {
+            from = (-room, slope);
+        }
+        if slope < 0 && until.is_none_or(|u: Time| room * u.1 < u.0 * -slope) {
+            until = Some((room, -slope));
+        }
+    }
+    until.is_none_or(|u| from.0 * u.1 <= u.0 * from.1).then_some((from, until))
+}
+
+fn touches(part: &Ranges, rates: &Ranges, inv: &Ranges, bounds: &Ranges) -> bool {
+    let bounds = if on(FORBIDDEN_NOT_CUT) { Some(bounds.clone()) } else { cut(bounds, inv) };
+    let Some(bounds) = bounds else { return false };
+    let (mut from, mut until): (Time, Option<Time>) = ((0, 1), None);
+    for i in 0..part.len() {
+        let Some((first, last)) = times(part[i], rates[i], bounds[i]) else { return false };
+        if first.0 * from.1 > from.0 * first.1 {
+            from = first;
+        }
+        if let Some(last) = last {
+            if until.is_none_or(|u| last.0 * u.1 < u.0 * last.1) {
+                until = Some(last);
+            }
+        }
+    }
+    on(DELAY_FOR_EACH_VARIABLE) || until.is_none_or(|u| from.0 * u.1 <= u.0 * from.1)
+}
+
+fn touched(plant: &Plant, faces: &Faces, starts: bool) -> bool {
+    (0..plant.sizes.forbidden).any(|f| {
+        let forbidden = plant.forbidden(f);
+        let location = plant.location(forbidden.location);
+        let parts = start(plant, forbidden.location)
+            .filter(|_| starts)
+            .into_iter()
+            .chain(faces[forbidden.location].iter().flatten().cloned());
+        let (rates, inv) = (ranges(location.rates), ranges(location.invariant));
+        parts.into_iter().any(|part| touches(&part, &rates, &inv, &ranges(forbidden.bounds)))
+    })
+}
+
+fn to_words(plant: &Plant, faces: &Faces) -> Vec<i32> {
+    let mut words = Vec::new();
+    for face in faces.iter().flatten() {
+        words.push(face.is_some() as i32);
+        match face {
+            Some(face) => words.extend(face.iter().flat_map(|r| [r.0 as i32, r.1 as i32])),
+            None => words.extend(vec![0; 2 * plant.sizes.n]),
+        }
+    }
+    words
+}
+
+fn decide(model: &[u8], buffer: &mut [u8], limit: u32) -> u64 {
+    let words = match host::model_words(model) {
+        Ok(words) => words,
+        Err(number) => return (number as u64) << 32,
+    };
+    let plant = Plant::from_words(&words).unwrap();
+    if buffer.len() < plant.sizes.table_file_room() {
+        return 39 << 32;
+    }
+    let mut faces: Faces = vec![vec![None; 2 * plant.sizes.n]; plant.sizes.locations];
+    let mut k = 0;
+    let code = loop {
+        let hit = touched(&plant, &faces, true);
+        let next = pass(&plant, &faces, true);
+        if hit && !(on(SAFE_BEFORE_UNKNOWN) && next == faces) {
+            break 101;
+        }
+        if on(NO_LAST_PASS) && k == limit {
+            break 102;
+        }
+        if next == faces {
+            break 100;
+        }
+        if k == limit {
+            break 102;
+        }
+        k += 1;
+        faces = next;
+    };
+    let file = table_file(&plant, &to_words(&plant, &faces));
+    buffer[..file.len()].copy_from_slice(&file);
+    code << 32 | k as u64
+}
+
+fn check(model: &[u8], table: &[u8]) -> u64 {
+    let words = match host::model_words(model) {
+        Ok(words) => words,
+        Err(number) => return number as u64,
+    };
+    let plant = Plant::from_words(&words).unwrap();
+    let table = match parse_table(&plant, table) {
+        Ok(table) => table,
+        Err(number) => return number as u64,
+    };
+    let starts = !on(CHECKS_WITHOUT_STARTS);
+    let faces = second::plain::from_words(&plant, &table);
+    if pass(&plant, &faces, starts) != faces {
+        return 33;
+    }
+    if touched(&plant, &faces, starts) {
+        return 34;
+    }
+    100
+}
+
+/// How many random models were compared until the mistake was found; None if it was not.
+fn found_after(trap: u8, models: u64) -> Option<u64> {
+    TRAP.set(trap);
+    let tested = Tested { decide, check };
+    let mut comparison = Comparison::new(tested, 77);
+    for number in 0..models {
+        if comparison.random_case(2).is_err() {
+            return Some(number + 1);
+        }
+    }
+    None
+}
+
+#[test]
+fn the_third_decider_without_a_mistake_agrees() {
+    assert_eq!(found_after(NONE, 1_500), None);
+}
+
+#[test]
+fn every_mistake_is_found() {
+    for trap in 1..=TRAPS {
+        let found = found_after(trap, 3_000);
+        println!("mistake {trap}: found with model {found:?}");
+        assert!(found.is_some(), "mistake {trap} is not found");
+    }
+}
+
+/// Wrong treatment of lent memory and numbers.
+#[test]
+fn wrong_memory_and_numbers_are_found() {
+    fn clears_on_refusal(model: &[u8], buffer: &mut [u8], limit: u32) -> u64 {
+        let number = host::decide(model, buffer, limit);
+        if number >> 32 < 100 {
+            buffer.fill(0);
+        }
+        number
+    }
+    fn clears_the_rest(model: &[u8], buffer: &mut [u8], limit: u32) -> u64 {
+        buffer.fill(0);
+        host::decide(model, buffer, limit)
+    }
+    fn no_file_for_unknown(model: &[u8], buffer: &mut [u8], limit: u32) -> u64 {
+        let before = buffer.to_vec();
+        let number = host::decide(model, buffer, limit);
+        if number >> 32 == 101 {
+            buffer.copy_from_slice(&before);
+        }
+        number
+    }
+    fn plain_refusal(model: &[u8], buffer: &mut [u8], limit: u32) -> u64 {
+        let number = host::decide(model, buffer, limit);
+        if number >> 32 < 100 {
+            number >> 32
+        } else {
+            number
+        }
+    }
+    fn eight_for_six(model: &[u8], table: &[u8]) -> u64 {
+        let number = host::check(model, table);
+        if number == 6 {
+            8
+        } else {
+            number
+        }
+    }
+    for wrong in [clears_on_refusal, clears_the_rest, no_file_for_unknown, plain_refusal] {
+        let mut comparison = Comparison::new(Tested { decide: wrong, check: host::check }, 5);
+        assert!(comparison.all(300, 600).is_err());
+    }
+    let mut comparison = Comparison::new(Tested { decide: host::decide, check: eight_for_six }, 5);
+    assert!(comparison.all(300, 600).is_err());
+    // And the right ones are not.
+    let mut comparison = Comparison::new(Tested { decide: host::decide, check: host::check }, 5);
+    comparison.all(300, 600).unwrap();
+}
