@@ -30,7 +30,7 @@ use Rattle.plant.proofs.Passed.{Passed, passed}
 use Rattle.model.specs.Whole as model
 use Rattle.model.proofs.Positions.{head-first, location-within, switch-within, forbidden-within}
 use Rattle.model.proofs.Passing.{whole-passed}
-use Rattle.files.specs.ModelFile.{recordField, modelFile, isField, hasTag, fieldQuestions, runQuestions, headWords, sizesQuestions, headQuestions, switchesFrom, forbiddensFrom, fileEnd, bodyQuestions, runWords, fileWords, ReadOutcome, unlessRefused, zeroed, readRecords, readModelCall}
+use Rattle.files.specs.ModelFile.{recordField, modelFile, isField, hasTag, fieldQuestions, runQuestions, headWords, sizesQuestions, headQuestions, switchesFrom, forbiddensFrom, fileEnd, bodyQuestions, runWords, fileWords, ReadOutcome, unlessRefused, readModelCall}
 use Rattle.files.specs.ModelFilesExact.{wordsRead, IsModelFile, ModelFilesExact}
 use Rattle.files.proofs.Beginning.{records-yes}
 use Rattle.files.proofs.ModelReading.{Due, due, SameHead, same-size, same-ranges, same-body, same-words, same-allowed, same-file, length-file, length-head, length-run, BodyPassed, body-passed, switches-at, forbiddens-at, words-end, sizes-room, past}
@@ -224,7 +224,7 @@ module _ (m : List ℤ) (ok : Passed m) (f : AreWords m) where
   unfolding readModelCall headQuestions
   reads words ranges records room =
       let size : modelSize (headWords s) ≡ modelSize m = same-size (headWords s) m same in
-      past words
+      past _
       (then-intro (ask-intro (isField (fieldAt s 0) 1 16) 1 head-yes)
       (then-intro (same-ranges (headWords s) m same ∙ ranges) (ask-intro (leb (modelSize (headWords s)) (length words)) 5 (le→leb (modelSize (headWords s)) (length words) (omega (arith, size))))))
       (past _ (then-intro (same-body (headWords s) m same s ∙ body-yes) (ap recordsQuestions words-are ∙ front-records records))
@@ -371,8 +371,8 @@ read-is-file : (s : List ℕ) (words : List ℤ) → ((i : ℕ) → getD s i 0 <
 unfolding readModelCall
 read-is-file s words b e =
     let h : List ℤ = headWords s in
-    let x = not-refused (headQuestions s (length words)) words (readRecords s h words) (head-le s (length words)) e in
-    let y = not-refused (bodyQuestions s h then recordsQuestions (fileWords s h)) (zeroed words) _ (then-le _ _ 19 (body-le s h) (records-le (fileWords s h))) (rw (x .1) at e) in
+    let x = not-refused (headQuestions s (length words)) _ _ (head-le s (length words)) e in
+    let y = not-refused (bodyQuestions s h then recordsQuestions (fileWords s h)) _ _ (then-le _ _ 19 (body-le s h) (records-le (fileWords s h))) (rw (x .1) at e) in
     let z : (bodyQuestions s h ≡ 0) × (recordsQuestions (fileWords s h) ≡ 0) = then-both (bodyQuestions s h) (recordsQuestions (fileWords s h)) (y .0) in
     let k = head-passed s (length words) (x .0) in
     rw (x .1 ∙ y .1, take-onto (fileWords s h) words (modelSize h) (length-file s h (length-head s)))
