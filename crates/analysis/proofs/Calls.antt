@@ -18,7 +18,7 @@ use Rattle.plant.specs.Calls.{Reply, refused, answerReply, ceilingBy, ceilingCa
 use Rattle.plant.proofs.Asks.{go, halt, ask-intro, ask-yes, then-intro, then-both}
 use Rattle.plant.proofs.Passed.{passed}
 use Rattle.plant.proofs.Keeps.{after-length}
-use Rattle.analysis.specs.Questions.{tableQuestions}
+use Rattle.analysis.specs.Questions.{certificateQuestions, tableQuestions}
 use Rattle.analysis.proofs.Front.{front, questions-front}
 
 -- ---- the ceiling
@@ -52,23 +52,27 @@ module _ (m t : List ℤ) (size : length t ≡ tableSize m) where
   unfolding unchanged
   unchanged-is = ap (same (pass m t)) (take-all (tableSize m) t (omega arith))
 
+  pub changes : same (pass m t) t ≡ false → 33 ≡ certificateQuestions m t
+  unfolding certificateQuestions orElse
+  changes h = simp (unchanged-is, h)
+
+  module _ (fixed : same (pass m t) t ≡ true) where
+    pub touches : touching m t ≡ true → 34 ≡ certificateQuestions m t
+    unfolding certificateQuestions orElse
+    touches h = simp (unchanged-is, fixed, h)
+
+    pub certified : touching m t ≡ false → 0 ≡ certificateQuestions m t
+    unfolding certificateQuestions orElse
+    certified h = simp (unchanged-is, fixed, h)
+
+module _ (m t : List ℤ) where
   pub not-valid : tableOk m t ≡ false → 32 ≡ tableQuestions m t
   unfolding tableQuestions orElse
   not-valid h = simp h
 
-  module _ (valid : tableOk m t ≡ true) where
-    pub changes : same (pass m t) t ≡ false → 33 ≡ tableQuestions m t
-    unfolding tableQuestions orElse
-    changes h = simp (valid, unchanged-is, h)
-
-    module _ (fixed : same (pass m t) t ≡ true) where
-      pub touches : touching m t ≡ true → 34 ≡ tableQuestions m t
-      unfolding tableQuestions orElse
-      touches h = simp (valid, unchanged-is, fixed, h)
-
-      pub all-three : touching m t ≡ false → 0 ≡ tableQuestions m t
-      unfolding tableQuestions orElse
-      all-three h = simp (valid, unchanged-is, fixed, h)
+  pub valid-asked : {q : ℕ} → tableOk m t ≡ true → q ≡ certificateQuestions m t → q ≡ tableQuestions m t
+  unfolding tableQuestions orElse
+  valid-asked h e = simp (h, e)
 
 -- ---- the checker
 
@@ -93,7 +97,7 @@ module _ (m t : List ℤ) where
 
     module _ (room : tableSize m ≤ length t) (q : ℕ) (e : q ≡ tableQuestions m (front m t)) where
       chain : q ≡ checkerQuestions m t
-      unfolding checkerQuestions tableQuestions
+      unfolding checkerQuestions tableQuestions certificateQuestions
       chain = go refl asks (go refl (long m t 20 room) (e ∙ questions-front m (passed m asks) t))
 
       pub check-table : (q ≡ 0 → ⊥) → refused q ≡ checkCall m t

@@ -18,7 +18,7 @@ use Rattle.plant.specs.Calls.{unchanged}
 use Rattle.plant.proofs.Boxes.{joins-ext}
 use Rattle.plant.proofs.Passed.{Passed, SwitchPassed}
 use Rattle.plant.proofs.Tables.{filled, face-inside, table-ext}
-use Rattle.analysis.specs.Questions.{tableQuestions}
+use Rattle.analysis.specs.Questions.{certificateQuestions, tableQuestions}
 
 -- a part within the first n places
 part-front : (a k n : ℕ) (s : List ℤ) → a + k ≤ n → take k (drop a (take n s)) ≡ take k (drop a s)
@@ -101,5 +101,5 @@ module _ (m : List ℤ) (ok : Passed m) (t : List ℤ) where
   unchanged-front = ap₂ same pass-front (take-take (tableSize m) (tableSize m) t (omega arith))
 
   pub questions-front : tableQuestions m (front m t) ≡ tableQuestions m t
-  unfolding tableQuestions
+  unfolding tableQuestions certificateQuestions
   questions-front = rw (ok-front, unchanged-front, touching-front) refl

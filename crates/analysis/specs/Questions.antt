@@ -7,9 +7,14 @@ use Rattle.plant.specs.Ask.{ask, _then_}
 use Rattle.plant.specs.Tables.{tableOk, touching}
 use Rattle.plant.specs.Calls.{unchanged}
 
+-- 33 and 34, asked of a model that passes and of a table that passes 32
+unfoldable pub certificateQuestions : List ℤ → List ℤ → ℕ
+certificateQuestions m t =
+    ask (unchanged m t) 33
+    then ask (not (touching m t)) 34
+
 -- 32 to 34, asked of a model that passes and of words that are enough for a table
 unfoldable pub tableQuestions : List ℤ → List ℤ → ℕ
 tableQuestions m t =
     ask (tableOk m t) 32
-    then ask (unchanged m t) 33
-    then ask (not (touching m t)) 34
+    then certificateQuestions m t

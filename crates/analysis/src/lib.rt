@@ -2,23 +2,14 @@
 ghost use mathlib.Core.Path.{_≡_};
 ghost use mathlib.Core.Bool.{true};
 ghost use Rattle.integers.specs.Words.{same};
-ghost use Rattle.plant.specs.Questions.{modelQuestions};
-ghost use Rattle.plant.specs.Tables.{tableSize, tableOk, pass};
+ghost use Rattle.plant.specs.Tables.{tableOk, pass};
 ghost use Rattle.plant.specs.Calls as C;
 ghost use Rattle.plant.specs.Calls.{Analysed, answerReply, verdictReply, ceilingReply, ceilingCall, checkCall, answerTable, analysisQuestions, answered, analyseCall};
 ghost use Rattle.analysis.specs.Ready.{Sized};
-ghost use Rattle.analysis.specs.Questions.{tableQuestions};
+ghost use Rattle.analysis.specs.Questions.{certificateQuestions, tableQuestions};
 use plant::Answer;
 use plant::Ceiling;
 use plant::Verdict;
-
-// How many words a table of the model has.
-fn table_size(model: &[i32]) -> usize
-    requires { ⌜ modelQuestions (now model) ≡ 0 ⌝ }
-    ensures { λ r. ⌜ r ≡ tableSize (now (model .entry)) ⌝ }
-{
-    model::locations(model) * tables::words_per_location(model::variables(model))
-}
 
 // ---- the ceiling
 
@@ -30,7 +21,7 @@ pub fn ceiling(model: &[i32]) -> Ceiling
     if q != 0 {
         return Ceiling::Refused(q);
     }
-    Ceiling::Passes(passes::ceiling::ceiling_of(model))
+    Ceiling::Passes(checks::ceiling_of(model))
 }
 
 // ---- the checker
@@ -44,24 +35,32 @@ fn fixpoint<'a>(model: &'a [i32], table: &'a [i32], after: &mut [i32]) -> bool
     integers::equal(after, table)
 }
 
-// The questions of a table's words, 32 to 34: 0 if all are yes, else the number of the first that is not.
-fn table_questions<'a>(model: &'a [i32], table: &'a [i32]) -> u32
-    requires { ⌜ Sized (now model) (now table) ⌝ }
-    ensures { λ r. ⌜ r ≡ tableQuestions (now (model .entry)) (now (table .entry)) ⌝ }
+// 33 and 34 of a table that passes 32: 0 if both are yes, else the number of the first that is not.
+pub fn certificate_questions<'a>(model: &'a [i32], table: &'a [i32]) -> u32
+    requires { ⌜ Sized (now model) (now table) × (tableOk (now model) (now table) ≡ true) ⌝ }
+    ensures { λ r. ⌜ r ≡ certificateQuestions (now (model .entry)) (now (table .entry)) ⌝ }
 {
-    if !passes::valid::table_ok(model, table) {
-        return 32;
-    }
     // The largest table: 64 locations of 156 words.
     let mut after = [0i32; 9984];
     let size = table.len();
     if !fixpoint(model, table, &mut after[..size]) {
         return 33;
     }
-    if passes::touch::touching(model, table) {
+    if checks::touching(model, table) {
         return 34;
     }
     0
+}
+
+// The questions of a table's words, 32 to 34: 0 if all are yes, else the number of the first that is not.
+fn table_questions<'a>(model: &'a [i32], table: &'a [i32]) -> u32
+    requires { ⌜ Sized (now model) (now table) ⌝ }
+    ensures { λ r. ⌜ r ≡ tableQuestions (now (model .entry)) (now (table .entry)) ⌝ }
+{
+    if !checks::table_ok(model, table) {
+        return 32;
+    }
+    certificate_questions(model, table)
 }
 
 // Accepts exactly if the model's questions, 20 and 32 to 34 are all yes.
@@ -72,7 +71,7 @@ pub fn check<'a>(model: &'a [i32], table: &'a [i32]) -> Verdict
     if q != 0 {
         return Verdict::Refused(q);
     }
-    let end = table_size(model);
+    let end = tables::table_size(model);
     if table.len() < end {
         return Verdict::Refused(20);
     }
@@ -94,7 +93,7 @@ fn counted_passes(model: &[i32], limit: u32, table: &mut [i32], work: &mut [i32]
     integers::clear(table);
     let mut k: u32 = 0;
     loop {
-        if passes::touch::touching(model, table) {
+        if checks::touching(model, table) {
             return Answer::Unknown(k);
         }
         if fixpoint(model, table, work) {
@@ -116,7 +115,7 @@ pub fn questions<'a>(model: &'a [i32], table: &'a [i32], work: &'a [i32]) -> u32
     if q != 0 {
         return q;
     }
-    let size = table_size(model);
+    let size = tables::table_size(model);
     if table.len() < size {
         return 20;
     }
@@ -131,7 +130,7 @@ pub fn analyse_passed(model: &[i32], limit: u32, table: &mut [i32], work: &mut [
     requires { ⌜ analysisQuestions (now model) (now table) (now work) ≡ 0 ⌝ }
     ensures { λ r. ⌜ record { reply = answerReply r; table = now (table .exit); work = now (work .exit) } ≡ answered (now (model .entry)) (C.analysis (now (model .entry)) limit) (now (table .entry)) (now (work .entry)) ⌝ }
 {
-    let size = table_size(model);
+    let size = tables::table_size(model);
     let answer = counted_passes(model, limit, &mut table[..size], &mut work[..size]);
     integers::clear(work);
     answer

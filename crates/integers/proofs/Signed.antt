@@ -9,7 +9,7 @@ use lib.Signed.{mag, nonNeg, ltZ, leZ}
 use borrow.Author.Tests.{ltb-true, eqb-true, eqb-false, eq-eqb, ne-eqb}
 use mir.Syntax.{Width, w32, w64}
 use mir.Val.{SFits, Fits, hbits, bits, toZ, ofZ}
-use native.Mathlib.Nat.{mul-le-mul, div-le-self, zero-add}
+use native.Mathlib.Nat.{mul-le-mul, div-le-self, zero-add, div-one}
 use mir.Facts.{toZ-ofZ, toZ-pos}
 use Rattle.integers.specs.Rounding.{floorZ, ceilZ}
 use Rattle.integers.specs.Words.{eqZ}
@@ -128,6 +128,11 @@ pub floor-neg : (z : ℤ) (d : ℕ) → ltZ z (pos 0) ≡ true → floorZ z d �
 unfolding floorZ
 floor-neg (pos n) d e = not-below-zero n e
 floor-neg (negsuc n) d e = refl
+
+pub floor-one : (z : ℤ) (d : ℕ) → d ≡ 1 → floorZ z d ≡ z
+unfolding floorZ
+floor-one (pos n) d e = rw e (ap pos (div-one n))
+floor-one (negsuc n) d e = rw e (ap negsuc (div-one n))
 
 pub floor-pos : (z : ℤ) (d : ℕ) → ltZ z (pos 0) ≡ false → floorZ z d ≡ pos (mag z / d)
 unfolding floorZ

@@ -62,11 +62,14 @@ pub fn magnitude(x: i64) -> u64
     }
 }
 
-// z / d, down to a whole number.
+// z / d, down to a whole number; without a division where d is 1, as it is for the delay 0.
 pub fn floor_div(z: i64, d: u64) -> i64
     requires { ⌜ 0 < d ⌝ }
     ensures { λ r. ⌜ r ≡ floorZ z d ⌝ }
 {
+    if d == 1 {
+        return z;
+    }
     if z < 0 {
         -1 - ((((-1 - z) as u64) / d) as i64)
     } else {

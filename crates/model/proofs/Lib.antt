@@ -1,4 +1,3 @@
-pub mod Positions
 pub mod Turns
-pub mod Walls
+pub mod Switch
 pub mod Passing

@@ -8,16 +8,15 @@ use native.Mathlib.Omega.{arith}
 use lib.Dec.{leb, le→leb, leb→le}
 use lib.IntN.{ℤ}
 use lib.ListN.{length}
-use Rattle.integers.specs.Words.{word, eqZ}
+use Rattle.integers.specs.Words.{word}
 use Rattle.integers.proofs.Counted.{within-abs, within-one}
 use Rattle.plant.specs.Ask.{ask}
-use Rattle.plant.specs.Model.{n#, E#, resetMask, reset}
-use Rattle.plant.specs.Questions.{placesQuestion, singleOk, targetWall, landsOk, rangesQuestions}
+use Rattle.plant.specs.Model.{E#}
+use Rattle.plant.specs.Questions.{placesQuestion, rangesQuestions, modelQuestions}
 use Rattle.plant.proofs.Asks.{ask-intro}
-use Rattle.plant.proofs.Passed.{one-abs, head-nonneg, RangesPassed, ranges-passed, PlacesPassed, places-passed, SwitchPassed, Passed}
-use Rattle.model.specs.Whole.{Head, Whole, Placed}
-use Rattle.model.specs.Switch.{singleBox, landingOf}
-use Rattle.model.proofs.Positions.{head-first}
+use Rattle.plant.proofs.Passed.{one-abs, head-nonneg, RangesPassed, ranges-passed, PlacesPassed, places-passed, SwitchPassed, Passed, passed}
+use Rattle.records.specs.Whole.{Head, Whole, Placed}
+use Rattle.records.proofs.Positions.{head-first}
 
 pub head-passed : (m : List ℤ) → 4 ≤ length m → rangesQuestions m ≡ 0 → Head m
 head-passed m h e =
@@ -62,6 +61,9 @@ whole-passed m p = record {
   long = p .long;
 }
 
+pub head-ready : (m : List ℤ) → modelQuestions m ≡ 0 → Head m
+head-ready m e = whole-passed m (passed m e) .head
+
 pub switch-placed : (m : List ℤ) → Passed m → (e : ℕ) → e < E# m → Placed m e
 switch-placed m p e l =
     let s : SwitchPassed m e = p .of-switch e l in
@@ -85,13 +87,3 @@ too-short k n h = by (leb k n) refl
 
 pub long-enough : (k n : ℕ) → k ≤ n → 0 ≡ ask (leb k n) 5
 long-enough k n h = sym (ask-intro (leb k n) 5 (le→leb k n h))
-
--- ---- 16 and 18, as code asks them
-
-pub single-is : (m : List ℤ) (e : ℕ) → singleBox (n# m) (resetMask m e) (reset m e) ≡ singleOk m e
-unfolding singleBox singleOk
-single-is m e = refl
-
-pub lands-is : (m : List ℤ) (e : ℕ) → eqZ (targetWall m e) (landingOf m e) ≡ landsOk m e
-unfolding landsOk
-lands-is m e = refl

@@ -1,16 +1,14 @@
-// The questions of a model's words, and the reading of its records.
+// The questions of a model's words, 2 to 5 and 11 to 19.
 ghost use mathlib.Core.Path.{_≡_};
 ghost use mathlib.Core.Bool.{_&&_};
 ghost use Prim.Native.Nat.{_+_, _*_, _≤_, _<_};
-ghost use lib.Dec.{T};
 ghost use lib.ListN.{length};
-ghost use lib.Signed.{leZ, nonNeg};
+ghost use lib.Signed.{leZ};
 ghost use Rattle.integers.specs.Words as W;
 ghost use Rattle.plant.specs.Ask as S;
-ghost use Rattle.plant.specs.Box as B;
 ghost use Rattle.plant.specs.Model as M;
 ghost use Rattle.plant.specs.Questions as Q;
-ghost use Rattle.model.specs.Whole.{Head, Whole, Numbered, Placed};
+ghost use Rattle.records.specs.Whole.{Whole, Placed};
 ghost use Rattle.model.specs.Switch.{boxesQuestion, singleBox, wallsQuestions, landingOf};
 
 // ---- answers: 0 for yes, else the number of the refusal
@@ -26,207 +24,6 @@ pub fn or_else(a: u32, b: u32) -> u32
     ensures { λ r. ⌜ r ≡ S.orElse a b ⌝ }
 {
     if a == 0 { b } else { a }
-}
-
-// ---- how many variables, locations, switches and forbidden boxes the model has
-
-pub fn variables(model: &[i32]) -> usize
-    requires { ⌜ Head (now model) ⌝ }
-    ensures { λ r. ⌜ r ≡ M.n# (now (model .entry)) ⌝ }
-{
-    integers::number(model, 0)
-}
-
-pub fn locations(model: &[i32]) -> usize
-    requires { ⌜ Head (now model) ⌝ }
-    ensures { λ r. ⌜ r ≡ M.L# (now (model .entry)) ⌝ }
-{
-    integers::number(model, 1)
-}
-
-pub fn switches(model: &[i32]) -> usize
-    requires { ⌜ Head (now model) ⌝ }
-    ensures { λ r. ⌜ r ≡ M.E# (now (model .entry)) ⌝ }
-{
-    integers::number(model, 2)
-}
-
-pub fn forbidden_boxes(model: &[i32]) -> usize
-    requires { ⌜ Head (now model) ⌝ }
-    ensures { λ r. ⌜ r ≡ M.B# (now (model .entry)) ⌝ }
-{
-    integers::number(model, 3)
-}
-
-// ---- where the records stand
-
-pub fn location_at(model: &[i32], l: usize) -> usize
-    requires { ⌜ Head (now model) × (l ≤ 64) ⌝ }
-    ensures { λ r. ⌜ r ≡ M.locationAt (now (model .entry)) l ⌝ }
-{
-    4 + l * (6 * variables(model) + 1)
-}
-
-pub fn switch_at(model: &[i32], e: usize) -> usize
-    requires { ⌜ Head (now model) × (e ≤ 128) ⌝ }
-    ensures { λ r. ⌜ r ≡ M.switchAt (now (model .entry)) e ⌝ }
-{
-    location_at(model, locations(model)) + e * (6 + 4 * variables(model))
-}
-
-pub fn forbidden_at(model: &[i32], b: usize) -> usize
-    requires { ⌜ Head (now model) × (b ≤ 64) ⌝ }
-    ensures { λ r. ⌜ r ≡ M.forbiddenAt (now (model .entry)) b ⌝ }
-{
-    switch_at(model, switches(model)) + b * (1 + 2 * variables(model))
-}
-
-// How many words the model has.
-pub fn size(model: &[i32]) -> usize
-    requires { ⌜ Head (now model) ⌝ }
-    ensures { λ r. ⌜ r ≡ M.modelSize (now (model .entry)) ⌝ }
-{
-    forbidden_at(model, forbidden_boxes(model))
-}
-
-// The box of n variables at a place of the words.
-pub fn box_at(s: &[i32], at: usize, n: usize) -> &[i32]
-    requires { ⌜ at + 2 * n ≤ length (now s) ⌝ }
-    ensures { λ r. ⌜ now r ≡ B.boxAt n (now (s .entry)) at ⌝ }
-{
-    let end = at + 2 * n;
-    &s[at..end]
-}
-
-// ---- the record of a location
-
-pub fn invariant(model: &[i32], l: usize) -> &[i32]
-    requires { ⌜ Whole (now model) × (l < M.L# (now model)) ⌝ }
-    ensures { λ r. ⌜ now r ≡ M.invariant (now (model .entry)) l ⌝ }
-{
-    box_at(model, location_at(model, l), variables(model))
-}
-
-pub fn rate(model: &[i32], l: usize) -> &[i32]
-    requires { ⌜ Whole (now model) × (l < M.L# (now model)) ⌝ }
-    ensures { λ r. ⌜ now r ≡ M.rate (now (model .entry)) l ⌝ }
-{
-    let n = variables(model);
-    box_at(model, location_at(model, l) + 2 * n, n)
-}
-
-pub fn start_flag(model: &[i32], l: usize) -> i32
-    requires { ⌜ Whole (now model) × (l < M.L# (now model)) ⌝ }
-    ensures { λ r. ⌜ r ≡ M.startFlag (now (model .entry)) l ⌝ }
-{
-    model[location_at(model, l) + 4 * variables(model)]
-}
-
-pub fn start_box(model: &[i32], l: usize) -> &[i32]
-    requires { ⌜ Whole (now model) × (l < M.L# (now model)) ⌝ }
-    ensures { λ r. ⌜ now r ≡ M.startBox (now (model .entry)) l ⌝ }
-{
-    let n = variables(model);
-    box_at(model, location_at(model, l) + (4 * n + 1), n)
-}
-
-// ---- the record of a switch
-
-pub fn source(model: &[i32], e: usize) -> usize
-    requires { ⌜ Numbered (now model) e ⌝ }
-    ensures { λ r. ⌜ r ≡ M.source (now (model .entry)) e ⌝ }
-{
-    integers::number(model, switch_at(model, e))
-}
-
-pub fn target(model: &[i32], e: usize) -> usize
-    requires { ⌜ Numbered (now model) e ⌝ }
-    ensures { λ r. ⌜ r ≡ M.target (now (model .entry)) e ⌝ }
-{
-    integers::number(model, switch_at(model, e) + 1)
-}
-
-pub fn wall_variable(model: &[i32], e: usize) -> usize
-    requires { ⌜ Numbered (now model) e ⌝ }
-    ensures { λ r. ⌜ r ≡ M.wallVariable (now (model .entry)) e ⌝ }
-{
-    integers::number(model, switch_at(model, e) + 2)
-}
-
-pub fn source_side(model: &[i32], e: usize) -> usize
-    requires { ⌜ Numbered (now model) e ⌝ }
-    ensures { λ r. ⌜ r ≡ M.sourceSide (now (model .entry)) e ⌝ }
-{
-    integers::number(model, switch_at(model, e) + 3)
-}
-
-pub fn target_side(model: &[i32], e: usize) -> usize
-    requires { ⌜ Numbered (now model) e ⌝ }
-    ensures { λ r. ⌜ r ≡ M.targetSide (now (model .entry)) e ⌝ }
-{
-    integers::number(model, switch_at(model, e) + 4)
-}
-
-pub fn reset_mask(model: &[i32], e: usize) -> usize
-    requires { ⌜ Numbered (now model) e ⌝ }
-    ensures { λ r. ⌜ r ≡ M.resetMask (now (model .entry)) e ⌝ }
-{
-    integers::number(model, switch_at(model, e) + 5)
-}
-
-// Bit i of a reset mask.
-pub fn masked(mask: usize, i: usize) -> bool
-    requires { ⌜ i < 64 ⌝ }
-    ensures { λ r. ⌜ r ≡ M.masked mask i ⌝ }
-{
-    (mask >> i) % 2 == 1
-}
-
-pub fn guard(model: &[i32], e: usize) -> &[i32]
-    requires { ⌜ Whole (now model) × (e < M.E# (now model)) ⌝ }
-    ensures { λ r. ⌜ now r ≡ M.guard (now (model .entry)) e ⌝ }
-{
-    box_at(model, switch_at(model, e) + 6, variables(model))
-}
-
-pub fn reset(model: &[i32], e: usize) -> &[i32]
-    requires { ⌜ Whole (now model) × (e < M.E# (now model)) ⌝ }
-    ensures { λ r. ⌜ now r ≡ M.reset (now (model .entry)) e ⌝ }
-{
-    let n = variables(model);
-    box_at(model, switch_at(model, e) + (6 + 2 * n), n)
-}
-
-// ---- the record of a forbidden box
-
-pub fn forbidden_location(model: &[i32], b: usize) -> usize
-    requires { ⌜ Whole (now model) × (b < M.B# (now model)) × T (nonNeg (W.word (now model) (M.forbiddenAt (now model) b))) ⌝ }
-    ensures { λ r. ⌜ r ≡ M.forbiddenLocation (now (model .entry)) b ⌝ }
-{
-    integers::number(model, forbidden_at(model, b))
-}
-
-pub fn forbidden_box(model: &[i32], b: usize) -> &[i32]
-    requires { ⌜ Whole (now model) × (b < M.B# (now model)) ⌝ }
-    ensures { λ r. ⌜ now r ≡ M.forbiddenBox (now (model .entry)) b ⌝ }
-{
-    box_at(model, forbidden_at(model, b) + 1, variables(model))
-}
-
-// The wall (d, s) of an invariant.
-pub fn wall(inv: &[i32], d: usize, s: usize) -> i32
-    requires { ⌜ (2 * d + 1 < length (now inv)) × (s ≤ 1) ⌝ }
-    ensures { λ r. ⌜ r ≡ M.wall (now (inv .entry)) d s ⌝ }
-{
-    inv[2 * d + s]
-}
-
-// The wall of face f of a location.
-pub fn face_wall(model: &[i32], l: usize, f: usize) -> i32
-    requires { ⌜ Whole (now model) × (l < M.L# (now model)) × (f < 2 * M.n# (now model)) ⌝ }
-    ensures { λ r. ⌜ r ≡ M.faceWall (now (model .entry)) l f ⌝ }
-{
-    wall(invariant(model, l), f / 2, f % 2)
 }
 
 // ---- boxes
@@ -293,20 +90,20 @@ fn start_ok(model: &[i32], l: usize) -> bool
     requires { ⌜ Whole (now model) × (l < M.L# (now model)) ⌝ }
     ensures { λ r. ⌜ r ≡ Q.startOk (now (model .entry)) l ⌝ }
 {
-    let n = variables(model);
-    let flag = start_flag(model, l);
-    let start = start_box(model, l);
+    let n = records::variables(model);
+    let flag = records::start_flag(model, l);
+    let start = records::start_box(model, l);
     let empty = integers::same(flag, 0) & zeros_ok(start, 2 * n);
-    empty | (integers::same(flag, 1) & inside_ok(start, invariant(model, l), n))
+    empty | (integers::same(flag, 1) & inside_ok(start, records::invariant(model, l), n))
 }
 
 fn location_questions(model: &[i32], l: usize) -> u32
     requires { ⌜ Whole (now model) × (l < M.L# (now model)) ⌝ }
     ensures { λ r. ⌜ r ≡ Q.locationQuestions (now (model .entry)) l ⌝ }
 {
-    let n = variables(model);
-    let q11 = ask(box_ok(invariant(model, l), n, 1000000), 11);
-    let q12 = ask(box_ok(rate(model, l), n, 1000), 12);
+    let n = records::variables(model);
+    let q11 = ask(box_ok(records::invariant(model, l), n, 1000000), 11);
+    let q12 = ask(box_ok(records::rate(model, l), n, 1000), 12);
     let q13 = ask(start_ok(model, l), 13);
     or_else(q11, or_else(q12, q13))
 }
@@ -335,7 +132,7 @@ fn number_question(model: &[i32], e: usize, j: usize, k: usize) -> u32
     requires { ⌜ Whole (now model) × (e < M.E# (now model)) × (j < 6) × (1 ≤ k) × (k ≤ 1000) ⌝ }
     ensures { λ r. ⌜ r ≡ S.ask (Q.belowOk (now (model .entry)) (M.switchAt (now (model .entry)) e + j) k) 14 ⌝ }
 {
-    ask(below_ok(model, switch_at(model, e) + j, k), 14)
+    ask(below_ok(model, records::switch_at(model, e) + j, k), 14)
 }
 
 // Locations, d and sides exist, mask 0 to 2^n - 1?
@@ -343,8 +140,8 @@ fn places_question(model: &[i32], e: usize) -> u32
     requires { ⌜ Whole (now model) × (e < M.E# (now model)) ⌝ }
     ensures { λ r. ⌜ r ≡ Q.placesQuestion (now (model .entry)) e ⌝ }
 {
-    let n = variables(model);
-    let l = locations(model);
+    let n = records::variables(model);
+    let l = records::locations(model);
     let from = number_question(model, e, 0, l);
     let to = number_question(model, e, 1, l);
     let d = number_question(model, e, 2, n);
@@ -359,9 +156,9 @@ fn boxes_question(model: &[i32], e: usize) -> u32
     requires { ⌜ Whole (now model) × (e < M.E# (now model)) ⌝ }
     ensures { λ r. ⌜ r ≡ boxesQuestion (now (model .entry)) e ⌝ }
 {
-    let n = variables(model);
-    let guarded = box_ok(guard(model, e), n, 1000000);
-    ask(guarded & box_ok(reset(model, e), n, 1000000), 15)
+    let n = records::variables(model);
+    let guarded = box_ok(records::guard(model, e), n, 1000000);
+    ask(guarded & box_ok(records::reset(model, e), n, 1000000), 15)
 }
 
 // The masked ranges of a box are single.
@@ -373,28 +170,10 @@ fn single_ok(b: &[i32], n: usize, mask: usize) -> bool
     let mut i: usize = 0;
     while i < n {
         let single = integers::same(b[2 * i], b[2 * i + 1]);
-        ok = ok & (!masked(mask, i) | single);
+        ok = ok & (!records::masked(mask, i) | single);
         i = i + 1;
     }
     ok
-}
-
-// The wall that a switch leaves.
-pub fn source_wall(model: &[i32], e: usize) -> i32
-    requires { ⌜ Placed (now model) e ⌝ }
-    ensures { λ r. ⌜ r ≡ Q.sourceWall (now (model .entry)) e ⌝ }
-{
-    let inv = invariant(model, source(model, e));
-    wall(inv, wall_variable(model, e), source_side(model, e))
-}
-
-// The wall on which it lands.
-pub fn target_wall(model: &[i32], e: usize) -> i32
-    requires { ⌜ Placed (now model) e ⌝ }
-    ensures { λ r. ⌜ r ≡ Q.targetWall (now (model .entry)) e ⌝ }
-{
-    let inv = invariant(model, target(model, e));
-    wall(inv, wall_variable(model, e), target_side(model, e))
 }
 
 // Guard of d equal to the source wall.
@@ -402,9 +181,9 @@ fn guard_ok(model: &[i32], e: usize) -> bool
     requires { ⌜ Placed (now model) e ⌝ }
     ensures { λ r. ⌜ r ≡ Q.guardOk (now (model .entry)) e ⌝ }
 {
-    let d = wall_variable(model, e);
-    let b = guard(model, e);
-    let w = source_wall(model, e);
+    let d = records::wall_variable(model, e);
+    let b = records::guard(model, e);
+    let w = records::source_wall(model, e);
     integers::same(b[2 * d], w) & integers::same(b[2 * d + 1], w)
 }
 
@@ -413,11 +192,11 @@ fn landing(model: &[i32], e: usize) -> i32
     requires { ⌜ Placed (now model) e ⌝ }
     ensures { λ r. ⌜ r ≡ landingOf (now (model .entry)) e ⌝ }
 {
-    let d = wall_variable(model, e);
-    if masked(reset_mask(model, e), d) {
-        reset(model, e)[2 * d]
+    let d = records::wall_variable(model, e);
+    if records::masked(records::reset_mask(model, e), d) {
+        records::reset(model, e)[2 * d]
     } else {
-        source_wall(model, e)
+        records::source_wall(model, e)
     }
 }
 
@@ -426,10 +205,17 @@ fn walls_questions(model: &[i32], e: usize) -> u32
     requires { ⌜ Placed (now model) e ⌝ }
     ensures { λ r. ⌜ r ≡ wallsQuestions (now (model .entry)) e ⌝ }
 {
-    let single = single_ok(reset(model, e), variables(model), reset_mask(model, e));
+    let single = single_ok(
+        records::reset(model, e),
+        records::variables(model),
+        records::reset_mask(model, e),
+    );
     let q16 = ask(single, 16);
     let q17 = ask(guard_ok(model, e), 17);
-    let q18 = ask(integers::same(target_wall(model, e), landing(model, e)), 18);
+    let q18 = ask(
+        integers::same(records::target_wall(model, e), landing(model, e)),
+        18,
+    );
     or_else(q16, or_else(q17, q18))
 }
 
@@ -451,9 +237,16 @@ fn forbidden_question(model: &[i32], b: usize) -> u32
     requires { ⌜ Whole (now model) × (b < M.B# (now model)) ⌝ }
     ensures { λ r. ⌜ r ≡ Q.forbiddenQuestion (now (model .entry)) b ⌝ }
 {
-    let n = variables(model);
-    let exists = below_ok(model, forbidden_at(model, b), locations(model));
-    ask(exists & box_ok(forbidden_box(model, b), n, 1000000), 19)
+    let n = records::variables(model);
+    let exists = below_ok(
+        model,
+        records::forbidden_at(model, b),
+        records::locations(model),
+    );
+    ask(
+        exists & box_ok(records::forbidden_box(model, b), n, 1000000),
+        19,
+    )
 }
 
 // ---- the questions of a model
@@ -473,7 +266,7 @@ fn locations_questions(model: &[i32]) -> u32
     requires { ⌜ Whole (now model) ⌝ }
     ensures { λ r. ⌜ r ≡ S.first (M.L# (now (model .entry))) (Q.locationQuestions (now (model .entry))) ⌝ }
 {
-    let count = locations(model);
+    let count = records::locations(model);
     let mut l: usize = 0;
     while l < count {
         let r = location_questions(model, l);
@@ -489,7 +282,7 @@ fn switches_questions(model: &[i32]) -> u32
     requires { ⌜ Whole (now model) ⌝ }
     ensures { λ r. ⌜ r ≡ S.first (M.E# (now (model .entry))) (Q.switchQuestions (now (model .entry))) ⌝ }
 {
-    let count = switches(model);
+    let count = records::switches(model);
     let mut e: usize = 0;
     while e < count {
         let r = switch_questions(model, e);
@@ -505,7 +298,7 @@ fn forbidden_questions(model: &[i32]) -> u32
     requires { ⌜ Whole (now model) ⌝ }
     ensures { λ r. ⌜ r ≡ S.first (M.B# (now (model .entry))) (Q.forbiddenQuestion (now (model .entry))) ⌝ }
 {
-    let count = forbidden_boxes(model);
+    let count = records::forbidden_boxes(model);
     let mut b: usize = 0;
     while b < count {
         let r = forbidden_question(model, b);
@@ -538,7 +331,7 @@ pub fn questions(model: &[i32]) -> u32
     if q != 0 {
         return q;
     }
-    if model.len() < size(model) {
+    if model.len() < records::size(model) {
         return 5;
     }
     records_questions(model)

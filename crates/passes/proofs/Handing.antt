@@ -10,13 +10,12 @@ use lib.Seq.{length-take-le}
 use Rattle.integers.specs.Words.{word, eqZ}
 use Rattle.integers.proofs.Counted.{eqZ-eq, true-is}
 use Rattle.plant.specs.Box.{boxAt, Face, absent, present}
-use Rattle.plant.specs.Steps.{wallDelays, switchStep}
+use Rattle.plant.specs.Steps.{wallStep, switchStep}
 use Rattle.plant.specs.Tables.{faceRead}
 use Rattle.plant.proofs.Boxes.{length-face}
 use Rattle.tables.specs.Room.{Joinable}
 use Rattle.steps.specs.Ready.{WallReady, SwitchReady}
-use Rattle.steps.specs.Given.{wallGives, switchGives}
-use Rattle.steps.proofs.Faces.{wall-handed, switch-handed}
+use Rattle.steps.specs.Handing.{Handed}
 use Rattle.passes.specs.Joining.{IsFace, WallJoin, SwitchJoin, joinedWith, wallOf}
 use Rattle.passes.proofs.Joined.{nothing-joined, read-present, read-absent}
 
@@ -55,9 +54,9 @@ module _ (n : ℕ) (inv rate part : List ℤ) (d : ℕ) (b : ℤ) (face : List �
       ok .variable,
     )
 
-    module _ {r : Bool} {after : List ℤ} (gives : (r, after) ≡ wallGives n inv rate bounds d b (wallDelays n inv rate bounds d b) out) where
+    module _ {r : Bool} {after : List ℤ} (gives : Handed n r after out (wallStep n inv rate bounds d b)) where
       wall-is : wallOf n inv rate d b (faceRead n part 0) ≡ cond r (present (take (2 * n) after)) absent
-      wall-is = ap (wallOf n inv rate d b) (read-present n part flag ∙ ap present (sym is-box)) ∙ wall-handed n inv rate bounds d b room gives .is-face
+      wall-is = ap (wallOf n inv rate d b) (read-present n part flag ∙ ap present (sym is-box)) ∙ gives .is-face
 
       pub wall-joins : {exit : List ℤ} → r ≡ true → exit ≡ joinedWith n face (present (take (2 * n) after)) → exit ≡ joinedWith n face (wallOf n inv rate d b (faceRead n part 0))
       wall-joins = joins-it n r after face (wallOf n inv rate d b (faceRead n part 0)) wall-is
@@ -83,9 +82,9 @@ module _ (n mask : ℕ) (guard reset inv from face : List ℤ) (ok : SwitchJoin 
       room = room;
     }
 
-    module _ {r : Bool} {after : List ℤ} (gives : (r, after) ≡ switchGives n mask guard reset inv bounds out) where
+    module _ {r : Bool} {after : List ℤ} (gives : Handed n r after out (switchStep n mask guard reset inv (present bounds))) where
       switch-is : switchStep n mask guard reset inv (faceRead n from 0) ≡ cond r (present (take (2 * n) after)) absent
-      switch-is = ap (switchStep n mask guard reset inv) (read-present n from flag ∙ ap present (sym is-box)) ∙ switch-handed n mask guard reset inv bounds gives .is-face
+      switch-is = ap (switchStep n mask guard reset inv) (read-present n from flag ∙ ap present (sym is-box)) ∙ gives .is-face
 
       pub switch-joins : {exit : List ℤ} → r ≡ true → exit ≡ joinedWith n face (present (take (2 * n) after)) → exit ≡ joinedWith n face (switchStep n mask guard reset inv (faceRead n from 0))
       switch-joins = joins-it n r after face (switchStep n mask guard reset inv (faceRead n from 0)) switch-is

@@ -1,8 +1,4 @@
-pub mod Loops
-pub mod Faces
 pub mod PartWords
-pub mod Widths
-pub mod Search
 pub mod Joined
 pub mod Blocks
 pub mod Handing

@@ -1,32 +1,30 @@
 -- The words of a part give the part, and its box, if it is there, is one of levels: a start box and a face lie inside the
 -- invariant.
 use mathlib.Core.Path.{_≡_, refl, sym, ap, ap₂, _∙_, subst}
-use mathlib.Core.Bool.{Bool, true, false, cond}
+use mathlib.Core.Bool.{Bool, cond}
 use mathlib.Core.List.{List, [], _∷_}
 use Prim.Native.Nat.{ℕ, zero, suc, _+_, _*_, _-_, _<_, _≤_}
 use native.Mathlib.Nat.{le-refl}
 use native.Mathlib.Omega.{arith}
-use borrow.Author.Tests.{eq-eqb, ne-eqb}
 use lib.Dec.{T}
 use lib.IntN.{ℤ, pos}
 use lib.ListN.{length, take, drop, length-drop}
 use lib.Seq.{getD-take, getD-drop, drop-drop, take-take, take-nil, length-take-le}
 use Rattle.integers.specs.Words.{word, eqZ}
-use Rattle.integers.proofs.Counted.{eqZ-intro, is-true, true-is}
-use Rattle.delays.specs.Ranges.{LevelAt, Levels, RateAt, Rates}
+use Rattle.integers.proofs.Counted.{eqZ-intro, is-true}
+use Rattle.delays.specs.Ranges.{Levels, Rates}
 use Rattle.plant.specs.Box.{low, high, boxAt, absent, present}
-use Rattle.plant.specs.Model.{n#, L#, B#, locationAt, invariant, rate, startFlag, startBox, forbiddenLocation, forbiddenBox}
+use Rattle.plant.specs.Model.{n#, L#, locationAt, invariant, rate, startFlag, startBox}
 use Rattle.plant.specs.Questions.{modelQuestions}
-use Rattle.plant.specs.Steps.{touches}
-use Rattle.plant.specs.Tables.{wordsPerLocation, faceSize, tableSize, faceAt, faceRead, faceOf, tableOk, startPart, partOf, partTouches}
+use Rattle.plant.specs.Tables.{wordsPerLocation, faceSize, tableSize, faceAt, faceRead, faceOf, tableOk, startPart, partOf}
 use Rattle.plant.proofs.Boxes.{FaceAll, length-boxAt}
 use Rattle.plant.proofs.Passed.{InRange, Passed, LocationPassed, passed}
 use Rattle.plant.proofs.Tables.{filled, face-inside, OkBox, ok-valid}
-use Rattle.model.specs.Whole.{Whole}
-use Rattle.model.proofs.Positions.{location-within, length-invariant, length-rate, length-startBox, length-forbiddenBox}
+use Rattle.records.specs.Whole.{Whole}
+use Rattle.records.proofs.Positions.{location-within, length-invariant, length-rate, length-startBox}
 use Rattle.model.proofs.Passing.{whole-passed}
+use Rattle.tables.proofs.Faces.{table-most}
 use Rattle.steps.proofs.Faces.{in-levels}
-use Rattle.passes.specs.Ready.{TableReady, PartReady}
 use Rattle.passes.specs.Parts.{partWords}
 
 pub whole : (m : List ℤ) → modelQuestions m ≡ 0 → Whole m
@@ -34,7 +32,7 @@ whole m e = whole-passed m (passed m e)
 
 -- ---- the boxes of a model's records
 
-levels-from : (n : ℕ) (b : List ℤ) → length b ≡ 2 * n → InRange (2 * n) 1000000 b → Levels n b
+pub levels-from : (n : ℕ) (b : List ℤ) → length b ≡ 2 * n → InRange (2 * n) 1000000 b → Levels n b
 unfolding low high
 levels-from n b e h i l = record { there = omega arith; low-in = h (2 * i) (omega arith); high-in = h (2 * i + 1) (omega arith) }
 
@@ -48,9 +46,6 @@ module _ (m : List ℤ) (ok : Passed m) where
 
   pub rate-in : (l : ℕ) → l < L# m → Rates (n# m) (rate m l)
   rate-in l u = rates-from (n# m) (rate m l) (length-rate m (whole-passed m ok) l u) (ok .of-location l u .rate-range)
-
-  pub forbidden-in : (b : ℕ) → b < B# m → Levels (n# m) (forbiddenBox m b)
-  forbidden-in b u = levels-from (n# m) (forbiddenBox m b) (length-forbiddenBox m (whole-passed m ok) b u) (ok .of-forbidden b u .box-levels)
 
 -- ---- the words of a face that stands at a place
 
@@ -91,6 +86,14 @@ module _ (m t : List ℤ) (l f n at : ℕ) (e : n ≡ n# m) (a : at ≡ l * word
     pub face-long : length (take (faceSize n) (drop at t)) ≡ faceSize n
     face-long = length-take-le (faceSize n) (drop at t) (omega (arith, length-drop at t, face-end))
 
+-- from where the location's faces begin
+pub place-by : (m : List ℤ) (l f n faces : ℕ) → n ≡ n# m → faces ≡ l * wordsPerLocation (n# m) → faces + f * (1 + 2 * n) ≡ l * wordsPerLocation n + f * faceSize n
+place-by m l f n faces e a = ap (λ (k : ℕ). k + f * faceSize n) (a ∙ ap (λ (k : ℕ). l * wordsPerLocation k) (sym e))
+
+pub place-most : (m : List ℤ) (ok : Passed m) (l f n faces : ℕ) → n ≡ n# m → faces ≡ l * wordsPerLocation (n# m) → l < L# m → f < 2 * n# m → faces + f * (1 + 2 * n) + faceSize n ≤ 9984
+place-most m ok l f n faces e a u v =
+    omega (arith, e, face-place m [] l f n (faces + f * (1 + 2 * n)) e (place-by m l f n faces e a), face-inside m (filled m ok) l f u v, table-most m (whole-passed m ok .head))
+
 -- ---- the words of a part
 
 -- the start box stands behind the start flag
@@ -114,6 +117,10 @@ pub face-words : (m t : List ℤ) (l p n at : ℕ) → (p ≡ 0 → ⊥) → n �
 unfolding partWords
 face-words m t l zero n at z e a = absurd (z refl)
 face-words m t l (suc f) n at z e a = ap₂ (λ (k i : ℕ). take (faceSize k) (drop i t)) e (a ∙ ap (faceAt m l) (omega arith))
+
+pub face-part : (m t : List ℤ) (l f n at : ℕ) → n ≡ n# m → at ≡ l * wordsPerLocation n + f * faceSize n → take (faceSize n) (drop at t) ≡ partWords m t l (suc f)
+unfolding partWords
+face-part m t l f n at e a = ap₂ (λ (k i : ℕ). take (faceSize k) (drop i t)) e (face-place m t l f n at e a)
 
 module _ (m t : List ℤ) (ok : Passed m) (room : tableSize m ≤ length t) (l : ℕ) (u : l < L# m) where
   pub part-long : (p : ℕ) → p ≤ 2 * n# m → length (partWords m t l p) ≡ faceSize (n# m)
@@ -147,41 +154,3 @@ module _ (m t : List ℤ) (ok : Passed m) (room : tableSize m ≤ length t) (l :
   part-in valid (suc f) v e =
       subst (Levels (n# m)) (sym (box-there (n# m) t (faceAt m l f)))
       (face-in valid f (omega arith) (sym (flag-there (n# m) t (faceAt m l f)) ∙ e))
-
-pub part-ready : (m t : List ℤ) → TableReady m t → tableOk m t ≡ true → (l p b : ℕ) (part : List ℤ) → part ≡ partWords m t l p → l < L# m → p ≤ 2 * n# m → b < B# m → PartReady m l part b
-part-ready m t r valid l p b part e u v w = subst (λ (s : List ℤ). PartReady m l s b) (sym e) (record {
-  passes = r .passes;
-  is-location = u;
-  is-box = w;
-  part-length = part-long m t (passed m (r .passes)) (r .room) l u p v;
-  part-in = part-in m t (passed m (r .passes)) (r .room) l u (true-is valid) p v;
-})
-
--- ---- whether a part touches a forbidden box, by the part's flag and the box's location
-
-module _ (m : List ℤ) (l b : ℕ) (part : List ℤ) where
-  pub absent-untouched : eqZ (word part 0) (pos 1) ≡ false → false ≡ partTouches m l b (faceRead (n# m) part 0)
-  unfolding faceRead partTouches
-  absent-untouched e = rw e refl
-
-  module _ (e : eqZ (word part 0) (pos 1) ≡ true) where
-    pub elsewhere-untouched : (forbiddenLocation m b ≡ l → ⊥) → false ≡ partTouches m l b (faceRead (n# m) part 0)
-    unfolding faceRead partTouches
-    elsewhere-untouched h = rw (e, ne-eqb (forbiddenLocation m b) l h) refl
-
-    pub present-touches : forbiddenLocation m b ≡ l → touches (n# m) (invariant m l) (rate m l) (boxAt (n# m) part 1) (forbiddenBox m b) ≡ partTouches m l b (faceRead (n# m) part 0)
-    unfolding faceRead partTouches
-    present-touches h = rw (e, eq-eqb (forbiddenLocation m b) l h) refl
-
-pub part-touches-is : (m t : List ℤ) (l p b : ℕ) (part : List ℤ) {r : Bool} → r ≡ partTouches m l b (faceRead (n# m) part 0) → part ≡ partWords m t l p → r ≡ partTouches m l b (partOf m t l p)
-part-touches-is m t l p b part h e = h ∙ ap (λ (s : List ℤ). partTouches m l b (faceRead (n# m) s 0)) e ∙ ap (partTouches m l b) (part-read m t l p)
-
--- what code has in place of n, the invariant, ..
-pub touches-are : {n n′ : ℕ} {a a′ b b′ c c′ d d′ : List ℤ} {r : Bool} → r ≡ touches n a b c d → n ≡ n′ → a ≡ a′ → b ≡ b′ → c ≡ c′ → d ≡ d′ → r ≡ touches n′ a′ b′ c′ d′
-touches-are h e f g i j = cc
-
-pub levels-are : (n n′ : ℕ) (a a′ : List ℤ) → n ≡ n′ → a ≡ a′ → Levels n′ a′ → Levels n a
-levels-are n n′ a a′ e f h i l = subst (λ (s : List ℤ). LevelAt s i) (sym f) (h i (omega arith))
-
-pub rates-are : (n n′ : ℕ) (a a′ : List ℤ) → n ≡ n′ → a ≡ a′ → Rates n′ a′ → Rates n a
-rates-are n n′ a a′ e f h i l = subst (λ (s : List ℤ). RateAt s i) (sym f) (h i (omega arith))

@@ -11,28 +11,23 @@ use lib.ListN.{length}
 use Rattle.integers.specs.Words.{word}
 use Rattle.integers.specs.Counted.{cat, allBelow}
 use Rattle.integers.proofs.Counted.{all-yes, true-is, length-cat}
-use Rattle.plant.specs.Box.{low, high, faceWords, joins}
+use Rattle.plant.specs.Box.{faceWords, joins}
 use Rattle.plant.specs.Model.{n#, L#, E#, invariant, rate, source, target, wallVariable, sourceSide, targetSide, resetMask, guard, reset, variableOf, sideOf, faceWall}
 use Rattle.plant.specs.Steps.{switchStep}
 use Rattle.plant.specs.Tables.{faceSize, wordsPerLocation, tableSize, faceAt, tableBy, faceRead, faceOf, faceOk, tableOk, partOf, wallStepAt, wallFrom, wallsJoined, switchStepAt, sourceFace, targetFace}
 use Rattle.plant.proofs.Boxes.{length-face}
-use Rattle.plant.proofs.Passed.{InRange, SwitchPassed, Passed, passed}
+use Rattle.plant.proofs.Passed.{SwitchPassed, Passed, passed}
 use Rattle.plant.proofs.Tables.{Filled, filled, face-inside}
 use Rattle.tables.proofs.Faces.{words-small, place-small}
-use Rattle.delays.specs.Ranges.{Levels}
-use Rattle.model.specs.Whole.{Whole, Placed}
-use Rattle.model.proofs.Positions.{length-guard, length-reset}
-use Rattle.model.proofs.Walls.{wall-at}
+use Rattle.records.specs.Whole.{Whole, Placed}
+use Rattle.records.proofs.Positions.{length-guard, length-reset}
+use Rattle.records.proofs.Walls.{wall-at}
 use Rattle.model.proofs.Passing.{whole-passed, switch-placed}
 use Rattle.passes.specs.Checked.{Checked}
 use Rattle.passes.specs.Parts.{partWords}
 use Rattle.passes.specs.Joining.{PartOk, IsFace, WallJoin, SwitchJoin, joinedWith, wallOf, locationBy, landing}
-use Rattle.passes.proofs.PartWords.{invariant-in, rate-in, part-read, part-long, part-in}
+use Rattle.passes.proofs.PartWords.{levels-from, invariant-in, rate-in, part-read, part-long, part-in}
 use Rattle.passes.proofs.Joined.{is-face, joined-words, words-kept}
-
-levels-of : (n : ℕ) (b : List ℤ) → length b ≡ 2 * n → InRange (2 * n) 1000000 b → Levels n b
-unfolding low high
-levels-of n b e h i l = record { there = omega arith; low-in = h (2 * i) (omega arith); high-in = h (2 * i + 1) (omega arith) }
 
 -- the wall of a face is one word of the invariant
 pub wall-word : (m : List ℤ) (l f : ℕ) → faceWall m l f ≡ word (invariant m l) f
@@ -139,8 +134,8 @@ module _ (m t : List ℤ) (ok : Checked m t) where
         let p : Placed m e = placed e l in
         let s : SwitchPassed m e = model-passed .of-switch e l in
         rw (n-is, guard-is, reset-is, inv-is, from-is) (record {
-          guard-in = levels-of (n# m) (guard m e) (length-guard m whole e l) (s .guard-levels);
-          reset-in = levels-of (n# m) (reset m e) (length-reset m whole e l) (s .reset-levels);
+          guard-in = levels-from (n# m) (guard m e) (length-guard m whole e l) (s .guard-levels);
+          reset-in = levels-from (n# m) (reset m e) (length-reset m whole e l) (s .reset-levels);
           inv-in = invariant-in m model-passed (target m e) (p .target-is);
           from-ok = part-ok (source m e) (sourceFace m e + 1) (p .source-is) (omega (arith, p .variable-is, p .source-side));
           is-face = w;

@@ -1,15 +1,14 @@
-// What is asked of a table, and what passes over it come to (document 01, "Pass, ceiling", "Checker" and "Analysis").
+// The pass over a table (document 01, "Pass, ceiling"), and the parts from which it steps.
 ghost use mathlib.Core.Path.{_≡_};
 ghost use lib.ListN.{length};
 ghost use Rattle.plant.specs.Tables as T;
 ghost use Rattle.passes.specs.Checked.{Checked};
 
-pub mod ceiling;
-pub mod parts;
+mod parts;
 mod switches;
-pub mod touch;
-pub mod valid;
 mod walls;
+
+pub use parts::part_at;
 
 // A pass: writes to `out` the table after it, each face joined with every wall step and every switch step from `table`.
 pub fn pass<'a>(model: &'a [i32], table: &'a [i32], out: &mut [i32])

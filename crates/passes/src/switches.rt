@@ -25,7 +25,7 @@ fn join_switch(
     if integers::same(from[0], 1) {
         let mut after = [0i32; 12];
         let end = 2 * n;
-        let bounds = model::box_at(from, 1, n);
+        let bounds = records::box_at(from, 1, n);
         if steps::switch_step(n, mask, guard, reset, inv, bounds, &mut after) {
             tables::join(n, &after[..end], face);
         }
@@ -37,13 +37,13 @@ fn join_from<'a>(model: &'a [i32], table: &'a [i32], e: usize, face: &mut [i32])
     requires { ⌜ Checked (now model) (now table) × (e < E# (now model)) × IsFace (n# (now model)) (now face) ⌝ }
     ensures { λ _. ⌜ now (face .exit) ≡ joinedWith (n# (now (model .entry))) (now (face .entry)) (landing (now (model .entry)) (now (table .entry)) e) ⌝ }
 {
-    let n = model::variables(model);
-    let f = 2 * model::wall_variable(model, e) + model::source_side(model, e);
-    let from = parts::part(model, table, model::source(model, e), f + 1);
-    let inv = model::invariant(model, model::target(model, e));
-    let mask = model::reset_mask(model, e);
-    let guard = model::guard(model, e);
-    join_switch(n, mask, guard, model::reset(model, e), inv, from, face);
+    let n = records::variables(model);
+    let f = 2 * records::wall_variable(model, e) + records::source_side(model, e);
+    let from = parts::part(model, table, records::source(model, e), f + 1);
+    let inv = records::invariant(model, records::target(model, e));
+    let mask = records::reset_mask(model, e);
+    let guard = records::guard(model, e);
+    join_switch(n, mask, guard, records::reset(model, e), inv, from, face);
 }
 
 // Joins the step of switch e to the face on which it lands.
@@ -51,9 +51,9 @@ fn land<'a>(model: &'a [i32], table: &'a [i32], e: usize, out: &mut [i32])
     requires { ⌜ Checked (now model) (now table) × (e < E# (now model)) × IsTable (now model) (now out) ⌝ }
     ensures { λ _. ⌜ now (out .exit) ≡ withSwitch (now (model .entry)) (now (table .entry)) e (now (out .entry)) ⌝ }
 {
-    let n = model::variables(model);
-    let f = 2 * model::wall_variable(model, e) + model::target_side(model, e);
-    let at = tables::face_at(n, model::target(model, e), f);
+    let n = records::variables(model);
+    let f = 2 * records::wall_variable(model, e) + records::target_side(model, e);
+    let at = tables::face_at(n, records::target(model, e), f);
     let end = at + (1 + 2 * n);
     join_from(model, table, e, &mut out[at..end]);
 }
@@ -63,7 +63,7 @@ pub fn switches<'a>(model: &'a [i32], table: &'a [i32], out: &mut [i32])
     requires { ⌜ Checked (now model) (now table) × (now out ≡ tableBy (now model) (wallsJoined (now model) (now table))) ⌝ }
     ensures { λ _. ⌜ now (out .exit) ≡ T.pass (now (model .entry)) (now (table .entry)) ⌝ }
 {
-    let count = model::switches(model);
+    let count = records::switches(model);
     let mut e = 0;
     while e < count {
         land(model, table, e, out);

@@ -1,4 +1,5 @@
 -- Document 01, "Checker", "Analysis" and the ceiling as calls: the number, the values and every lent word, for every input.
+-- And what the calls on files give.
 use mathlib.Core.Bool.{Bool, true, false, cond, not}
 use mathlib.Core.List.{List}
 use Prim.Native.Nat.{ℕ, zero, suc}
@@ -14,6 +15,9 @@ use Rattle.plant.specs.declared.Verdict.the-variants as verdict
 use Rattle.plant.specs.declared.Ceiling.{Ceiling}
 use Rattle.plant.specs.declared.Ceiling.the-variants.{Passes}
 use Rattle.plant.specs.declared.Ceiling.the-variants as ceiling
+use Rattle.plant.specs.declared.Count.{Count}
+use Rattle.plant.specs.declared.Count.the-variants.{Done}
+use Rattle.plant.specs.declared.Count.the-variants as count
 use Rattle.plant.specs.Ask.{ask, _then_}
 use Rattle.plant.specs.Questions.{modelQuestions}
 use Rattle.plant.specs.Tables.{tableSize, tableOk, pass, tableAfter, touching, ceilingOf}
@@ -118,3 +122,22 @@ analyseBy (suc k) m limit table work = record { reply = refused (suc k); table =
 
 unfoldable pub analyseCall : (m : List ℤ) (limit : ℕ) (table work : List ℤ) → Analysed
 analyseCall m limit table work = analyseBy (analysisQuestions m table work) m limit table work
+
+-- ---- what reading and writing give: how many words or bytes, or a refusal
+
+abbrev pub countReply : Count → Reply
+countReply (Done k) = record { code = 100; value = k }
+countReply (count.Refused k) = refused k
+
+-- the reply, and the lent word buffer
+pub record ReadOutcome : Type 0 where
+  pub reply : Reply
+  pub words : List ℤ
+
+-- refused by k with the buffer as given, or what follows where k is 0
+unfoldable pub unlessRefused : ℕ → List ℤ → ReadOutcome → ReadOutcome
+unlessRefused zero words next = next
+unlessRefused (suc k) words next = record { reply = refused (suc k); words = words }
+
+abbrev pub zeroed : List ℤ → List ℤ
+zeroed words = replicate (length words) (pos 0)

@@ -2,70 +2,94 @@
 -- That box is ordered and inside the invariant, so its words are levels.
 use mathlib.Core.Path.{_≡_, refl, sym, ap, _∙_, subst}
 use mathlib.Core.Bool.{Bool, true, false, cond, _&&_}
-use mathlib.Core.List.{List}
-use Prim.Native.Nat.{ℕ, _+_, _*_, _≤_, _<_}
+use mathlib.Core.List.{List, [], _++_}
+use Prim.Native.Nat.{ℕ, _+_, _*_, _-_, _≤_, _<_}
 use native.Mathlib.Omega.{arith}
 use lib.Dec.{eqb}
 use lib.IntN.{ℤ, pos, negsuc, natAbs}
-use lib.Signed.{_≤ℤ_, ≤ℤ-refl}
-use lib.ListN.{length, take, length-take, take-append-drop}
-use lib.Seq.{length-take-le, getD-take}
+use lib.Signed.{leZ, _≤ℤ_, ≤ℤ-refl}
+use lib.ListN.{length, take, drop, length-take, take-append-drop}
+use lib.Seq.{length-take-le, getD-take, drop-append-add, drop-drop}
 use Rattle.integers.specs.Words.{onto}
+use Rattle.integers.specs.Counted.{allBelow}
 use Rattle.integers.proofs.Parts.{⁺, ⁻, arithZ}
 use Rattle.integers.proofs.Order.{trans}
 use Rattle.integers.proofs.Extremes.{max-right, min-right}
-use Rattle.integers.proofs.Buffers.{take-onto}
+use Rattle.integers.proofs.Buffers.{take-onto, length-onto, onto-none}
 use Rattle.plant.specs.declared.Interval.{Interval}
 use Rattle.plant.specs.declared.Delays.{Delays}
 use Rattle.plant.specs.declared.Delays.the-variants.{Between, Never}
-use Rattle.plant.specs.Box.{low, high, ordered, Ordered, Inside, cut, Face, absent, present, unlessEmpty, onBox}
+use Rattle.plant.specs.Box.{low, high, boxBy, ordered, Ordered, Inside, cut, Face, absent, present, unlessEmpty, onBox}
 use Rattle.plant.specs.Steps.{Bound, unbounded, bound, lowBound, highBound, cutLow, cutHigh, lowAfter, highAfter, boxAfter, faceAfter, wallDelays, wallStep, setMasked, guarded, landed, switchStep}
 use Rattle.plant.proofs.Boxes.{low-boxBy, high-boxBy, length-boxBy, length-cut, cut-right, FaceAll, unless-all, onBox-all}
 use Rattle.delays.specs.Ranges.{LevelAt, Levels}
-use Rattle.steps.specs.Given.{wallGives, landedBox, switchGives}
+use Rattle.steps.specs.Handing.{Handed}
+use Rattle.steps.proofs.Written.{not-all, ordered-by}
+use Rattle.steps.proofs.Landing.{landedBox}
 
 -- ---- the face handed over
 
--- by the answer r: the face's box is at the front of the words at exit, or there is none; the rest of them is unchanged
-pub record Handed (n : ℕ) (r : Bool) (exit out : List ℤ) (face : Face) : Type 0 where
-  pub is-face : face ≡ cond r (present (take (2 * n) exit)) absent
-  pub is-exit : exit ≡ onto (take (2 * n) exit) out
-  pub sized : length (take (2 * n) exit) ≡ 2 * n
-
 -- a box in the first places
-box-handed : (n : ℕ) (b out : List ℤ) (r : Bool) (face : Face) → length b ≡ 2 * n → face ≡ cond r (present b) absent → Handed n r (onto b out) out face
+pub box-handed : (n : ℕ) (b out : List ℤ) (r : Bool) (face : Face) → length b ≡ 2 * n → face ≡ cond r (present b) absent → Handed n r (onto b out) out face
 unfolding onto
 box-handed n b out r face l e =
     let t : take (2 * n) (onto b out) ≡ b = take-onto b out (2 * n) l in
     record { is-face = rw t e; is-exit = rw t refl; sized = rw t l }
 
--- no face, and nothing written
-none-handed : (n : ℕ) (out : List ℤ) → 2 * n ≤ length out → Handed n false out out absent
+-- a list whose first places were filled is, from place k on, as it was
+rest-kept : (a d : List ℤ) (k : ℕ) → length a ≤ k → drop k (onto a d) ≡ drop k d
 unfolding onto
-none-handed n out h =
-    let l : length (take (2 * n) out) ≡ 2 * n = length-take-le (2 * n) out h in
-    record { is-face = refl; is-exit = rw l (sym (take-append-drop (2 * n) out)); sized = l }
+rest-kept a d k h =
+    let j : ℕ = k - length a in
+    let e : length a + j ≡ k = omega arith in
+    ap (λ (x : ℕ). drop x (a ++ drop (length a) d)) (sym e) ∙ drop-append-add a (drop (length a) d) j ∙ drop-drop j (length a) d ∙ ap (λ (x : ℕ). drop x d) e
 
--- of an outcome that equals r and exit
-carried : (n : ℕ) (r : Bool) (exit out : List ℤ) (face : Face) (g : Bool × List ℤ) → (r, exit) ≡ g → Handed n (g .0) (g .1) out face → Handed n r exit out face
-carried n r exit out face g e h = subst (λ (x : Bool × List ℤ). Handed n (x .0) (x .1) out face) (sym e) h
+front-onto : (a d : List ℤ) (k : ℕ) → length a ≡ k → a ++ drop k d ≡ onto a d
+unfolding onto
+front-onto a d k e = ap (λ (x : ℕ). a ++ drop x d) (sym e)
+
+-- no face, and at most its places written
+pub none-handed : (n : ℕ) (a out : List ℤ) (face : Face) → length a ≤ 2 * n → 2 * n ≤ length out → face ≡ absent → Handed n false (onto a out) out face
+none-handed n a out face h room e =
+    let l : length (take (2 * n) (onto a out)) ≡ 2 * n = length-take-le (2 * n) (onto a out) (omega (arith, length-onto a out (omega arith))) in
+    record {
+      is-face = e;
+      is-exit = sym (take-append-drop (2 * n) (onto a out)) ∙ ap (λ (x : List ℤ). take (2 * n) (onto a out) ++ x) (rest-kept a out (2 * n) h) ∙ front-onto (take (2 * n) (onto a out)) out (2 * n) l;
+      sized = l;
+    }
 
 module _ (n : ℕ) (inv rate part : List ℤ) (d : ℕ) (b : ℤ) where
   length-after : (t : Interval) → length (boxAfter n inv rate part d b t) ≡ 2 * n
   unfolding boxAfter
   length-after t = length-boxBy n (lowAfter n inv rate part d b t) (highAfter n inv rate part d b t)
 
-  after-handed : (t : Delays) (out : List ℤ) → 2 * n ≤ length out → let g = wallGives n inv rate part d b t out in Handed n (g .0) (g .1) out (faceAfter n inv rate part d b t)
-  unfolding unlessEmpty
-  after-handed Never out h = none-handed n out h
-  after-handed (Between t) out h = box-handed n (boxAfter n inv rate part d b t) out (ordered n (boxAfter n inv rate part d b t)) _ (length-after t) refl
+  module _ (t : Interval) where
+    abbrev lo : ℕ → ℤ
+    lo = lowAfter n inv rate part d b t
 
--- the wall step hands over the face that it gives
-pub wall-handed : (n : ℕ) (inv rate part : List ℤ) (d : ℕ) (b : ℤ) {r : Bool} {exit out : List ℤ} → 2 * n ≤ length out
-    → (r, exit) ≡ wallGives n inv rate part d b (wallDelays n inv rate part d b) out → Handed n r exit out (wallStep n inv rate part d b)
-unfolding wallStep
-wall-handed n inv rate part d b {r} {exit} {out} h e =
-    carried n r exit out _ (wallGives n inv rate part d b (wallDelays n inv rate part d b) out) e (after-handed n inv rate part d b (wallDelays n inv rate part d b) out h)
+    abbrev hi : ℕ → ℤ
+    hi = highAfter n inv rate part d b t
+
+    -- all variables written, each ordered
+    pub after-all : {exit out : List ℤ} → allBelow n (λ j. leZ (lo j) (hi j)) ≡ true → exit ≡ onto (boxBy n lo hi) out → Handed n true exit out (faceAfter n inv rate part d b (Between t))
+    unfolding unlessEmpty boxAfter
+    after-all {exit} {out} o e =
+        rw e (box-handed n (boxBy n lo hi) out true _ (length-boxBy n lo hi) (ap (λ (x : Bool). cond x (present (boxBy n lo hi)) absent) (ordered-by n lo hi ∙ o)))
+
+    -- left at a variable that is not ordered
+    pub after-left : {exit out : List ℤ} (i : ℕ) → i < n → leZ (lo i) (hi i) ≡ false → 2 * n ≤ length out → exit ≡ onto (boxBy i lo hi) out → Handed n false exit out (faceAfter n inv rate part d b (Between t))
+    unfolding unlessEmpty boxAfter
+    after-left {exit} {out} i l o room e =
+        rw e (none-handed n (boxBy i lo hi) out _ (omega (arith, length-boxBy i lo hi)) room
+        (ap (λ (x : Bool). cond x (present (boxBy n lo hi)) absent) (ordered-by n lo hi ∙ not-all n (λ j. leZ (lo j) (hi j)) i l o)))
+
+  -- the delays decide
+  pub wall-by : {t : Delays} {r : Bool} {exit out : List ℤ} → wallDelays n inv rate part d b ≡ t → Handed n r exit out (faceAfter n inv rate part d b t) → Handed n r exit out (wallStep n inv rate part d b)
+  unfolding wallStep
+  wall-by {t} {r} {exit} {out} e h = subst (λ (x : Delays). Handed n r exit out (faceAfter n inv rate part d b x)) (sym e) h
+
+  pub wall-never : {out : List ℤ} → wallDelays n inv rate part d b ≡ Never → 2 * n ≤ length out → Handed n false out out (wallStep n inv rate part d b)
+  wall-never {out} e room = wall-by e (subst (λ (x : List ℤ). Handed n false x out absent) (sym (onto-none out)) (none-handed n [] out absent (omega arith) room refl))
 
 module _ (n mask : ℕ) (guard reset inv from : List ℤ) where
   length-landed : length (landedBox n mask guard reset inv from) ≡ 2 * n
@@ -81,13 +105,11 @@ module _ (n mask : ℕ) (guard reset inv from : List ℤ) where
   unfolding switchStep guarded landed unlessEmpty landedBox
   switch-is = two-cuts (ordered n (cut n from guard)) (ordered n (landedBox n mask guard reset inv from)) (cut n from guard) (landedBox n mask guard reset inv from) (landed n mask reset inv) refl
 
--- the switch step from a present face hands over the face on which it lands
-pub switch-handed : (n mask : ℕ) (guard reset inv from : List ℤ) {r : Bool} {exit out : List ℤ}
-    → (r, exit) ≡ switchGives n mask guard reset inv from out → Handed n r exit out (switchStep n mask guard reset inv (present from))
-unfolding switchGives
-switch-handed n mask guard reset inv from {r} {exit} {out} e =
-    carried n r exit out _ (switchGives n mask guard reset inv from out) e
-    (box-handed n (landedBox n mask guard reset inv from) out (ordered n (cut n from guard) && ordered n (landedBox n mask guard reset inv from)) _ (length-landed n mask guard reset inv from) (switch-is n mask guard reset inv from))
+  -- the switch step from a present face hands over the face on which it lands
+  pub switch-handed : {r : Bool} {exit out : List ℤ} → r ≡ ordered n (cut n from guard) && ordered n (landedBox n mask guard reset inv from) → exit ≡ onto (landedBox n mask guard reset inv from) out
+      → Handed n r exit out (switchStep n mask guard reset inv (present from))
+  switch-handed {r} {exit} {out} o e =
+      rw e (box-handed n (landedBox n mask guard reset inv from) out r _ length-landed (switch-is ∙ ap (λ (x : Bool). cond x (present (landedBox n mask guard reset inv from)) absent) (sym o)))
 
 -- the ends of the box at the front
 pub front-low : (n : ℕ) (s : List ℤ) (i : ℕ) → i < n → low (take (2 * n) s) i ≡ low s i

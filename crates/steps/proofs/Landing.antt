@@ -14,7 +14,6 @@ use Rattle.plant.specs.Model.{masked}
 use Rattle.plant.specs.Steps.{setMasked}
 use Rattle.plant.proofs.Boxes.{box-ext, low-cut, high-cut, low-setMasked, high-setMasked}
 use Rattle.delays.specs.Ranges.{Level, LevelAt}
-use Rattle.steps.specs.Given.{landedBox}
 use Rattle.steps.proofs.Bounds.{max-abs, min-abs, cond-abs}
 use Rattle.steps.proofs.Written.{ordered-by, next-tested}
 
@@ -27,6 +26,10 @@ pub half-mask : (mask i : ℕ) → mask / 2 ^ i / 2 ≡ mask / 2 ^ (i + 1)
 half-mask mask i = div-div-eq-div-mul mask (2 ^ i) 2 ∙ ap (λ (k : ℕ). mask / k) (sym (pow-suc 2 i) ∙ ap (λ (k : ℕ). 2 ^ k) (sym (add-one i)))
 
 -- ---- the ends
+
+-- the box on which a switch lands the box of the source's face
+unfoldable pub landedBox : (n mask : ℕ) (guard reset inv from : List ℤ) → List ℤ
+landedBox n mask guard reset inv from = cut n (cut n (setMasked n mask reset (cut n from guard)) reset) inv
 
 unfoldable pub guardedLow : (guard from : List ℤ) → ℕ → ℤ
 guardedLow guard from i = maxZ (low from i) (low guard i)

@@ -1,4 +1,5 @@
 pub mod Bounds
+pub mod Cuts
 pub mod Written
 pub mod Landing
 pub mod Faces

@@ -1,15 +1,18 @@
 -- What a loop over the variables has written to the front of the lent words, and tested, at i + 1 from what it has at i.
-use mathlib.Core.Path.{_≡_, refl, ap, ap₂, _∙_}
-use mathlib.Core.Bool.{Bool, true, _&&_}
+use mathlib.Core.Path.{_≡_, refl, sym, ap, ap₂, subst, _∙_}
+use mathlib.Core.Bool.{Bool, true, false, not, _&&_}
 use mathlib.Core.List.{List, [], _∷_, _++_, append-assoc}
 use Prim.Native.Nat.{ℕ, zero, suc, _+_, _*_, _<_}
 use native.Mathlib.Numerals.{add-one}
 use native.Mathlib.Omega.{arith}
-use lib.IntN.{ℤ}
-use lib.Signed.{leZ}
+use borrow.Author.Tests.{lt-leb}
+use lib.Dec.{T, leb, ltb, ltb→lt, nltb→le, le→leb}
+use lib.IntN.{ℤ, pos, negsuc}
+use lib.Signed.{ltZ, leZ}
 use lib.ListN.{length, set, length-append}
 use Rattle.integers.specs.Words.{onto}
 use Rattle.integers.specs.Counted.{allBelow}
+use Rattle.integers.proofs.Counted.{all-yes, is-true, true-is}
 use Rattle.integers.proofs.Buffers.{onto-none, onto-set, cat-none, cat-more}
 use Rattle.plant.specs.Box.{low, high, boxBy, ordered}
 use Rattle.plant.proofs.Boxes.{low-boxBy, high-boxBy, length-boxBy}
@@ -37,6 +40,14 @@ pub next-tested : (f : ℕ → Bool) (i : ℕ) → allBelow i f && f i ≡ allBe
 unfolding allBelow
 next-tested f i = rw (add-one i)
 
+untrue : (b : Bool) → (T b → ⊥) → b ≡ false
+untrue true h = absurd (h tt)
+untrue false h = refl
+
+-- a test that fails once
+pub not-all : (k : ℕ) (f : ℕ → Bool) (i : ℕ) → i < k → f i ≡ false → allBelow k f ≡ false
+not-all k f i l e = untrue (allBelow k f) (λ h. subst T e (all-yes k f h i l))
+
 -- the same test of each number below k
 all-ext : (k : ℕ) (f g : ℕ → Bool) → ((i : ℕ) → i < k → f i ≡ g i) → allBelow k f ≡ allBelow k g
 unfolding allBelow
@@ -48,3 +59,15 @@ pub ordered-by : (n : ℕ) (lo hi : ℕ → ℤ) → ordered n (boxBy n lo hi) �
 unfolding ordered
 ordered-by n lo hi =
     all-ext n (λ i. leZ (low (boxBy n lo hi) i) (high (boxBy n lo hi) i)) (λ i. leZ (lo i) (hi i)) (λ i l. ap₂ leZ (low-boxBy n lo hi i l) (high-boxBy n lo hi i l))
+
+-- ---- a test of order, by the other
+
+nat-le : (m n : ℕ) (t : Bool) → ltb n m ≡ t → leb m n ≡ not t
+nat-le m n true e = lt-leb m n (ltb→lt n m (true-is e))
+nat-le m n false e = is-true (le→leb m n (nltb→le n m (subst (λ (b : Bool). T (not b)) (sym e) tt)))
+
+pub le-by : (a b : ℤ) {t : Bool} → ltZ b a ≡ t → leZ a b ≡ not t
+le-by (pos a) (pos b) {t} e = nat-le a b t e
+le-by (pos a) (negsuc b) {t} e = ap not e
+le-by (negsuc a) (pos b) {t} e = ap not e
+le-by (negsuc a) (negsuc b) {t} e = nat-le b a t e

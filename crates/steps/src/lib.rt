@@ -4,11 +4,12 @@ ghost use mathlib.Core.Path.{_≡_};
 ghost use mathlib.Core.Bool.{cond};
 ghost use Prim.Native.Nat.{ℕ, _<_};
 ghost use Rattle.integers.specs.Rounding.{maxZ, minZ};
-ghost use Rattle.plant.specs.Box.{low, high};
-ghost use Rattle.plant.specs.Steps.{lowAt, highAt, lowBound, highBound, cutLow, cutHigh, lowAfter, highAfter, boxAfter, wallDelays};
+ghost use Rattle.plant.specs.Box.{low, high, present};
+ghost use Rattle.plant.specs.declared.Delays.the-variants.{Between};
+ghost use Rattle.plant.specs.Steps.{lowAt, highAt, lowBound, highBound, cutLow, cutHigh, lowAfter, highAfter, faceAfter, wallStep, switchStep};
 ghost use Rattle.delays.specs.Ranges.{Level, Rate, LevelAt, RateAt, Small, SmallInterval};
 ghost use Rattle.steps.specs.Ready.{WallReady, SwitchReady};
-ghost use Rattle.steps.specs.Given.{given, wallGives, switchGives};
+ghost use Rattle.steps.specs.Handing.{Handed};
 use plant::Delays;
 use plant::End;
 use plant::Fraction;
@@ -34,16 +35,48 @@ fn high_at(q: i64, c: i64, t: Fraction) -> i64
     q + integers::ceil_div(c * (num as i64), den)
 }
 
+// The low p at rate a after the delay t, cut to the invariant's low lo: without a division where it is not above lo.
+fn low_within(p: i64, a: i64, t: Fraction, lo: i64) -> i64
+    requires { ⌜ Level p × Rate a × Small t × Level lo ⌝ }
+    ensures { λ r. ⌜ r ≡ maxZ (lowAt p a t) lo ⌝ }
+{
+    let num = t.num;
+    let den = t.den;
+    let way = a * (num as i64);
+    let room = (lo - p) * (den as i64);
+    if way <= room {
+        lo
+    } else {
+        integers::larger(low_at(p, a, t), lo)
+    }
+}
+
+// The high q at rate c after the delay t, cut to the invariant's high hi: without a division where it is not below hi.
+fn high_within(q: i64, c: i64, t: Fraction, hi: i64) -> i64
+    requires { ⌜ Level q × Rate c × Small t × Level hi ⌝ }
+    ensures { λ r. ⌜ r ≡ minZ (highAt q c t) hi ⌝ }
+{
+    let num = t.num;
+    let den = t.den;
+    let way = c * (num as i64);
+    let room = (hi - q) * (den as i64);
+    if room <= way {
+        hi
+    } else {
+        integers::smaller(high_at(q, c, t), hi)
+    }
+}
+
 // The low p at rate a after the delays t, cut to the invariant's low lo.
 fn low_cut(p: i64, a: i64, t: Interval, lo: i64) -> i64
-    requires { ⌜ Level p × Rate a × SmallInterval t ⌝ }
+    requires { ⌜ Level p × Rate a × SmallInterval t × Level lo ⌝ }
     ensures { λ r. ⌜ r ≡ cutLow (lowBound p a t) lo ⌝ }
 {
     if a < 0 {
         let latest = t.latest;
         match latest {
             End::Endless => lo,
-            End::At(f) => integers::larger(low_at(p, a, f), lo),
+            End::At(f) => low_within(p, a, f, lo),
         }
     } else {
         let f = t.earliest;
@@ -53,14 +86,14 @@ fn low_cut(p: i64, a: i64, t: Interval, lo: i64) -> i64
 
 // The high q at rate c after the delays t, cut to the invariant's high hi.
 fn high_cut(q: i64, c: i64, t: Interval, hi: i64) -> i64
-    requires { ⌜ Level q × Rate c × SmallInterval t ⌝ }
+    requires { ⌜ Level q × Rate c × SmallInterval t × Level hi ⌝ }
     ensures { λ r. ⌜ r ≡ cutHigh (highBound q c t) hi ⌝ }
 {
     if 0 < c {
         let latest = t.latest;
         match latest {
             End::Endless => hi,
-            End::At(f) => integers::smaller(high_at(q, c, f), hi),
+            End::At(f) => high_within(q, c, f, hi),
         }
     } else {
         let f = t.earliest;
@@ -116,7 +149,7 @@ fn high_after(
     }
 }
 
-// The box after the delays t to the value b of variable d: writes it, and answers whether it is ordered.
+// The box after the delays t to the value b of variable d, if it is ordered: left at the first variable of which it is not.
 pub fn box_after(
     n: usize,
     inv: &[i32],
@@ -128,21 +161,22 @@ pub fn box_after(
     out: &mut [i32],
 ) -> bool
     requires { ⌜ WallReady n (now inv) (now rate) (now part) b (now out) × SmallInterval t ⌝ }
-    ensures { λ r. ⌜ (r, now (out .exit)) ≡ given n (boxAfter n (now (inv .entry)) (now (rate .entry)) (now (part .entry)) d b t) (now (out .entry)) ⌝ }
+    ensures { λ r. ⌜ Handed n r (now (out .exit)) (now (out .entry)) (faceAfter n (now (inv .entry)) (now (rate .entry)) (now (part .entry)) d b (Between t)) ⌝ }
 {
-    let mut ok = true;
     let mut i = 0;
     while i < n {
         let lo = low_after(inv, rate, part, d, b, t, i);
         let hi = high_after(inv, rate, part, d, b, t, i);
+        if hi < lo {
+            return false;
+        }
         let k = 2 * i;
         let j = k + 1;
         out[k] = lo as i32;
         out[j] = hi as i32;
-        ok = ok & (lo <= hi);
         i += 1;
     }
-    ok
+    true
 }
 
 // The wall step to the value b of variable d.
@@ -156,7 +190,7 @@ pub fn wall_step(
     out: &mut [i32],
 ) -> bool
     requires { ⌜ WallReady n (now inv) (now rate) (now part) b (now out) × (d < n) ⌝ }
-    ensures { λ r. ⌜ (r, now (out .exit)) ≡ wallGives n (now (inv .entry)) (now (rate .entry)) (now (part .entry)) d b (wallDelays n (now (inv .entry)) (now (rate .entry)) (now (part .entry)) d b) (now (out .entry)) ⌝ }
+    ensures { λ r. ⌜ Handed n r (now (out .exit)) (now (out .entry)) (wallStep n (now (inv .entry)) (now (rate .entry)) (now (part .entry)) d b) ⌝ }
 {
     let Delays::Between(t) = delays::wall_delays(rate, part, d, b) else {
         return false;
@@ -204,7 +238,7 @@ pub fn switch_step(
     out: &mut [i32],
 ) -> bool
     requires { ⌜ SwitchReady n (now guard) (now reset) (now inv) (now from) (now out) ⌝ }
-    ensures { λ r. ⌜ (r, now (out .exit)) ≡ switchGives n mask (now (guard .entry)) (now (reset .entry)) (now (inv .entry)) (now (from .entry)) (now (out .entry)) ⌝ }
+    ensures { λ r. ⌜ Handed n r (now (out .exit)) (now (out .entry)) (switchStep n mask (now (guard .entry)) (now (reset .entry)) (now (inv .entry)) (present (now (from .entry)))) ⌝ }
 {
     let mut ok = true;
     let mut rest = mask;

@@ -15,9 +15,11 @@ use Rattle.integers.specs.Counted.{cat}
 use Rattle.integers.specs.Rounding.{maxZ, minZ}
 use Rattle.integers.proofs.Buffers.{onto-set, onto-all, cat-more}
 use Rattle.plant.specs.Box.{low, high, boxBy, boxAt, hull, Face, absent, present, faceWords, join}
-use Rattle.plant.specs.Tables.{wordsPerLocation, faceSize, faceRead}
+use Rattle.plant.specs.Model.{n#, L#}
+use Rattle.plant.specs.Tables.{wordsPerLocation, faceSize, tableSize, faceRead}
 use Rattle.plant.proofs.Boxes.{low-boxBy, high-boxBy, length-boxBy, box-ext, low-boxAt, high-boxAt, length-boxAt, box-ends, length-hull}
 use Rattle.plant.proofs.Tables.{words-per-location}
+use Rattle.records.specs.Whole.{Head}
 
 -- ---- a buffer that is filled from the front
 
@@ -164,3 +166,8 @@ place-small n l f p q h k =
     let e : faceSize n ≤ 13 = omega arith in
     let b : f * faceSize n ≤ 12 * 13 = mul-le-mul k e in
     (omega arith, omega arith)
+
+-- the largest table: 64 locations of 6 variables
+pub table-most : (m : List ℤ) → Head m → tableSize m ≤ 9984
+unfolding tableSize
+table-most m h = place-small (n# m) (L# m) 0 (h .n-positive) (h .n-small) (h .L-small) (omega arith) .0

@@ -7,7 +7,8 @@ ghost use Rattle.integers.specs.Rounding.{maxZ, minZ};
 ghost use Rattle.integers.specs.Words.{word};
 ghost use Rattle.plant.specs.Box as B;
 ghost use Rattle.plant.specs.Box.{hull, boxAt, present, faceWords};
-ghost use Rattle.plant.specs.Tables.{wordsPerLocation, faceSize, faceRead};
+ghost use Rattle.plant.specs.Tables.{wordsPerLocation, faceSize, tableSize, faceRead};
+ghost use Rattle.records.specs.Whole.{Head};
 ghost use Rattle.tables.specs.Room.{Joinable};
 
 // Words per location, of 1 to 6 variables.
@@ -18,6 +19,14 @@ pub fn words_per_location(n: usize) -> usize
     ensures { λ r. ⌜ r ≡ wordsPerLocation n ⌝ }
 {
     SIZES[n - 1]
+}
+
+// How many words a table of the model has.
+pub fn table_size(model: &[i32]) -> usize
+    requires { ⌜ Head (now model) ⌝ }
+    ensures { λ r. ⌜ r ≡ tableSize (now (model .entry)) ⌝ }
+{
+    records::locations(model) * words_per_location(records::variables(model))
 }
 
 // Where face f of location l begins.

@@ -6,15 +6,17 @@ use Prim.Native.Nat.{ℕ, _+_, _*_, _/_, _%_, _≤_, _<_}
 use native.Mathlib.Nat.{add-zero}
 use native.Mathlib.Omega.{arith}
 use borrow.Author.Tests.{le-leb, lt-leb, leb-true}
-use lib.Dec.{leb}
+use lib.Dec.{T, eqb, eqb→eq, leb}
 use lib.IntN.{ℤ}
 use lib.ListN.{length, getD, take, drop, length-append, length-drop, take-append-drop}
 use lib.Seq.{getD-at, getD-drop, getD-append-add, drop-at, take-at, drop-drop, length-take-le}
 use Rattle.integers.specs.Words.{onto}
 use Rattle.integers.specs.Counted.{cat}
+use Rattle.integers.proofs.Tests.{and-yes}
 use Rattle.integers.proofs.Buffers.{length-cat-below, cat-ext, cat-at, cat-parts}
 use Rattle.wire.specs.Bytes.{wordsAt, wordsBytes, part}
-use Rattle.wire.specs.Fields.{lengthAt, fieldAt, fieldPlace, header, field}
+use Rattle.wire.specs.Fields.{lengthAt, fieldAt, isField, fieldPlace, header, field}
+use Rattle.wire.specs.declared.Field.{Field}
 use Rattle.wire.specs.declared.Field.the-variants.{Whole, Cut, Short}
 use Rattle.wire.proofs.Buffers.{onto-then}
 use Rattle.wire.proofs.Words.{AreBytes, AreWords, length-bytes, length-part, words-back, all-bytes-back}
@@ -99,6 +101,28 @@ by-tests s at false b tag start len next t e = absurd (let z : _≡_ {A = ℕ} 0
 pub field-lies : (s : List ℕ) (at tag start len next : ℕ) → fieldAt s at ≡ Whole tag start len next → Lies s at tag start len next
 unfolding fieldAt
 field-lies s at tag start len next e = by-tests s at (leb (at + 3) (length s)) (leb (at + 3 + lengthAt s at) (length s)) tag start len next refl e
+
+-- the due field stands at a position, whole
+pub record Due (s : List ℕ) (at tag len : ℕ) : Type 0 where
+  pub field-is : fieldAt s at ≡ Whole tag (at + 3) len (at + 3 + len)
+  pub there : at + 3 + len ≤ length s
+
+lies-due : (s : List ℕ) (at tag start len next : ℕ) → fieldAt s at ≡ Whole tag start len next → Due s at tag len
+lies-due s at tag start len next e =
+    let l : Lies s at tag start len next = field-lies s at tag start len next e in
+    record { field-is = rw (← (l .next-is), ← (l .start-is)) e; there = omega (arith, l .next-is, l .there) }
+
+by-field : (s : List ℕ) (at tag len : ℕ) (f : Field) → fieldAt s at ≡ f → T (isField f tag len) → Due s at tag len
+by-field s at tag len (Whole t start l next) e h =
+    let a : T (eqb t tag) × T (eqb l len) = and-yes (eqb t tag) (eqb l len) h in
+    let p : t ≡ tag = eqb→eq t tag (a .0) in
+    let q : l ≡ len = eqb→eq l len (a .1) in
+    lies-due s at tag start len next (rw (p, q) at e)
+by-field s at tag len (Cut t) e h = absurd h
+by-field s at tag len Short e h = absurd h
+
+pub due : (s : List ℕ) (at tag len : ℕ) → T (isField (fieldAt s at) tag len) → Due s at tag len
+due s at tag len h = by-field s at tag len (fieldAt s at) refl h
 
 header-front : (s : List ℕ) → AreBytes s → 3 ≤ length s → s ≡ header (getD s 0 0) (lengthAt s 0) ++ drop 3 s
 header-front [] b h = absurd (omega arith)

@@ -1,8 +1,8 @@
 -- Document 01, "Files": a field is a one-byte tag, a two-byte length of the payload (highest byte first), the payload.
-use mathlib.Core.Bool.{cond}
+use mathlib.Core.Bool.{Bool, false, cond, _&&_}
 use mathlib.Core.List.{List, [], _∷_, _++_}
 use Prim.Native.Nat.{ℕ, _+_, _*_, _/_, _%_}
-use lib.Dec.{leb}
+use lib.Dec.{eqb, leb}
 use lib.ListN.{length, getD}
 use Rattle.wire.specs.declared.Field.{Field}
 use Rattle.wire.specs.declared.Field.the-variants.{Whole, Cut, Short}
@@ -22,6 +22,12 @@ fieldAt s at =
     (Whole (getD s at 0) (at + 3) (lengthAt s at) (at + 3 + lengthAt s at))
     (Cut (getD s at 0)))
     Short
+
+-- a whole field of this tag and this length
+abbrev pub isField : Field → (tag len : ℕ) → Bool
+isField (Whole t start l next) tag len = eqb t tag && eqb l len
+isField (Cut t) tag len = false
+isField Short tag len = false
 
 -- where field i of a run of fields begins, each with a payload of w words
 abbrev pub fieldPlace : (from w i : ℕ) → ℕ

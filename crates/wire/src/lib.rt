@@ -7,7 +7,7 @@ ghost use mir.Syntax.{w32};
 ghost use mir.Val.{toZ, ofZ};
 ghost use Rattle.integers.specs.Words.{onto};
 ghost use Rattle.wire.specs.Bytes.{bitsAt, wordAt, wordsAt, bitsBytes, wordBytes, wordsBytes, part};
-ghost use Rattle.wire.specs.Fields.{lengthAt, fieldAt, header, field};
+ghost use Rattle.wire.specs.Fields.{lengthAt, fieldAt, isField, header, field};
 
 // ---- from bytes to words
 
@@ -153,6 +153,17 @@ pub fn field_at(file: &[u8], at: usize) -> Field
         start,
         len,
         next: start + len,
+    }
+}
+
+// A whole field of this tag and this length.
+pub fn is_field(f: Field, tag: u8, len: usize) -> bool
+    ensures { λ r. ⌜ r ≡ isField f tag len ⌝ }
+{
+    match f {
+        Field::Whole { tag: t, len: l, .. } => (t == tag) & (l == len),
+        Field::Cut { .. } => false,
+        Field::Short => false,
     }
 }
 

@@ -9,6 +9,7 @@ use lib.ListN.{length, take, replicate}
 use lib.Seq.{length-take-le, length-front}
 use Rattle.plant.specs.Tables.{tableSize}
 use Rattle.plant.specs.Calls.{analysisQuestions}
+use Rattle.model.proofs.Passing.{head-ready}
 use Rattle.analysis.specs.Ready.{Sized}
 use Rattle.analysis.proofs.Calls.{model-asked, table-room, work-room, is-answered}
 use Rattle.analysis.proofs.analyse_passed.Statement.{statement}
@@ -32,7 +33,7 @@ module _ (m table work : List ℤ) (yes : analysisQuestions m table work ≡ 0) 
   parts-sized = (record { passes = model-asked m table work yes; size = table-part ∙ is-size }, record { passes = model-asked m table work yes; size = work-part ∙ is-size })
 
 table-size-requires : tie.Need-table-size-requires
-table-size-requires c κs = model-asked _ _ _ (c .pre)
+table-size-requires c κs = head-ready _ (model-asked _ _ _ (c .pre))
 
 slice-relend-prefix-counted-passes : tie.Need-slice-relend-prefix-counted-passes
 slice-relend-prefix-counted-passes c = table-fits _ _ _ (c .before .pre) (c .table-size .ensures)

@@ -3,7 +3,7 @@ use mathlib.Core.Path.{ap}
 use native.Mathlib.Omega.{arith}
 use lib.ListN.{length}
 use borrow.Author.Needs.{needs}
-use Rattle.model.proofs.Positions as at
+use Rattle.records.proofs.Positions as at
 use Rattle.model.proofs.boxes_question.Statement.{statement}
 use Rattle.model.proofs.boxes_question.Tie as tie
 

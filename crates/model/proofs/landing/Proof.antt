@@ -4,8 +4,8 @@ use native.Mathlib.Omega.{arith}
 use lib.ListN.{length}
 use borrow.Author.Needs.{needs}
 use Rattle.integers.proofs.Signed.{got32}
-use Rattle.model.proofs.Walls.{landing-set, landing-kept}
-use Rattle.model.proofs.Positions as at
+use Rattle.model.proofs.Switch.{landing-set, landing-kept}
+use Rattle.records.proofs.Positions as at
 use Rattle.model.proofs.landing.Statement.{statement}
 use Rattle.model.proofs.landing.Tie as tie
 

@@ -1,7 +1,7 @@
 -- Word j < 6 of the record of switch e lies within the words.
 use native.Mathlib.Omega.{arith}
 use borrow.Author.Needs.{needs}
-use Rattle.model.proofs.Positions as at
+use Rattle.records.proofs.Positions as at
 use Rattle.model.proofs.number_question.Statement.{statement}
 use Rattle.model.proofs.number_question.Tie as tie
 

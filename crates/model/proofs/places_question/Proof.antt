@@ -5,7 +5,7 @@ use native.Mathlib.Omega.{arith}
 use borrow.Author.Needs.{needs}
 use Rattle.plant.specs.Questions as Q
 use Rattle.plant.proofs.Asks.{both}
-use Rattle.model.proofs.Walls.{masks-small, masks-shift}
+use Rattle.model.proofs.Switch.{masks-small, masks-shift}
 use Rattle.model.proofs.places_question.Statement.{statement}
 use Rattle.model.proofs.places_question.Tie as tie
 

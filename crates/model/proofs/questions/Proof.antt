@@ -7,7 +7,7 @@ use borrow.Author.Needs.{needs}
 use Rattle.plant.specs.Model.{modelSize}
 use Rattle.plant.specs.Questions.{modelQuestions}
 use Rattle.plant.proofs.Asks.{go, halt}
-use Rattle.model.specs.Whole.{Head, Whole}
+use Rattle.records.specs.Whole.{Head, Whole}
 use Rattle.model.proofs.Passing.{head-passed, too-short, long-enough}
 use Rattle.model.proofs.questions.Statement.{statement}
 use Rattle.model.proofs.questions.Tie as tie

@@ -5,8 +5,8 @@ use lib.ListN.{length}
 use borrow.Author.Needs.{needs}
 use Rattle.integers.proofs.Signed.{got32}
 use Rattle.plant.proofs.Asks.{both}
-use Rattle.model.proofs.Passing.{single-is, lands-is}
-use Rattle.model.proofs.Positions as at
+use Rattle.model.proofs.Switch.{single-is, lands-is}
+use Rattle.records.proofs.Positions as at
 use Rattle.model.proofs.walls_questions.Statement.{statement}
 use Rattle.model.proofs.walls_questions.Tie as tie
 

@@ -30,10 +30,11 @@ high-cut-requires : tie.Need-high-cut-requires
 unfolding high
 high-cut-requires c κs =
     let s = c .before .before .before .before in
+    let v = c .before .before .before .word in
     let p = c .before .word2 in
     let a = c .word3 in
-    simp (got64 (p .result) (p .ok), got64 (a .result) (a .ok))
-    (rw (p .ensures) (s .pre .2 .high-in), rw (a .ensures) (s .pre .1 .high-in), s .pre .3)
+    simp (got64 (v .result) (v .ok), got64 (p .result) (p .ok), got64 (a .result) (a .ok))
+    (rw (p .ensures) (s .pre .2 .high-in), rw (a .ensures) (s .pre .1 .high-in), s .pre .3, rw (v .ensures) (s .pre .0 .high-in))
 
 returns : tie.Need-returns
 unfolding high highAfter

@@ -13,20 +13,17 @@ enum-told c = search needs
 enum-known-latest : tie.Need-enum-known-latest
 enum-known-latest c = search needs
 
-high-at-requires : tie.Need-high-at-requires
-high-at-requires c κs =
+high-within-requires : tie.Need-high-within-requires
+high-within-requires c κs =
     let s = c .before .before .before .before in
-    simp (toZ-ofZ (s .fits .q), toZ-ofZ (s .fits .c))
-    (s .pre .0, s .pre .1, subst SmallEnd (c .before .latest .given .1) (s .pre .2 .latest-small))
+    simp (toZ-ofZ (s .fits .q), toZ-ofZ (s .fits .c), toZ-ofZ (s .fits .hi))
+    (s .pre .0, s .pre .1, subst SmallEnd (c .before .latest .given .1) (s .pre .2 .latest-small), s .pre .3)
+
+high-at-requires : tie.Need-high-at-requires
+high-at-requires c κs = search needs
 
 smaller-requires : tie.Need-smaller-requires
 smaller-requires c κs = search needs
-
-high-at-requires-2 : tie.Need-high-at-requires-2
-high-at-requires-2 c κs = search needs
-
-smaller-requires-2 : tie.Need-smaller-requires-2
-smaller-requires-2 c κs = search needs
 
 returns : tie.Need-returns
 returns c =
@@ -35,19 +32,17 @@ returns c =
 
 returns-2 : tie.Need-returns-2
 returns-2 c =
-    let f = c .before .before .before .before .before .before .fits in
-    let t = simp (toZ-ofZ (f .c)) at (c .before .before .before .before .before .if1 .taken) in
-    let r = got64 (c .before .high-at .result) (c .before .high-at .ok) in
-    let g = simp (r, toZ-ofZ (f .hi)) at (c .smaller .ensures) in
-    got64 (c .smaller .result) (c .smaller .ok) ∙ g ∙ simp (c .before .high-at .ensures, toZ-ofZ (f .q), toZ-ofZ (f .c), t, c .before .before .before .latest .given .1)
+    let f = c .before .before .before .before .before .fits in
+    let t = simp (toZ-ofZ (f .c)) at (c .before .before .before .before .if1 .taken) in
+    got64 (c .high-within .result) (c .high-within .ok) ∙ simp (c .high-within .ensures, toZ-ofZ (f .q), toZ-ofZ (f .c), toZ-ofZ (f .hi), t, c .before .before .latest .given .1)
 
 returns-3 : tie.Need-returns-3
 returns-3 c =
     let f = c .before .before .before .before .fits in
     let t = simp (toZ-ofZ (f .c)) at (c .before .before .before .if1 .left) in
-    let r = got64 (c .before .high-at2 .result) (c .before .high-at2 .ok) in
-    let g = simp (r, toZ-ofZ (f .hi)) at (c .smaller2 .ensures) in
-    got64 (c .smaller2 .result) (c .smaller2 .ok) ∙ g ∙ simp (c .before .high-at2 .ensures, toZ-ofZ (f .q), toZ-ofZ (f .c), t)
+    let r = got64 (c .before .high-at .result) (c .before .high-at .ok) in
+    let g = simp (r, toZ-ofZ (f .hi)) at (c .smaller .ensures) in
+    got64 (c .smaller .result) (c .smaller .ok) ∙ g ∙ simp (c .before .high-at .ensures, toZ-ofZ (f .q), toZ-ofZ (f .c), t)
 
 pub high-cut-spec : {M : Type 1} → statement M
 high-cut-spec =
@@ -55,10 +50,9 @@ high-cut-spec =
     (tie.spec
     enum-told
     enum-known-latest
+    high-within-requires
     high-at-requires
     smaller-requires
-    high-at-requires-2
-    smaller-requires-2
     returns
     returns-2
     returns-3)

@@ -27,10 +27,11 @@ low-cut-requires : tie.Need-low-cut-requires
 unfolding low
 low-cut-requires c κs =
     let s = c .before .before .before .before in
+    let v = c .before .before .before .word in
     let p = c .before .word2 in
     let a = c .word3 in
-    simp (got64 (p .result) (p .ok), got64 (a .result) (a .ok))
-    (rw (p .ensures) (s .pre .2 .low-in), rw (a .ensures) (s .pre .1 .low-in), s .pre .3)
+    simp (got64 (v .result) (v .ok), got64 (p .result) (p .ok), got64 (a .result) (a .ok))
+    (rw (p .ensures) (s .pre .2 .low-in), rw (a .ensures) (s .pre .1 .low-in), s .pre .3, rw (v .ensures) (s .pre .0 .low-in))
 
 returns : tie.Need-returns
 unfolding low lowAfter

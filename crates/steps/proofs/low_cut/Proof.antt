@@ -13,20 +13,17 @@ enum-told c = search needs
 enum-known-latest : tie.Need-enum-known-latest
 enum-known-latest c = search needs
 
-low-at-requires : tie.Need-low-at-requires
-low-at-requires c κs =
+low-within-requires : tie.Need-low-within-requires
+low-within-requires c κs =
     let s = c .before .before .before .before in
-    simp (toZ-ofZ (s .fits .p), toZ-ofZ (s .fits .a))
-    (s .pre .0, s .pre .1, subst SmallEnd (c .before .latest .given .1) (s .pre .2 .latest-small))
+    simp (toZ-ofZ (s .fits .p), toZ-ofZ (s .fits .a), toZ-ofZ (s .fits .lo))
+    (s .pre .0, s .pre .1, subst SmallEnd (c .before .latest .given .1) (s .pre .2 .latest-small), s .pre .3)
+
+low-at-requires : tie.Need-low-at-requires
+low-at-requires c κs = search needs
 
 larger-requires : tie.Need-larger-requires
 larger-requires c κs = search needs
-
-low-at-requires-2 : tie.Need-low-at-requires-2
-low-at-requires-2 c κs = search needs
-
-larger-requires-2 : tie.Need-larger-requires-2
-larger-requires-2 c κs = search needs
 
 returns : tie.Need-returns
 returns c =
@@ -35,19 +32,17 @@ returns c =
 
 returns-2 : tie.Need-returns-2
 returns-2 c =
-    let f = c .before .before .before .before .before .before .fits in
-    let t = simp (toZ-ofZ (f .a)) at (c .before .before .before .before .before .if1 .taken) in
-    let r = got64 (c .before .low-at .result) (c .before .low-at .ok) in
-    let g = simp (r, toZ-ofZ (f .lo)) at (c .larger .ensures) in
-    got64 (c .larger .result) (c .larger .ok) ∙ g ∙ simp (c .before .low-at .ensures, toZ-ofZ (f .p), toZ-ofZ (f .a), t, c .before .before .before .latest .given .1)
+    let f = c .before .before .before .before .before .fits in
+    let t = simp (toZ-ofZ (f .a)) at (c .before .before .before .before .if1 .taken) in
+    got64 (c .low-within .result) (c .low-within .ok) ∙ simp (c .low-within .ensures, toZ-ofZ (f .p), toZ-ofZ (f .a), toZ-ofZ (f .lo), t, c .before .before .latest .given .1)
 
 returns-3 : tie.Need-returns-3
 returns-3 c =
     let f = c .before .before .before .before .fits in
     let t = simp (toZ-ofZ (f .a)) at (c .before .before .before .if1 .left) in
-    let r = got64 (c .before .low-at2 .result) (c .before .low-at2 .ok) in
-    let g = simp (r, toZ-ofZ (f .lo)) at (c .larger2 .ensures) in
-    got64 (c .larger2 .result) (c .larger2 .ok) ∙ g ∙ simp (c .before .low-at2 .ensures, toZ-ofZ (f .p), toZ-ofZ (f .a), t)
+    let r = got64 (c .before .low-at .result) (c .before .low-at .ok) in
+    let g = simp (r, toZ-ofZ (f .lo)) at (c .larger .ensures) in
+    got64 (c .larger .result) (c .larger .ok) ∙ g ∙ simp (c .before .low-at .ensures, toZ-ofZ (f .p), toZ-ofZ (f .a), t)
 
 pub low-cut-spec : {M : Type 1} → statement M
 low-cut-spec =
@@ -55,10 +50,9 @@ low-cut-spec =
     (tie.spec
     enum-told
     enum-known-latest
+    low-within-requires
     low-at-requires
     larger-requires
-    low-at-requires-2
-    larger-requires-2
     returns
     returns-2
     returns-3)

@@ -14,9 +14,9 @@ use Rattle.integers.proofs.Signed.{got64, back32, fits32}
 use Rattle.plant.specs.Box.{boxBy}
 use Rattle.plant.specs.Model.{masked}
 use Rattle.delays.specs.Ranges.{Level}
-use Rattle.steps.specs.Given.{switchGives}
 use Rattle.steps.proofs.Written.{none-written, next-written}
 use Rattle.steps.proofs.Landing.{guardedLow, guardedHigh, landedLow, landedHigh, landed-by, lands-by, none-both, next-both, whole-mask, half-mask, landed-low-level, landed-high-level}
+use Rattle.steps.proofs.Faces.{switch-handed}
 use Rattle.steps.proofs.switch_step.Statement.{statement}
 use Rattle.steps.proofs.switch_step.Tie as tie
 
@@ -149,12 +149,11 @@ same-length : tie.Need-same-length Inv-loop μ-loop
 same-length c = search needs
 
 returns : tie.Need-returns Inv-loop μ-loop
-unfolding switchGives
 returns c =
     let a = c .before .before .args in
     let l = c .before .loop in
     let e : l .i ≡ a .n = omega arith in
-    ap₂ (λ (x : Bool) (y : List ℤ). (x, y))
+    switch-handed (a .n) (a .mask) (a .guard .now) (a .reset .now) (a .inv .now) (a .from .now)
     (simp e at (l .inv .4) ∙ sym (lands-by (a .n) (a .mask) (a .guard .now) (a .reset .now) (a .inv .now) (a .from .now)))
     (rw (landed-by (a .n) (a .mask) (a .guard .now) (a .reset .now) (a .inv .now) (a .from .now)) (simp e at (l .inv .3)))
 

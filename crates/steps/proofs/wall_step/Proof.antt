@@ -7,6 +7,7 @@ use Rattle.plant.specs.declared.Delays.the-variants.{Between}
 use Rattle.delays.specs.Ranges.{SmallInterval}
 use Rattle.delays.proofs.Small.{delays-small}
 use borrow.Author.Needs.{needs}
+use Rattle.steps.proofs.Faces.{wall-by, wall-never}
 use Rattle.steps.proofs.wall_step.Statement.{statement}
 use Rattle.steps.proofs.wall_step.Tie as tie
 
@@ -40,8 +41,8 @@ enum-told c = search needs
 
 returns : tie.Need-returns
 returns c =
-    let never = sym (wall-is (c .before .before)) ∙ c .enum-told .given .1 in
-    simp never
+    let s = c .before .before .before in
+    wall-never (s .args .n) (s .args .inv .now) (s .args .rate .now) (s .args .part .now) (s .args .d) (s .args .b) (sym (wall-is (c .before .before)) ∙ c .enum-told .given .1) (s .pre .0 .room)
 
 box-after-requires : tie.Need-box-after-requires
 box-after-requires c κs =
@@ -54,7 +55,7 @@ same-length c = search needs
 returns-2 : tie.Need-returns-2
 returns-2 c =
     let s = c .before .before .before .before .before .before .before in
-    simp (found (c .before .before .before .before)) (simp (toZ-ofZ (s .fits .b)) at (c .before .box-after .ensures))
+    wall-by (s .args .n) (s .args .inv .now) (s .args .rate .now) (s .args .part .now) (s .args .d) (s .args .b) (found (c .before .before .before .before)) (simp (toZ-ofZ (s .fits .b)) at (c .before .box-after .ensures))
 
 pub wall-step-spec : {M : Type 1} → statement M
 wall-step-spec =

@@ -1,72 +1,30 @@
--- Part 0 is read where the start flag stands, part f + 1 where face f begins.
-use mathlib.Core.Path.{_∙_}
-use Prim.Native.Nat.{_-_}
-use Rattle.model.proofs.Positions.{location-small, location-within}
+-- The faces of location l begin where face 0 does.
 use native.Mathlib.Omega.{arith}
-use Rattle.plant.proofs.Passed.{Passed, passed}
-use Rattle.passes.proofs.PartWords.{whole, face-place, face-end, start-words, face-words}
+use mathlib.Core.Path.{ap, _∙_}
+use Prim.Native.Nat.{ℕ, _*_}
 use borrow.Author.Needs.{needs}
+use Rattle.plant.specs.Tables.{wordsPerLocation}
+use Rattle.plant.proofs.Passed.{Passed, passed}
+use Rattle.passes.proofs.PartWords.{whole}
 use Rattle.passes.proofs.parts.part.Statement.{statement}
 use Rattle.passes.proofs.parts.part.Tie as tie
 
 variables-requires : tie.Need-variables-requires
 variables-requires c κs = whole (c .args .model .now) (c .pre .0 .passes) .head
 
-location-at-requires : tie.Need-location-at-requires
-location-at-requires c κs = let s = c .before .before in (whole (s .args .model .now) (s .pre .0 .passes) .head, omega (arith, passed (s .args .model .now) (s .pre .0 .passes) .L-small))
-
-mul-face : tie.Need-mul-face
-mul-face c = let s = c .before .before .before in record { fits = omega (arith, c .before .before .variables .ensures, passed (s .args .model .now) (s .pre .0 .passes) .n-small) }
-
-add-face : tie.Need-add-face
-add-face c =
-    let s = c .before .before .before in
-    let ok : Passed (s .args .model .now) = passed (s .args .model .now) (s .pre .0 .passes) in
-    record { fits = omega (arith, c .before .before .variables .ensures, ok .n-small, c .location-at .ensures, location-small (s .args .model .now) (whole (s .args .model .now) (s .pre .0 .passes) .head) (s .args .l) (omega (arith, ok .L-small))) }
-
-face-requires : tie.Need-face-requires
-face-requires c κs =
-    let s = c .before .before .before in
-    omega (arith, c .before .before .variables .ensures, c .location-at .ensures, location-within (s .args .model .now) (whole (s .args .model .now) (s .pre .0 .passes)) (s .args .l) (s .pre .1))
-
-sub-face-at : tie.Need-sub-face-at
-sub-face-at c = search needs
-
 face-at-requires : tie.Need-face-at-requires
 face-at-requires c κs =
-    let s = c .before .before in
+    let s = c .before in
     let ok : Passed (s .args .model .now) = passed (s .args .model .now) (s .pre .0 .passes) in
-    omega (arith, c .before .variables .ensures, ok .n-positive, ok .n-small, ok .L-small)
+    omega (arith, c .variables .ensures, ok .n-positive, ok .n-small, ok .L-small)
 
-face-requires-2 : tie.Need-face-requires-2
-face-requires-2 c κs =
-    let s = c .before .before .before in
-    let ok : Passed (s .args .model .now) = passed (s .args .model .now) (s .pre .0 .passes) in
-    face-end (s .args .model .now) (s .args .table .now) (s .args .l) (s .args .p - 1) (c .before .before .variables .result) (c .face-at .result) (c .before .before .variables .ensures) (c .face-at .ensures) ok (s .pre .0 .room) (s .pre .1) (omega arith)
+part-at-requires : tie.Need-part-at-requires
+part-at-requires c κs =
+    let s = c .before .before in
+    (s .pre .0, s .pre .1, c .face-at .ensures ∙ omega arith ∙ ap (λ (k : ℕ). s .args .l * wordsPerLocation k) (c .before .variables .ensures), s .pre .2)
 
 returns : tie.Need-returns
-returns c =
-    let s = c .before .before .before .before in
-    c .face .ensures ∙ start-words (s .args .model .now) (s .args .table .now) (s .args .l) (s .args .p) (c .before .before .before .variables .result) (c .before .location-at .result) (c .before .before .if1 .taken) (c .before .before .before .variables .ensures) (c .before .location-at .ensures)
-
-returns-2 : tie.Need-returns-2
-returns-2 c =
-    let s = c .before .before .before .before in
-    let n = c .before .before .before .variables in
-    let place = face-place (s .args .model .now) (s .args .table .now) (s .args .l) (s .args .p - 1) (n .result) (c .before .face-at .result) (n .ensures) (c .before .face-at .ensures) in
-    c .face2 .ensures ∙ face-words (s .args .model .now) (s .args .table .now) (s .args .l) (s .args .p) (n .result) (c .before .face-at .result) (c .before .before .if1 .left) (n .ensures) place
+returns c = search needs
 
 pub part-spec : {M : Type 1} → statement M
-part-spec =
-    tie.close
-    (tie.spec
-    variables-requires
-    location-at-requires
-    mul-face
-    add-face
-    face-requires
-    sub-face-at
-    face-at-requires
-    face-requires-2
-    returns
-    returns-2)
+part-spec = tie.close (tie.spec variables-requires face-at-requires part-at-requires returns)

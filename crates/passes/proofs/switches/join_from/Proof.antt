@@ -7,7 +7,7 @@ use Prim.Native.Nat.{ℕ, _+_, _*_}
 use Rattle.plant.specs.Model.{invariant, source, wallVariable, sourceSide}
 use Rattle.plant.specs.Tables.{sourceFace}
 use Rattle.passes.specs.Parts.{partWords}
-use Rattle.model.specs.Whole.{Whole, Placed}
+use Rattle.records.specs.Whole.{Whole, Placed}
 use Rattle.passes.proofs.Reading.{whole, placed, source-place, switch-join, step-joined}
 use borrow.Author.Needs.{needs}
 use Rattle.passes.proofs.switches.join_from.Statement.{statement}

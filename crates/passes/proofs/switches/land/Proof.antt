@@ -4,7 +4,7 @@ use native.Mathlib.Omega.{arith}
 use Prim.Native.Nat.{_+_, _-_, _*_}
 use Rattle.plant.specs.Model.{target}
 use Rattle.plant.specs.Tables.{faceAt, targetFace}
-use Rattle.model.specs.Whole.{Whole, Placed}
+use Rattle.records.specs.Whole.{Whole, Placed}
 use Rattle.passes.proofs.Reading.{whole, table-filled, placed, target-face, target-place, target-at, face-small}
 use Rattle.passes.proofs.Landing.{lands-inside, target-is-face, landed}
 use borrow.Author.Needs.{needs}

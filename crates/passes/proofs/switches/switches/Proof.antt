@@ -6,7 +6,7 @@ use native.Mathlib.Omega.{arith}
 use Prim.Native.Nat.{ℕ, _-_, _≤_}
 use Rattle.plant.specs.Model.{E#}
 use Rattle.plant.specs.Tables.{tableBy, wallsJoined}
-use Rattle.model.specs.Whole.{Whole}
+use Rattle.records.specs.Whole.{Whole}
 use Rattle.passes.proofs.Reading.{whole, table-filled}
 use Rattle.passes.proofs.Landing.{joinedBelow, switches-none, switches-all, switches-more, is-table}
 use Rattle.passes.proofs.switches.switches.Statement.{statement}

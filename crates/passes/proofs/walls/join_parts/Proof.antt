@@ -1,8 +1,8 @@
--- After p turns the face is joined with the wall steps from the parts below p.
+-- After g turns the face is joined with the wall steps from the start box and the faces below g.
 use mathlib.Core.Path.{_≡_, ap, _∙_}
 use native.Mathlib.Omega.{arith}
 use mathlib.Core.List.{List}
-use Prim.Native.Nat.{_+_, _-_, _*_, _≤_}
+use Prim.Native.Nat.{ℕ, suc, _+_, _-_, _*_, _≤_, _<_}
 use lib.IntN.{ℤ}
 use lib.ListN.{length}
 use mir.Syntax.{w64}
@@ -11,19 +11,21 @@ use Rattle.integers.specs.Words.{word}
 use Rattle.integers.proofs.Signed.{got64}
 use Rattle.plant.specs.Box.{faceWords, joins}
 use Rattle.plant.specs.Model.{n#}
-use Rattle.plant.specs.Tables.{faceOf, wallFrom}
+use Rattle.plant.specs.Tables.{faceSize, wordsPerLocation, faceOf, wallFrom}
 use Rattle.plant.proofs.Boxes.{length-face}
-use Rattle.model.proofs.Positions.{length-invariant}
-use Rattle.model.specs.Whole.{Whole}
+use Rattle.records.proofs.Positions.{length-invariant}
+use Rattle.records.specs.Whole.{Whole}
+use Rattle.plant.proofs.Passed.{Passed, passed}
+use Rattle.passes.proofs.PartWords.{face-end, face-part, place-by, place-most}
 use Rattle.passes.proofs.Reading.{WallRead, whole, wall-join, joinedTo, joined-none, joined-more, joined-all}
 use Rattle.passes.proofs.walls.join_parts.Statement.{statement}
 use Rattle.passes.proofs.walls.join_parts.Tie as tie
 
 abbrev Inv-loop : tie.InvT-loop
-Inv-loop model table l f face₀ n inv rate d b count p₀ face p = (p ≤ 2 * n# model + 1) × (face ≡ faceWords (n# model) (joins (n# model) p (wallFrom model table l f) (faceOf model table l f)))
+Inv-loop model table l faces f face₀ n inv rate d b ends at₀ g₀ face at g = (g ≤ 2 * n# model) × (at ≡ faces + g * (1 + 2 * n)) × (face ≡ faceWords (n# model) (joins (n# model) (suc g) (wallFrom model table l f) (faceOf model table l f)))
 
 abbrev μ-loop : tie.MeasureT-loop
-μ-loop model table l f face₀ n inv rate d b count p₀ face p = count - p
+μ-loop model table l faces f face₀ n inv rate d b ends at₀ g₀ face at g = ends - g
 
 whole-at : (c : tie.Start Inv-loop μ-loop) → Whole (c .args .model .now)
 whole-at c = whole (c .args .model .now) (c .args .table .now) (c .pre .0)
@@ -52,85 +54,116 @@ word-requires c κs =
     let a = s .args in
     let m = a .model .now in
     let u = s .pre .1 in
-    let v = s .pre .2 in
+    let v = s .pre .3 in
     omega (arith, ap length (c .before .invariant .ensures), length-invariant m (whole-at s) (a .l) u, v)
 
-mul-count : tie.Need-mul-count Inv-loop μ-loop
-mul-count c = omega (arith, c .before .before .before .variables .ensures, whole-at (c .before .before .before .before) .head .n-small)
+part-at-requires : tie.Need-part-at-requires Inv-loop μ-loop
+part-at-requires c κs = let s = c .before .before .before .before in (s .pre .0 .ready, s .pre .1, s .pre .2, omega arith)
 
-add-count : tie.Need-add-count Inv-loop μ-loop
-add-count c = omega (arith, c .before .before .before .variables .ensures, whole-at (c .before .before .before .before) .head .n-small)
-
-loop-holds : tie.Need-loop-holds Inv-loop μ-loop
-loop-holds c =
-    let s = c .before .before .before .before in
+join-wall-requires : tie.Need-join-wall-requires Inv-loop μ-loop
+join-wall-requires c κs =
+    let s = c .before .before .before .before .before .before in
     let a = s .args in
     let m = a .model .now in
     let t = a .table .now in
     let ok = s .pre .0 in
     let u = s .pre .1 in
-    let v = s .pre .2 in
-    (omega arith, joined-none m t ok (a .l) (a .f) u v (s .pre .3))
+    let v = s .pre .3 in
+    wall-join m t ok (a .l) (a .f) u v (read (c .before .before)) 0 (c .before .part-at .ensures) (joined-none m t ok (a .l) (a .f) u v (s .pre .4)) (omega arith)
 
-part-requires : tie.Need-part-requires Inv-loop μ-loop
-part-requires c κs =
-    let s = c .before .before .before .before .before .before in
-    let ok = s .pre .0 in
-    let u = s .pre .1 in
-    (ok .ready, u, (omega (arith, c .loop-test .taken, c .before .before .before .before .before .variables .ensures)))
+mul-ends : tie.Need-mul-ends Inv-loop μ-loop
+mul-ends c = omega (arith, c .before .before .before .before .before .before .before .variables .ensures, whole-at (c .before .before .before .before .before .before .before .before) .head .n-small)
 
-join-wall-requires : tie.Need-join-wall-requires Inv-loop μ-loop
-join-wall-requires c κs =
+loop-holds : tie.Need-loop-holds Inv-loop μ-loop
+loop-holds c =
     let s = c .before .before .before .before .before .before .before .before in
     let a = s .args in
     let m = a .model .now in
     let t = a .table .now in
     let ok = s .pre .0 in
     let u = s .pre .1 in
-    let v = s .pre .2 in
-    let i = c .before .before .before .loop in
-    wall-join m t ok (a .l) (a .f) u v (read (c .before .before .before .before)) (i .p) (c .before .part .ensures) (i .inv .1) (omega (arith, c .before .before .loop-test .taken, c .before .before .before .before .before .before .before .variables .ensures))
+    let v = s .pre .3 in
+    (omega arith, omega arith, joined-more m t ok (a .l) (a .f) u v (read (c .before .before .before .before)) 0 (c .before .before .before .part-at .ensures) (joined-none m t ok (a .l) (a .f) u v (s .pre .4)) (c .before .join-wall .ensures))
 
-add-p : tie.Need-add-p Inv-loop μ-loop
-add-p c =
-    omega (arith, c .before .before .before .before .loop-test .taken, c .before .before .before .before .before .before .before .before .before .variables .ensures, whole-at (c .before .before .before .before .before .before .before .before .before .before) .head .n-small)
+-- where face g begins
+module _ (c : tie.In-loop Inv-loop μ-loop) where
+  place : let s = c .before .before .before .before .before .before .before .before .before .before in let n = c .before .before .before .before .before .before .before .before .before .variables .result in c .before .loop .at ≡ s .args .l * wordsPerLocation n + c .before .loop .g * faceSize n
+  place = let s = c .before .before .before .before .before .before .before .before .before .before in c .before .loop .inv .1 ∙ place-by (s .args .model .now) (s .args .l) (c .before .loop .g) (c .before .before .before .before .before .before .before .before .before .variables .result) (s .args .faces) (c .before .before .before .before .before .before .before .before .before .variables .ensures) (s .pre .2)
+
+  below : c .before .loop .g < 2 * n# (c .before .before .before .before .before .before .before .before .before .before .args .model .now)
+  below = omega (arith, c .before .before .before .before .before .before .before .before .before .variables .ensures)
+
+face-requires : tie.Need-face-requires Inv-loop μ-loop
+face-requires c κs =
+    let s = c .before .before .before .before .before .before .before .before .before .before in
+    let n = c .before .before .before .before .before .before .before .before .before .variables in
+    face-end (s .args .model .now) (s .args .table .now) (s .args .l) (c .before .loop .g) (n .result) (c .before .loop .at) (n .ensures) (place c) (passed _ (s .pre .0 .ready .passes)) (s .pre .0 .ready .room) (s .pre .1) (below c)
+
+join-wall-requires-2 : tie.Need-join-wall-requires-2 Inv-loop μ-loop
+join-wall-requires-2 c κs =
+    let s = c .before .before .before .before .before .before .before .before .before .before .before .before in
+    let a = s .args in
+    let m = a .model .now in
+    let t = a .table .now in
+    let ok = s .pre .0 in
+    let u = s .pre .1 in
+    let v = s .pre .3 in
+    let i = c .before .before .before .loop in
+    let part = c .before .face2 .ensures ∙ face-part m t (a .l) (i .g) (c .before .before .before .before .before .before .before .before .before .before .before .variables .result) (i .at) (c .before .before .before .before .before .before .before .before .before .before .before .variables .ensures) (place (c .before .before)) in
+    wall-join m t ok (a .l) (a .f) u v (read (c .before .before .before .before .before .before .before .before)) (suc (i .g)) part (i .inv .2) (omega (arith, below (c .before .before)))
+
+add-at : tie.Need-add-at Inv-loop μ-loop
+add-at c = omega (arith, c .before .before .before .before .before .before .before .before .before .before .before .before .before .variables .ensures, whole-at (c .before .before .before .before .before .before .before .before .before .before .before .before .before .before) .head .n-small)
+
+add-at-2 : tie.Need-add-at-2 Inv-loop μ-loop
+add-at-2 c =
+    let s = c .before .before .before .before .before .before .before .before .before .before .before .before .before .before in
+    let i = c .before .before .before .before .before .loop in
+    omega (arith, i .inv .1, place-most (s .args .model .now) (passed _ (s .pre .0 .ready .passes)) (s .args .l) (i .g) (c .before .before .before .before .before .before .before .before .before .before .before .before .before .variables .result) (s .args .faces) (c .before .before .before .before .before .before .before .before .before .before .before .before .before .variables .ensures) (s .pre .2) (s .pre .1) (below (c .before .before .before .before)))
+
+add-g : tie.Need-add-g Inv-loop μ-loop
+add-g c = omega (arith, below (c .before .before .before .before), whole-at (c .before .before .before .before .before .before .before .before .before .before .before .before .before .before) .head .n-small)
 
 loop-less : tie.Need-loop-less Inv-loop μ-loop
-loop-less c = omega (arith, c .before .before .before .before .loop-test .taken)
+loop-less c = omega arith
 
 loop-again : tie.Need-loop-again Inv-loop μ-loop
 loop-again c =
+    let s = c .before .before .before .before .before .before .before .before .before .before .before .before .before .before in
+    let a = s .args in
+    let m = a .model .now in
+    let t = a .table .now in
+    let ok = s .pre .0 in
+    let u = s .pre .1 in
+    let v = s .pre .3 in
+    let i = c .before .before .before .before .before .loop in
+    let part = c .before .before .before .face2 .ensures ∙ face-part m t (a .l) (i .g) (c .before .before .before .before .before .before .before .before .before .before .before .before .before .variables .result) (i .at) (c .before .before .before .before .before .before .before .before .before .before .before .before .before .variables .ensures) (place (c .before .before .before .before)) in
+    (omega (arith, below (c .before .before .before .before)), omega (arith, i .inv .1), joined-more m t ok (a .l) (a .f) u v (read (c .before .before .before .before .before .before .before .before .before .before)) (suc (i .g)) part (i .inv .2) (c .before .join-wall2 .ensures) ∙ ap (joinedTo m t ok (a .l) (a .f) u v) (omega arith))
+
+same-length : tie.Need-same-length Inv-loop μ-loop
+same-length c =
     let s = c .before .before .before .before .before .before .before .before .before .before in
     let a = s .args in
     let m = a .model .now in
     let t = a .table .now in
     let ok = s .pre .0 in
     let u = s .pre .1 in
-    let v = s .pre .2 in
-    let i = c .before .before .before .before .before .loop in
-    (omega (arith, c .before .before .before .before .loop-test .taken, c .before .before .before .before .before .before .before .before .before .variables .ensures), joined-more m t ok (a .l) (a .f) u v (read (c .before .before .before .before .before .before)) (i .p) (c .before .before .before .part .ensures) (i .inv .1) (c .before .join-wall .ensures))
-
-same-length : tie.Need-same-length Inv-loop μ-loop
-same-length c =
-    let s = c .before .before .before .before .before .before in
-    let a = s .args in
-    let m = a .model .now in
-    let t = a .table .now in
+    let v = s .pre .3 in
     let i = c .before .loop in
-    omega (arith, ap length (i .inv .1), length-face (n# m) (joins (n# m) (i .p) (wallFrom m t (a .l) (a .f)) (faceOf m t (a .l) (a .f))), ap length (s .pre .3), length-face (n# m) (faceOf m t (a .l) (a .f)))
+    omega (arith, ap length (i .inv .2), length-face (n# m) (joins (n# m) (suc (i .g)) (wallFrom m t (a .l) (a .f)) (faceOf m t (a .l) (a .f))), ap length (s .pre .4), length-face (n# m) (faceOf m t (a .l) (a .f)))
 
 returns : tie.Need-returns Inv-loop μ-loop
 returns c =
-    let s = c .before .before .before .before .before .before in
+    let s = c .before .before .before .before .before .before .before .before .before .before in
     let a = s .args in
     let m = a .model .now in
     let t = a .table .now in
     let ok = s .pre .0 in
     let u = s .pre .1 in
-    let v = s .pre .2 in
+    let v = s .pre .3 in
     let i = c .before .loop in
-    let e : i .p ≡ 2 * n# m + 1 = omega (arith, i .inv .0, c .loop-test .left, c .before .before .before .before .before .variables .ensures) in
-    i .inv .1 ∙ ap (joinedTo m t ok (a .l) (a .f) u v) e ∙ joined-all m t ok (a .l) (a .f) u v
+    let e : suc (i .g) ≡ 2 * n# m + 1 = omega (arith, i .inv .0, c .before .before .before .before .before .before .before .before .before .variables .ensures) in
+    i .inv .2 ∙ ap (joinedTo m t ok (a .l) (a .f) u v) e ∙ joined-all m t ok (a .l) (a .f) u v
 
 pub join-parts-spec : {M : Type 1} → statement M
 join-parts-spec =
@@ -142,12 +175,15 @@ join-parts-spec =
     invariant-requires
     rate-requires
     word-requires
-    mul-count
-    add-count
-    loop-holds
-    part-requires
+    part-at-requires
     join-wall-requires
-    add-p
+    mul-ends
+    loop-holds
+    face-requires
+    join-wall-requires-2
+    add-at
+    add-at-2
+    add-g
     loop-less
     loop-again
     same-length

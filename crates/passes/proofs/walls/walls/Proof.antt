@@ -7,7 +7,7 @@ use Rattle.integers.specs.Words.{onto}
 use Rattle.integers.specs.Counted.{cat}
 use Rattle.plant.specs.Model.{n#, L#}
 use Rattle.plant.specs.Tables.{wordsPerLocation}
-use Rattle.model.specs.Whole.{Whole}
+use Rattle.records.specs.Whole.{Whole}
 use Rattle.passes.proofs.Blocks.{none-put, put-length, place-length, one-put, all-put}
 use Rattle.passes.proofs.Reading.{whole, locationsOf, locations-sized, all-locations, next-location, location-inside, table-small, table-within, table-sized}
 use Rattle.passes.proofs.walls.walls.Statement.{statement}
@@ -87,7 +87,7 @@ walls-location-requires c κs =
     let t = a .table .now in
     let ok = s .pre .0 in
     let i = c .before .before .loop in
-    (ok, (omega (arith, c .before .loop-test .taken, c .before .before .before .before .before .locations .ensures)), place-length (wordsPerLocation (n# m)) (locationsOf m t) (locations-sized m t ok) (a .out .now) (i .l) {end = i .at + c .before .before .before .words-per-location .result} (i .inv .2) (i .inv .1) (omega (arith, (c .before .before .before .words-per-location .ensures ∙ ap wordsPerLocation (c .before .before .before .before .variables .ensures)))) (location-inside m t ok (i .l) (omega (arith, c .before .loop-test .taken, c .before .before .before .before .before .locations .ensures)) (i .inv .1) (c .before .before .before .words-per-location .ensures ∙ ap wordsPerLocation (c .before .before .before .before .variables .ensures)) (s .pre .1)))
+    (ok, (omega (arith, c .before .loop-test .taken, c .before .before .before .before .before .locations .ensures)), i .inv .1, place-length (wordsPerLocation (n# m)) (locationsOf m t) (locations-sized m t ok) (a .out .now) (i .l) {end = i .at + c .before .before .before .words-per-location .result} (i .inv .2) (i .inv .1) (omega (arith, (c .before .before .before .words-per-location .ensures ∙ ap wordsPerLocation (c .before .before .before .before .variables .ensures)))) (location-inside m t ok (i .l) (omega (arith, c .before .loop-test .taken, c .before .before .before .before .before .locations .ensures)) (i .inv .1) (c .before .before .before .words-per-location .ensures ∙ ap wordsPerLocation (c .before .before .before .before .variables .ensures)) (s .pre .1)))
 
 add-l : tie.Need-add-l Inv-loop μ-loop
 add-l c =

@@ -3,7 +3,7 @@ use mathlib.Core.Path.{sym, ap, _∙_}
 use native.Mathlib.Omega.{arith}
 use lib.ListN.{length}
 use borrow.Author.Needs.{needs}
-use Rattle.model.specs.Whole.{Whole}
+use Rattle.records.specs.Whole.{Whole}
 use Rattle.passes.proofs.Reading.{whole, face-sized, old-words}
 use Rattle.passes.proofs.walls.walls_face.Statement.{statement}
 use Rattle.passes.proofs.walls.walls_face.Tie as tie
@@ -11,11 +11,11 @@ use Rattle.passes.proofs.walls.walls_face.Tie as tie
 whole-at : (c : tie.Start) → Whole (c .args .model .now)
 whole-at c = whole (c .args .model .now) (c .args .table .now) (c .pre .0)
 
-add-part : tie.Need-add-part
-add-part c = let v = c .pre .2 in omega (arith, v, whole-at c .head .n-small)
+add-part-at : tie.Need-add-part-at
+add-part-at c = let v = c .pre .3 in omega (arith, v, whole-at c .head .n-small)
 
-part-requires : tie.Need-part-requires
-part-requires c κs = let ok = c .pre .0 in let u = c .pre .1 in let v = c .pre .2 in (ok .ready, u, omega (arith, v))
+part-at-requires : tie.Need-part-at-requires
+part-at-requires c κs = let ok = c .pre .0 in let u = c .pre .1 in let v = c .pre .3 in (ok .ready, u, c .pre .2, omega (arith, v))
 
 copy-requires : tie.Need-copy-requires
 copy-requires c κs =
@@ -25,8 +25,8 @@ copy-requires c κs =
     let t = a .table .now in
     let ok = s .pre .0 in
     let u = s .pre .1 in
-    let v = s .pre .2 in
-    ap length (c .before .part .ensures) ∙ face-sized m t ok (a .l) (a .f) u v ∙ sym (s .pre .3)
+    let v = s .pre .3 in
+    ap length (c .before .part-at .ensures) ∙ face-sized m t ok (a .l) (a .f) u v ∙ sym (s .pre .4)
 
 join-parts-requires : tie.Need-join-parts-requires
 join-parts-requires c κs =
@@ -36,8 +36,8 @@ join-parts-requires c κs =
     let t = a .table .now in
     let ok = s .pre .0 in
     let u = s .pre .1 in
-    let v = s .pre .2 in
-    (ok, u, v, c .before .before .copy .ensures ∙ c .before .before .before .before .part .ensures ∙ old-words m t ok (a .l) (a .f) u v)
+    let v = s .pre .3 in
+    (ok, u, s .pre .2, v, c .before .before .copy .ensures ∙ c .before .before .before .before .part-at .ensures ∙ old-words m t ok (a .l) (a .f) u v)
 
 same-length : tie.Need-same-length
 same-length c = search needs
@@ -46,4 +46,4 @@ returns : tie.Need-returns
 returns c = c .before .join-parts .ensures
 
 pub walls-face-spec : {M : Type 1} → statement M
-walls-face-spec = tie.close (tie.spec add-part part-requires copy-requires join-parts-requires same-length returns)
+walls-face-spec = tie.close (tie.spec add-part-at part-at-requires copy-requires join-parts-requires same-length returns)

@@ -7,17 +7,17 @@ use Rattle.integers.specs.Words.{onto}
 use Rattle.integers.specs.Counted.{cat}
 use Rattle.plant.specs.Model.{n#}
 use Rattle.plant.specs.Tables.{faceSize}
-use Rattle.model.specs.Whole.{Whole}
+use Rattle.records.specs.Whole.{Whole}
 use Rattle.passes.proofs.Blocks.{none-put, put-length, place-length, one-put, all-put}
 use Rattle.passes.proofs.Reading.{whole, table-filled, facesOf, faces-sized, block-inside, block-within, block-small, next-block}
 use Rattle.passes.proofs.walls.walls_location.Statement.{statement}
 use Rattle.passes.proofs.walls.walls_location.Tie as tie
 
 abbrev Inv-loop : tie.InvT-loop
-Inv-loop model table l block₀ faces at₀ f₀ block at f = (f ≤ 2 * n# model) × (at ≡ f * faceSize (n# model)) × (block ≡ onto (cat f (facesOf model table l)) block₀)
+Inv-loop model table l from block₀ faces at₀ f₀ block at f = (f ≤ 2 * n# model) × (at ≡ f * faceSize (n# model)) × (block ≡ onto (cat f (facesOf model table l)) block₀)
 
 abbrev μ-loop : tie.MeasureT-loop
-μ-loop model table l block₀ faces at₀ f₀ block at f = faces - f
+μ-loop model table l from block₀ faces at₀ f₀ block at f = faces - f
 
 whole-at : (c : tie.Start Inv-loop μ-loop) → Whole (c .args .model .now)
 whole-at c = whole (c .args .model .now) (c .args .table .now) (c .pre .0)
@@ -43,7 +43,7 @@ add-end c =
     let t = a .table .now in
     let ok = s .pre .0 in
     let i = c .before .loop in
-    omega (arith, (block-inside m t ok (i .f) (omega (arith, c .loop-test .taken, c .before .before .variables .ensures)) (i .inv .1) (c .before .before .variables .ensures) (s .pre .2)), block-small m t ok, s .pre .2)
+    omega (arith, (block-inside m t ok (i .f) (omega (arith, c .loop-test .taken, c .before .before .variables .ensures)) (i .inv .1) (c .before .before .variables .ensures) (s .pre .3)), block-small m t ok, s .pre .3)
 
 add-end-2 : tie.Need-add-end-2 Inv-loop μ-loop
 add-end-2 c =
@@ -53,7 +53,7 @@ add-end-2 c =
     let t = a .table .now in
     let ok = s .pre .0 in
     let i = c .before .loop in
-    omega (arith, (block-inside m t ok (i .f) (omega (arith, c .loop-test .taken, c .before .before .variables .ensures)) (i .inv .1) (c .before .before .variables .ensures) (s .pre .2)), block-small m t ok, s .pre .2)
+    omega (arith, (block-inside m t ok (i .f) (omega (arith, c .loop-test .taken, c .before .before .variables .ensures)) (i .inv .1) (c .before .before .variables .ensures) (s .pre .3)), block-small m t ok, s .pre .3)
 
 mul-walls-face : tie.Need-mul-walls-face Inv-loop μ-loop
 mul-walls-face c =
@@ -63,7 +63,7 @@ mul-walls-face c =
     let t = a .table .now in
     let ok = s .pre .0 in
     let i = c .before .loop in
-    omega (arith, (block-inside m t ok (i .f) (omega (arith, c .loop-test .taken, c .before .before .variables .ensures)) (i .inv .1) (c .before .before .variables .ensures) (s .pre .2)), block-small m t ok, s .pre .2)
+    omega (arith, (block-inside m t ok (i .f) (omega (arith, c .loop-test .taken, c .before .before .variables .ensures)) (i .inv .1) (c .before .before .variables .ensures) (s .pre .3)), block-small m t ok, s .pre .3)
 
 sub-walls-face : tie.Need-sub-walls-face Inv-loop μ-loop
 sub-walls-face c = omega arith
@@ -79,7 +79,7 @@ part-walls-face-end c =
     let t = a .table .now in
     let ok = s .pre .0 in
     let i = c .before .loop in
-    let h = (block-inside m t ok (i .f) (omega (arith, c .loop-test .taken, c .before .before .variables .ensures)) (i .inv .1) (c .before .before .variables .ensures) (s .pre .2)) in
+    let h = (block-inside m t ok (i .f) (omega (arith, c .loop-test .taken, c .before .before .variables .ensures)) (i .inv .1) (c .before .before .variables .ensures) (s .pre .3)) in
     omega (arith, put-length (faceSize (n# m)) (facesOf m t (a .l)) (faces-sized m t (a .l)) (a .block .now) (i .f) (i .inv .2) (omega (arith, h, i .inv .1)), h)
 
 walls-face-requires : tie.Need-walls-face-requires Inv-loop μ-loop
@@ -91,7 +91,7 @@ walls-face-requires c κs =
     let ok = s .pre .0 in
     let u = s .pre .1 in
     let i = c .before .before .loop in
-    (ok, u, (omega (arith, c .before .loop-test .taken, c .before .before .before .variables .ensures)), place-length (faceSize (n# m)) (facesOf m t (a .l)) (faces-sized m t (a .l)) (a .block .now) (i .f) {end = i .at + 1 + 2 * c .before .before .before .variables .result} (i .inv .2) (i .inv .1) (omega (arith, c .before .before .before .variables .ensures)) (block-inside m t ok (i .f) (omega (arith, c .before .loop-test .taken, c .before .before .before .variables .ensures)) (i .inv .1) (c .before .before .before .variables .ensures) (s .pre .2)))
+    (ok, u, s .pre .2, (omega (arith, c .before .loop-test .taken, c .before .before .before .variables .ensures)), place-length (faceSize (n# m)) (facesOf m t (a .l)) (faces-sized m t (a .l)) (a .block .now) (i .f) {end = i .at + 1 + 2 * c .before .before .before .variables .result} (i .inv .2) (i .inv .1) (omega (arith, c .before .before .before .variables .ensures)) (block-inside m t ok (i .f) (omega (arith, c .before .loop-test .taken, c .before .before .before .variables .ensures)) (i .inv .1) (c .before .before .before .variables .ensures) (s .pre .3)))
 
 add-f : tie.Need-add-f Inv-loop μ-loop
 add-f c =
@@ -108,7 +108,7 @@ loop-again c =
     let t = a .table .now in
     let ok = s .pre .0 in
     let i = c .before .before .before .before .loop in
-    (omega (arith, c .before .before .before .loop-test .taken, c .before .before .before .before .before .variables .ensures), next-block m (i .f) (i .inv .1) (c .before .before .before .before .before .variables .ensures), one-put (faceSize (n# m)) (facesOf m t (a .l)) (faces-sized m t (a .l)) (a .block .now) (i .f) {end = i .at + 1 + 2 * c .before .before .before .before .before .variables .result} (i .inv .2) (i .inv .1) (omega (arith, c .before .before .before .before .before .variables .ensures)) (block-inside m t ok (i .f) (omega (arith, c .before .before .before .loop-test .taken, c .before .before .before .before .before .variables .ensures)) (i .inv .1) (c .before .before .before .before .before .variables .ensures) (s .pre .2)) (c .before .walls-face .ensures))
+    (omega (arith, c .before .before .before .loop-test .taken, c .before .before .before .before .before .variables .ensures), next-block m (i .f) (i .inv .1) (c .before .before .before .before .before .variables .ensures), one-put (faceSize (n# m)) (facesOf m t (a .l)) (faces-sized m t (a .l)) (a .block .now) (i .f) {end = i .at + 1 + 2 * c .before .before .before .before .before .variables .result} (i .inv .2) (i .inv .1) (omega (arith, c .before .before .before .before .before .variables .ensures)) (block-inside m t ok (i .f) (omega (arith, c .before .before .before .loop-test .taken, c .before .before .before .before .before .variables .ensures)) (i .inv .1) (c .before .before .before .before .before .variables .ensures) (s .pre .3)) (c .before .walls-face .ensures))
 
 same-length : tie.Need-same-length Inv-loop μ-loop
 same-length c =
@@ -118,7 +118,7 @@ same-length c =
     let t = a .table .now in
     let ok = s .pre .0 in
     let i = c .before .loop in
-    put-length (faceSize (n# m)) (facesOf m t (a .l)) (faces-sized m t (a .l)) (a .block .now) (i .f) (i .inv .2) (block-within m t ok (i .f) (i .inv .0) (s .pre .2))
+    put-length (faceSize (n# m)) (facesOf m t (a .l)) (faces-sized m t (a .l)) (a .block .now) (i .f) (i .inv .2) (block-within m t ok (i .f) (i .inv .0) (s .pre .3))
 
 returns : tie.Need-returns Inv-loop μ-loop
 returns c =
@@ -129,7 +129,7 @@ returns c =
     let ok = s .pre .0 in
     let i = c .before .loop in
     let e : i .f ≡ 2 * n# m = omega (arith, i .inv .0, c .loop-test .left, c .before .before .variables .ensures) in
-    all-put (faceSize (n# m)) (facesOf m t (a .l)) (faces-sized m t (a .l)) (a .block .now) (2 * n# m) (i .inv .2 ∙ ap (λ (k : ℕ). onto (cat k (facesOf m t (a .l))) (a .block .now)) e) (omega (arith, s .pre .2, table-filled m t ok))
+    all-put (faceSize (n# m)) (facesOf m t (a .l)) (faces-sized m t (a .l)) (a .block .now) (2 * n# m) (i .inv .2 ∙ ap (λ (k : ℕ). onto (cat k (facesOf m t (a .l))) (a .block .now)) e) (omega (arith, s .pre .3, table-filled m t ok))
 
 pub walls-location-spec : {M : Type 1} → statement M
 walls-location-spec =

@@ -1,0 +1,6 @@
+pub mod Loops
+pub mod Faces
+pub mod Ranges
+pub mod Widths
+pub mod Touched
+pub mod Search

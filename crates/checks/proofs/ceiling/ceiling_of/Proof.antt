@@ -1,0 +1,64 @@
+-- The sum over the locations passed.
+use mathlib.Core.Path.{_≡_, sym, _∙_}
+use Prim.Native.Nat.{_-_, _≤_}
+use Rattle.integers.specs.Counted.{sumBelow}
+use Rattle.plant.specs.Model.{L#}
+use Rattle.checks.proofs.Loops.{sum-none, sum-more}
+use Rattle.checks.proofs.Widths.{locationCeiling, location-small, locations-small, ceiling-is}
+use native.Mathlib.Omega.{arith}
+use Rattle.plant.proofs.Passed.{Passed, passed}
+use Rattle.passes.proofs.PartWords.{whole}
+use Rattle.checks.proofs.ceiling.ceiling_of.Statement.{statement}
+use Rattle.checks.proofs.ceiling.ceiling_of.Tie as tie
+
+abbrev Inv-loop : tie.InvT-loop
+Inv-loop model locations sum₀ l₀ sum l = (l ≤ L# model) × (sum ≡ sumBelow l (locationCeiling model))
+
+abbrev μ-loop : tie.MeasureT-loop
+μ-loop model locations sum₀ l₀ sum l = L# model - l
+
+number-requires : tie.Need-number-requires Inv-loop μ-loop
+number-requires c κs = let m = c .args .model .now in (omega (arith, whole m (c .pre) .head .there), passed m (c .pre) .head 1 (omega arith))
+
+loop-holds : tie.Need-loop-holds Inv-loop μ-loop
+loop-holds c = (omega arith, sym (sum-none (locationCeiling (c .before .args .model .now))))
+
+location-ceiling-requires : tie.Need-location-ceiling-requires Inv-loop μ-loop
+location-ceiling-requires c κs = (c .before .before .before .pre, omega (arith, c .before .before .number .ensures))
+
+add-sum : tie.Need-add-sum Inv-loop μ-loop
+add-sum c =
+    let m = c .before .before .before .before .args .model .now in
+    let ok : Passed m = passed m (c .before .before .before .before .pre) in
+    let l = c .before .before .loop .l in
+    record { fits = omega (arith, c .location-ceiling .ensures, location-small m ok l (omega (arith, c .before .before .before .number .ensures)), locations-small m ok l (omega arith), ok .L-small) }
+
+add-l : tie.Need-add-l Inv-loop μ-loop
+add-l c = omega arith
+
+loop-less : tie.Need-loop-less Inv-loop μ-loop
+loop-less c = omega (arith, c .before .before .before .number .ensures)
+
+loop-again : tie.Need-loop-again Inv-loop μ-loop
+loop-again c = (omega (arith, c .before .before .before .number .ensures), omega (arith, c .location-ceiling .ensures, sum-more (locationCeiling (c .before .before .before .before .args .model .now)) (c .before .before .loop .l)))
+
+returns : tie.Need-returns Inv-loop μ-loop
+returns c =
+    let m = c .before .before .before .args .model .now in
+    let e : c .before .loop .l ≡ L# m = omega (arith, c .before .before .number .ensures) in
+    rw e at (c .before .loop .inv .1) ∙ ceiling-is m
+
+pub ceiling-of-spec : {M : Type 1} → statement M
+ceiling-of-spec =
+    tie.close
+    (tie.spec
+    Inv-loop
+    μ-loop
+    number-requires
+    loop-holds
+    location-ceiling-requires
+    add-sum
+    add-l
+    loop-less
+    loop-again
+    returns)

@@ -1,0 +1,107 @@
+// The host's calls, for C (document 01, "Desk and host"). Nothing is kept between calls: each holds its words on the stack.
+ghost use mathlib.Core.Path.{_≡_};
+ghost use mathlib.Core.Bool.{true};
+ghost use Prim.Native.Nat.{_≤_};
+ghost use lib.ListN.{length};
+ghost use Rattle.plant.specs.Questions.{modelQuestions};
+ghost use Rattle.plant.specs.Calls as C;
+ghost use Rattle.plant.specs.Calls.{answerReply, checkBy};
+ghost use Rattle.table_files.specs.TableFile.{longestTableFile};
+ghost use Rattle.host.specs.Hosts.{packed, decided, decideBy, roomQuestion, decideCall, certificateFileQuestions, hostCheckCall};
+use plant::Answer;
+use plant::Count;
+
+// ---- decide
+
+// code × 2^32 + k
+fn pack(code: u32, k: u32) -> u64
+    ensures { λ r. ⌜ r ≡ packed (record { code = code; value = k }) ⌝ }
+{
+    (code as u64) * 4294967296 + (k as u64)
+}
+
+fn pack_answer(answer: Answer) -> u64
+    ensures { λ r. ⌜ r ≡ packed (answerReply answer) ⌝ }
+{
+    match answer {
+        Answer::Safe(k) => pack(100, k),
+        Answer::Unknown(k) => pack(101, k),
+        Answer::Unfinished(k) => pack(102, k),
+        Answer::Refused(q) => pack(q, 0),
+    }
+}
+
+// The answer once all questions are yes, and the file of its table.
+fn answer_file(model: &[i32], file: &mut [u8], limit: u32) -> u64
+    requires { ⌜ (modelQuestions (now model) ≡ 0) × (longestTableFile (now model) ≤ length (now file)) ⌝ }
+    ensures { λ r. ⌜ record { number = r; file = now (file .exit) } ≡ decided (now (model .entry)) (C.analysis (now (model .entry)) limit) (now (file .entry)) ⌝ }
+{
+    // The largest table: 64 locations of 156 words.
+    let mut table = [0i32; 9984];
+    let mut work = [0i32; 9984];
+    let answer = analysis::analyse_passed(model, limit, &mut table, &mut work);
+    let size = tables::table_size(model);
+    table_files::put_table(model, &table[..size], file);
+    pack_answer(answer)
+}
+
+// The words of a model that passes its questions: 39, then the answer.
+fn decide_words(model: &[i32], file: &mut [u8], limit: u32) -> u64
+    requires { ⌜ modelQuestions (now model) ≡ 0 ⌝ }
+    ensures { λ r. ⌜ record { number = r; file = now (file .exit) } ≡ decideBy (roomQuestion (now (model .entry)) (now (file .entry))) (now (model .entry)) (now (file .entry)) limit ⌝ }
+{
+    if file.len() < table_files::longest_file(model) {
+        return pack(39, 0);
+    }
+    answer_file(model, file, limit)
+}
+
+// Decides a model file under a limit, and writes the answer's table file: the answer's code or a refusal's number, times 2^32,
+// plus the number of passes.
+#[no_mangle]
+pub extern "C" fn decide(model: &[u8], table: &mut [u8], limit: u32) -> u64
+    ensures { λ r. ⌜ record { number = r; file = now (table .exit) } ≡ decideCall (now (model .entry)) (now (table .entry)) limit ⌝ }
+{
+    // The longest model: 6 variables, 64 locations, 128 switches, 64 forbidden boxes.
+    let mut words = [0i32; 7044];
+    let read = model_files::read_model(model, &mut words);
+    match read {
+        Count::Done(size) => decide_words(&words[..size], table, limit),
+        Count::Refused(q) => pack(q, 0),
+    }
+}
+
+// ---- check
+
+// 33 and 34 of a table that has been read: 100, or a refusal's number.
+fn check_words<'a>(model: &'a [i32], file: &'a [u8]) -> u64
+    requires { ⌜ modelQuestions (now model) ≡ 0 ⌝ }
+    ensures { λ r. ⌜ r ≡ checkBy (certificateFileQuestions (now (model .entry)) (now (file .entry))) .code ⌝ }
+{
+    let mut table = [0i32; 9984];
+    let read = table_files::read_faces(model, file, &mut table);
+    match read {
+        Count::Done(size) => verdict_code(analysis::certificate_questions(model, &table[..size])),
+        Count::Refused(q) => q as u64,
+    }
+}
+
+// 100 if all questions are yes, else the number of the first that is not.
+fn verdict_code(q: u32) -> u64
+    ensures { λ r. ⌜ r ≡ checkBy q .code ⌝ }
+{
+    if q == 0 { 100 } else { q as u64 }
+}
+
+// Checks a table file against a model file: 100 if it is accepted, else a refusal's number.
+#[no_mangle]
+pub extern "C" fn check(model: &[u8], table: &[u8]) -> u64
+    ensures { λ r. ⌜ r ≡ hostCheckCall (now (model .entry)) (now (table .entry)) ⌝ }
+{
+    let mut words = [0i32; 7044];
+    let read = model_files::read_model(model, &mut words);
+    match read {
+        Count::Done(size) => check_words(&words[..size], table),
+        Count::Refused(q) => q as u64,
+    }
+}

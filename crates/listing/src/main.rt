@@ -1,0 +1,136 @@
+// The listing program: reads a model file from standard input, and writes its answer and the faces of the answer's table
+// (document 01, "Plant P and other cases"). Decide gives both, the table as a file. That file's fields are the lines, so which
+// faces are present, how many and in which order is proved where the file is written.
+ghost use mathlib.Core.Path.{_≡_};
+ghost use Prim.Native.Nat.{ℕ, _+_, _*_, _≤_, _<_};
+ghost use lib.ListN.{length};
+ghost use Rattle.host.specs.Hosts.{packed, decideCall};
+use libc::STDIN_FILENO;
+use libc::STDOUT_FILENO;
+
+// ---- what is listed
+
+// The answer under limit 1,000 as decide's number, and the file of its table.
+fn listed(model: &[u8], table: &mut [u8]) -> u64
+    ensures { λ r. ⌜ record { number = r; file = now (table .exit) } ≡ decideCall (now (model .entry)) (now (table .entry)) 1000 ⌝ }
+{
+    host::decide(model, table, 1000)
+}
+
+// The answer's code, or the refusal's number, of a number of decide's.
+fn code(number: u64) -> u64
+    ensures { λ r. ⌜ ((c k : ℕ) → k < 4294967296 → number ≡ packed (record { code = c; value = k }) → r ≡ c) ⌝ }
+{
+    number / 4294967296
+}
+
+// Its passes.
+fn passes(number: u64) -> u64
+    ensures { λ r. ⌜ ((c k : ℕ) → k < 4294967296 → number ≡ packed (record { code = c; value = k }) → r ≡ k) ⌝ }
+{
+    number % 4294967296
+}
+
+// ---- what is written
+
+fn print(text: &[u8]) {
+    io::write_all(STDOUT_FILENO, text);
+}
+
+fn print_number(n: u64) {
+    io::print_decimal(STDOUT_FILENO, n);
+}
+
+fn print_word(z: i32) {
+    let magnitude = integers::magnitude(z as i64);
+    if z < 0 {
+        print(b"-");
+    }
+    print_number(magnitude);
+}
+
+// What follows a word: a space, or the end of its line.
+fn print_end(last: bool) {
+    if last {
+        print(b"\n");
+    } else {
+        print(b" ");
+    }
+}
+
+// A line of as many words, from a position of the file on.
+fn print_line(file: &[u8], from: usize, count: usize)
+    requires { ⌜ from + 4 * count ≤ length (now file) ⌝ }
+{
+    let mut i: usize = 0;
+    while i < count {
+        print_word(wire::word_at(file, from + 4 * i));
+        i = i + 1;
+        print_end(i == count);
+    }
+}
+
+// A line for each of as many fields of a table's file behind the first.
+fn print_faces(file: &[u8], count: u64) {
+    let mut at: usize = 7;
+    let mut i: u64 = 0;
+    while i < count {
+        let field = wire::next_field(file, at);
+        let wire::Field::Whole {
+            start,
+            len,
+            next,
+            ..
+        } = field
+        else {
+            return;
+        };
+        print_line(file, start, len / 4);
+        at = next;
+        i = i + 1;
+    }
+}
+
+// How many faces a table's file has, which its first field says, as the end of line one; then their lines.
+fn print_table(file: &[u8])
+    requires { ⌜ 7 ≤ length (now file) ⌝ }
+{
+    print_line(file, 3, 1);
+    let faces = integers::magnitude(wire::word_at(file, 3) as i64);
+    print_faces(file, faces);
+}
+
+// The word for an answer's code.
+fn print_answer(code: u64) {
+    match code {
+        100 => print(b"safe "),
+        101 => print(b"unknown "),
+        _ => print(b"unfinished "),
+    }
+}
+
+fn print_listing(number: u64, table: &[u8])
+    requires { ⌜ 7 ≤ length (now table) ⌝ }
+{
+    let code = code(number);
+    if code < 100 {
+        print(b"refused ");
+        print_number(code);
+        print(b"\n");
+        return;
+    }
+    print_answer(code);
+    print_number(passes(number));
+    print(b" ");
+    print_table(table);
+}
+
+fn main() {
+    // The longest model file has 28,947 bytes. One more is read, so that every longer file is refused by 8 if by nothing before.
+    let mut model = [0u8; 28948];
+    let n = io::read_full(STDIN_FILENO, &mut model);
+    // The longest table file: 7 + 64 × 12 × (11 + 48) bytes.
+    let mut table = [0u8; 45319];
+    let number = listed(&model[..n], &mut table);
+    print_listing(number, &table)
+}

@@ -1,0 +1,176 @@
+-- Words that follow a model's are no part of it: where the questions of the records of a list that begins with a model's
+-- words are all yes, those of the model's words are.
+use mathlib.Core.Path.{_≡_, refl, sym, ap, _∙_}
+use mathlib.Core.List.{List, _++_}
+use Prim.Native.Nat.{ℕ, _+_, _*_, _<_, _≤_}
+use native.Mathlib.Omega.{arith}
+use lib.IntN.{ℤ, pos, natAbs}
+use lib.ListN.{length, take, drop, length-drop, List·getD-append}
+use lib.Seq.{take-append-le, drop-append-le}
+use Rattle.integers.specs.Words.{word, num}
+use Rattle.plant.specs.Ask.{first}
+use Rattle.plant.specs.Box.{boxAt}
+use Rattle.plant.specs.Model.{n#, L#, E#, B#, locationAt, invariant, rate, startFlag, startBox, switchAt, source, target, wallVariable, sourceSide, targetSide, resetMask, guard, reset, forbiddenAt, forbiddenBox}
+use Rattle.plant.specs.Questions.{startOk, locationQuestions, placesQuestion, singleOk, sourceWall, targetWall, guardOk, landsOk, switchQuestions, forbiddenQuestion, recordsQuestions}
+use Rattle.plant.proofs.Asks.{then-both, then-intro, first-each, first-intro}
+use Rattle.plant.proofs.Passed.{PlacesPassed, places-passed}
+use Rattle.records.specs.Whole.{Whole}
+use Rattle.records.proofs.Positions.{location-within, switch-within, forbidden-within}
+
+module _ (a r : List ℤ) (w : Whole a) where
+  abbrev m : List ℤ
+  m = a ++ r
+
+  word-same : (i : ℕ) → i < length a → word m i ≡ word a i
+  word-same i l = List·getD-append a r (pos 0) i l
+
+  num-same : (i : ℕ) → i < length a → num m i ≡ num a i
+  num-same i l = ap natAbs (word-same i l)
+
+  n-same : n# m ≡ n# a
+  n-same = num-same 0 (omega (arith, w .head .there))
+
+  L-same : L# m ≡ L# a
+  L-same = num-same 1 (omega (arith, w .head .there))
+
+  E-same : E# m ≡ E# a
+  E-same = num-same 2 (omega (arith, w .head .there))
+
+  B-same : B# m ≡ B# a
+  B-same = num-same 3 (omega (arith, w .head .there))
+
+  box-same : (at : ℕ) → at + 2 * n# a ≤ length a → boxAt (n# a) m at ≡ boxAt (n# a) a at
+  unfolding boxAt
+  box-same at l = ap (take (2 * n# a)) (drop-append-le at a r (omega arith)) ∙ take-append-le (2 * n# a) (drop at a) r (omega (arith, length-drop at a))
+
+  -- ---- locations
+
+  location-same : (l : ℕ) → locationAt m l ≡ locationAt a l
+  unfolding locationAt
+  location-same l = rw n-same refl
+
+  module _ (l : ℕ) (u : l < L# a) where
+    invariant-same : invariant m l ≡ invariant a l
+    unfolding invariant
+    invariant-same = rw (n-same, location-same l) (box-same (locationAt a l) (omega (arith, location-within a w l u)))
+
+    rate-same : rate m l ≡ rate a l
+    unfolding rate
+    rate-same = rw (n-same, location-same l) (box-same (locationAt a l + 2 * n# a) (omega (arith, location-within a w l u)))
+
+    flag-same : startFlag m l ≡ startFlag a l
+    unfolding startFlag
+    flag-same = rw (n-same, location-same l) (word-same (locationAt a l + 4 * n# a) (omega (arith, location-within a w l u)))
+
+    start-same : startBox m l ≡ startBox a l
+    unfolding startBox
+    start-same = rw (n-same, location-same l) (box-same (locationAt a l + (4 * n# a + 1)) (omega (arith, location-within a w l u)))
+
+    location-questions-same : locationQuestions m l ≡ locationQuestions a l
+    unfolding locationQuestions startOk
+    location-questions-same = rw (n-same, invariant-same, rate-same, flag-same, start-same) refl
+
+  -- ---- switches
+
+  switch-same : (e : ℕ) → switchAt m e ≡ switchAt a e
+  unfolding switchAt
+  switch-same e = rw (n-same, L-same, location-same (L# a)) refl
+
+  module _ (e : ℕ) (u : e < E# a) where
+    -- word j of the switch
+    at-same : (j : ℕ) → j < 6 → word m (switchAt a e + j) ≡ word a (switchAt a e + j)
+    at-same j l = word-same (switchAt a e + j) (omega (arith, switch-within a w e u))
+
+    first-same : word m (switchAt a e) ≡ word a (switchAt a e)
+    first-same = word-same (switchAt a e) (omega (arith, switch-within a w e u))
+
+    source-same : source m e ≡ source a e
+    unfolding source
+    source-same = rw (switch-same e, first-same) refl
+
+    target-same : target m e ≡ target a e
+    unfolding target
+    target-same = rw (switch-same e, at-same 1 (omega arith)) refl
+
+    variable-same : wallVariable m e ≡ wallVariable a e
+    unfolding wallVariable
+    variable-same = rw (switch-same e, at-same 2 (omega arith)) refl
+
+    source-side-same : sourceSide m e ≡ sourceSide a e
+    unfolding sourceSide
+    source-side-same = rw (switch-same e, at-same 3 (omega arith)) refl
+
+    target-side-same : targetSide m e ≡ targetSide a e
+    unfolding targetSide
+    target-side-same = rw (switch-same e, at-same 4 (omega arith)) refl
+
+    mask-same : resetMask m e ≡ resetMask a e
+    unfolding resetMask
+    mask-same = rw (switch-same e, at-same 5 (omega arith)) refl
+
+    guard-same : guard m e ≡ guard a e
+    unfolding guard
+    guard-same = rw (n-same, switch-same e) (box-same (switchAt a e + 6) (omega (arith, switch-within a w e u)))
+
+    reset-same : reset m e ≡ reset a e
+    unfolding reset
+    reset-same = rw (n-same, switch-same e) (box-same (switchAt a e + (6 + 2 * n# a)) (omega (arith, switch-within a w e u)))
+
+    places-same : placesQuestion m e ≡ placesQuestion a e
+    unfolding placesQuestion
+    places-same =
+        rw (n-same, L-same, switch-same e, first-same, at-same 1 (omega arith), at-same 2 (omega arith), at-same 3 (omega arith), at-same 4 (omega arith), at-same 5 (omega arith)) refl
+
+    single-same : singleOk m e ≡ singleOk a e
+    unfolding singleOk
+    single-same = rw (n-same, mask-same, reset-same) refl
+
+    -- its walls are walls of locations that exist
+    module _ (p : PlacesPassed a e) where
+      source-wall-same : sourceWall m e ≡ sourceWall a e
+      unfolding sourceWall
+      source-wall-same = rw (source-same, variable-same, source-side-same, invariant-same (source a e) (p .source-is)) refl
+
+      target-wall-same : targetWall m e ≡ targetWall a e
+      unfolding targetWall
+      target-wall-same = rw (target-same, variable-same, target-side-same, invariant-same (target a e) (p .target-is)) refl
+
+      guard-ok-same : guardOk m e ≡ guardOk a e
+      unfolding guardOk
+      guard-ok-same = rw (guard-same, variable-same, source-wall-same) refl
+
+      lands-same : landsOk m e ≡ landsOk a e
+      unfolding landsOk
+      lands-same = rw (target-wall-same, mask-same, variable-same, reset-same, source-wall-same) refl
+
+      switch-questions-same : switchQuestions m e ≡ switchQuestions a e
+      unfolding switchQuestions
+      switch-questions-same = rw (places-same, n-same, guard-same, reset-same, single-same, guard-ok-same, lands-same) refl
+
+    switch-yes : switchQuestions m e ≡ 0 → switchQuestions a e ≡ 0
+    unfolding switchQuestions
+    switch-yes h =
+        let p : placesQuestion a e ≡ 0 = sym places-same ∙ then-both (placesQuestion m e) _ h .0 in
+        sym (switch-questions-same (places-passed a e (w .head .n-positive) (w .head .L-positive) p)) ∙ h
+
+  -- ---- forbidden boxes
+
+  forbidden-same : (b : ℕ) → forbiddenAt m b ≡ forbiddenAt a b
+  unfolding forbiddenAt
+  forbidden-same b = rw (n-same, E-same, switch-same (E# a)) refl
+
+  forbidden-question-same : (b : ℕ) → b < B# a → forbiddenQuestion m b ≡ forbiddenQuestion a b
+  unfolding forbiddenQuestion forbiddenBox
+  forbidden-question-same b u =
+      rw (n-same, L-same, forbidden-same b, word-same (forbiddenAt a b) (omega (arith, forbidden-within a w b u)), box-same (forbiddenAt a b + 1) (omega (arith, forbidden-within a w b u))) refl
+
+  -- ---- all records
+
+  pub records-yes : recordsQuestions m ≡ 0 → recordsQuestions a ≡ 0
+  unfolding recordsQuestions
+  records-yes h =
+      let f : (first (L# m) (locationQuestions m) ≡ 0) × _ = then-both (first (L# m) (locationQuestions m)) _ h in
+      let g : (first (E# m) (switchQuestions m) ≡ 0) × (first (B# m) (forbiddenQuestion m) ≡ 0) = then-both (first (E# m) (switchQuestions m)) (first (B# m) (forbiddenQuestion m)) (f .1) in
+      then-intro (first-intro (L# a) (locationQuestions a) (λ l u. sym (location-questions-same l u) ∙ first-each (L# m) (locationQuestions m) (f .0) l (rw L-same u)))
+      (then-intro (first-intro (E# a) (switchQuestions a) (λ e u. switch-yes e u (first-each (E# m) (switchQuestions m) (g .0) e (rw E-same u))))
+      (first-intro (B# a) (forbiddenQuestion a) (λ b u. sym (forbidden-question-same b u) ∙ first-each (B# m) (forbiddenQuestion m) (g .1) b (rw B-same u))))

@@ -1,0 +1,4 @@
+pub mod Cases
+pub mod ModelReading
+pub mod Beginning
+pub mod ModelRoundTrip

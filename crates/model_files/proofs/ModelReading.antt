@@ -1,0 +1,225 @@
+-- Laws of reading a model's file: what a yes to its questions tells, how the words are filled in, and how a call ends.
+use mathlib.Core.Path.{_≡_, refl, sym, ap, _∙_}
+use mathlib.Core.List.{List, _++_, append-assoc}
+use Prim.Native.Nat.{ℕ, _+_, _*_, _≤_, _<_}
+use native.Mathlib.Nat.{mul-le-mul}
+use native.Mathlib.Omega.{arith}
+use lib.Dec.{leb, eqb, eqb→eq, leb→le}
+use lib.IntN.{ℤ, pos}
+use lib.ListN.{length, take, length-append, List·getD-append}
+use Rattle.integers.specs.Words.{word, onto}
+use Rattle.integers.proofs.Buffers.{onto-start, onto-all, onto-part, cat-none, length-cat, cat-turn, take-onto}
+use Rattle.wire.specs.Bytes.{wordsAt}
+use Rattle.wire.specs.Fields.{fieldAt, fieldPlace, isField}
+use Rattle.wire.proofs.Words.{length-words}
+use Rattle.wire.proofs.Fields.{Due, due}
+use Rattle.plant.specs.Ask.{ask}
+use Rattle.plant.specs.Model.{n#, L#, E#, B#, locationAt, switchAt, forbiddenAt, modelSize}
+use Rattle.plant.specs.Questions.{rangesQuestions}
+use Rattle.plant.proofs.Asks.{ask-yes, or-right, then-both, first-each}
+use Rattle.records.specs.Whole as model
+use Rattle.records.proofs.Positions.{head-first}
+use Rattle.model_files.specs.ModelFile.{hasTag, fieldQuestions, runQuestions, switchesFrom, forbiddensFrom, fileEnd, headWords, sizesQuestions, bodyQuestions, runWords, fileWords}
+
+-- ---- fields
+
+pub field-passed : (s : List ℕ) (at tag len : ℕ) → fieldQuestions (fieldAt s at) tag len ≡ 0 → Due s at tag len
+field-passed s at tag len e =
+    due s at tag len (ask-yes (isField (fieldAt s at) tag len) 7 (omega arith) (or-right (ask (hasTag (fieldAt s at) tag) 6) (ask (isField (fieldAt s at) tag len) 7) e))
+
+-- ---- runs of fields
+
+pub run-passed : (s : List ℕ) (from count tag w : ℕ) → runQuestions s from count tag w ≡ 0 → (i : ℕ) → i < count → Due s (fieldPlace from w i) tag (4 * w)
+unfolding runQuestions
+run-passed s from count tag w e i l =
+    field-passed s (fieldPlace from w i) tag (4 * w) (first-each count (λ i. fieldQuestions (fieldAt s (fieldPlace from w i)) tag (4 * w)) e i l)
+
+pub length-run : (s : List ℕ) (from count w : ℕ) → length (runWords s from count w) ≡ count * w
+unfolding runWords
+length-run s from count w = length-cat count w (λ i. wordsAt s (fieldPlace from w i + 3) w) (λ i. length-words s (fieldPlace from w i + 3) w)
+
+-- the loop that copies a run: before its first turn, and a turn at field i
+pub run-start : (s : List ℕ) (from w to : ℕ) (d : List ℤ) → to ≤ length d → d ≡ onto (take to d ++ runWords s from 0 w) d
+unfolding runWords
+run-start s from w to d h = onto-start to d h ∙ ap (λ (l : List ℤ). onto (take to d ++ l) d) (sym (cat-none (λ i. wordsAt s (fieldPlace from w i + 3) w)))
+
+pub run-turn : (s : List ℕ) (from w to i at next : ℕ) (d x y : List ℤ) → x ≡ onto (take to d ++ runWords s from i w) d → to ≤ length d → at ≡ fieldPlace from w i → next ≡ to + i * w
+    → y ≡ onto (take next x ++ wordsAt s (at + 3) w) x → y ≡ onto (take to d ++ runWords s from (i + 1) w) d
+unfolding runWords
+run-turn s from w to i at next d x y e h ea en f =
+    rw (f, ea) (cat-turn (λ i. wordsAt s (fieldPlace from w i + 3) w) to i next d x e h (omega (arith, length-run s from i w)))
+
+-- ---- places, which are small
+
+pub place-small : (w i : ℕ) (most steps : ℕ) → i ≤ steps → w ≤ most → i * (3 + 4 * w) ≤ steps * (3 + 4 * most)
+place-small w i most steps h k = let f : 3 + 4 * w ≤ 3 + 4 * most = omega arith in mul-le-mul h f
+
+module _ (h : List ℤ) (ok : model.Head h) where
+  pub switches-small : switchesFrom h ≤ 9683
+  switches-small = omega (arith, place-small (6 * n# h + 1) (L# h) 37 64 (ok .L-small) (omega (arith, ok .n-small)))
+
+  pub forbiddens-small : forbiddensFrom h ≤ 25427
+  forbiddens-small = omega (arith, switches-small, place-small (6 + 4 * n# h) (E# h) 30 128 (ok .E-small) (omega (arith, ok .n-small)))
+
+-- where the words of the switches and of the forbidden boxes begin
+pub switches-at : (h : List ℤ) → switchAt h 0 ≡ 4 + L# h * (6 * n# h + 1)
+unfolding switchAt locationAt
+switches-at h = omega arith
+
+pub forbiddens-at : (h : List ℤ) → forbiddenAt h 0 ≡ switchAt h 0 + E# h * (6 + 4 * n# h)
+unfolding forbiddenAt switchAt
+forbiddens-at h = omega arith
+
+pub words-end : (h : List ℤ) → modelSize h ≡ forbiddenAt h 0 + B# h * (1 + 2 * n# h)
+unfolding modelSize forbiddenAt
+words-end h = omega arith
+
+-- what the copying of the three runs asks of a file and of words that are long enough
+pub record Fits (h : List ℤ) (file words : ℕ) : Type 0 where
+  pub locations-fit : (switchesFrom h ≤ file) × (4 + L# h * (6 * n# h + 1) ≤ words) × (6 * n# h + 1 ≤ 37)
+  pub switches-fit : (forbiddensFrom h ≤ file) × (switchAt h 0 + E# h * (6 + 4 * n# h) ≤ words) × (6 + 4 * n# h ≤ 37)
+  pub forbiddens-fit : (fileEnd h ≤ file) × (forbiddenAt h 0 + B# h * (1 + 2 * n# h) ≤ words) × (1 + 2 * n# h ≤ 37)
+
+pub fits : (h : List ℤ) → model.Head h → (file words : ℕ) → fileEnd h ≤ file → modelSize h ≤ words → Fits h file words
+fits h ok file words p q =
+    let n : n# h ≤ 6 = ok .n-small in
+    record {
+      locations-fit = (omega arith, omega (arith, switches-at h, forbiddens-at h, words-end h), omega arith);
+      switches-fit = (omega arith, omega (arith, forbiddens-at h, words-end h), omega arith);
+      forbiddens-fit = (p, omega (arith, words-end h), omega arith);
+    }
+
+-- ---- two lists with the same head words
+
+abbrev pub SameHead : (a b : List ℤ) → Type 0
+SameHead a b = (j : ℕ) → j < 4 → word a j ≡ word b j
+
+module _ (a b : List ℤ) (e : SameHead a b) where
+  pub same-size : modelSize a ≡ modelSize b
+  unfolding modelSize forbiddenAt switchAt locationAt
+  same-size = rw (e 0 (omega arith), e 1 (omega arith), e 2 (omega arith), e 3 (omega arith)) refl
+
+  pub same-ranges : rangesQuestions a ≡ rangesQuestions b
+  unfolding rangesQuestions
+  same-ranges = rw (e 0 (omega arith), e 1 (omega arith), e 2 (omega arith), e 3 (omega arith)) refl
+
+  pub same-body : (s : List ℕ) → bodyQuestions s a ≡ bodyQuestions s b
+  unfolding bodyQuestions
+  same-body s = rw (e 0 (omega arith), e 1 (omega arith), e 2 (omega arith), e 3 (omega arith)) refl
+
+  pub same-words : (s : List ℕ) → fileWords s a ≡ a ++ (runWords s 19 (L# b) (6 * n# b + 1) ++ (runWords s (switchesFrom b) (E# b) (6 + 4 * n# b) ++ runWords s (forbiddensFrom b) (B# b) (1 + 2 * n# b)))
+  unfolding fileWords
+  same-words s = rw (e 0 (omega arith), e 1 (omega arith), e 2 (omega arith), e 3 (omega arith)) refl
+
+  pub same-allowed : 4 ≤ length a → model.Head b → model.Head a
+  same-allowed long ok = record {
+    there = long;
+    not-negative = λ j l. rw (e j l) (ok .not-negative j l);
+    n-positive = rw (e 0 (omega arith)) (ok .n-positive);
+    n-small = rw (e 0 (omega arith)) (ok .n-small);
+    L-positive = rw (e 1 (omega arith)) (ok .L-positive);
+    L-small = rw (e 1 (omega arith)) (ok .L-small);
+    E-small = rw (e 2 (omega arith)) (ok .E-small);
+    B-small = rw (e 3 (omega arith)) (ok .B-small);
+  }
+
+-- the head words stand first
+pub same-front : (h r : List ℤ) → length h ≡ 4 → SameHead (h ++ r) h
+same-front h r e j l = List·getD-append h r (pos 0) j (omega arith)
+
+-- ---- filling in
+
+-- the buffer x holds a; then s is filled in behind it
+onto-more : (a s d x y : List ℤ) (to : ℕ) → x ≡ onto a d → length a ≡ to → y ≡ onto (take to x ++ s) x → y ≡ onto (a ++ s) d
+onto-more a s d x y to e l f = f ∙ rw e (onto-part a s d to l)
+
+module _ (s : List ℕ) (h : List ℤ) (four : length h ≡ 4) where
+  abbrev locations : List ℤ
+  locations = runWords s 19 (L# h) (6 * n# h + 1)
+
+  abbrev switches : List ℤ
+  switches = runWords s (switchesFrom h) (E# h) (6 + 4 * n# h)
+
+  abbrev forbiddens : List ℤ
+  forbiddens = runWords s (forbiddensFrom h) (B# h) (1 + 2 * n# h)
+
+  to-switches : length (h ++ locations) ≡ switchAt h 0
+  to-switches = omega (arith, length-append h locations, length-run s 19 (L# h) (6 * n# h + 1), switches-at h)
+
+  to-forbiddens : length ((h ++ locations) ++ switches) ≡ forbiddenAt h 0
+  to-forbiddens = omega (arith, length-append (h ++ locations) switches, to-switches, length-run s (switchesFrom h) (E# h) (6 + 4 * n# h), forbiddens-at h)
+
+  in-turn : ((h ++ locations) ++ switches) ++ forbiddens ≡ fileWords s h
+  unfolding fileWords
+  in-turn = append-assoc (h ++ locations) switches forbiddens ∙ append-assoc h locations (switches ++ forbiddens)
+
+  pub length-file : length (fileWords s h) ≡ modelSize h
+  length-file =
+      rw (← in-turn) (omega (arith, length-append ((h ++ locations) ++ switches) forbiddens, to-forbiddens, length-run s (forbiddensFrom h) (B# h) (1 + 2 * n# h), words-end h))
+
+  -- the head words, then the three runs
+  pub filled : (d x₁ x₂ x₃ x₄ : List ℤ) → x₁ ≡ onto h d → x₂ ≡ onto (take 4 x₁ ++ locations) x₁ → x₃ ≡ onto (take (switchAt h 0) x₂ ++ switches) x₂ → x₄ ≡ onto (take (forbiddenAt h 0) x₃ ++ forbiddens) x₃ → x₄ ≡ onto (fileWords s h) d
+  filled d x₁ x₂ x₃ x₄ e₁ e₂ e₃ e₄ =
+      let f₂ : x₂ ≡ onto (h ++ locations) d = onto-more h locations d x₁ x₂ 4 e₁ four e₂ in
+      let f₃ : x₃ ≡ onto ((h ++ locations) ++ switches) d = onto-more (h ++ locations) switches d x₂ x₃ (switchAt h 0) f₂ to-switches e₃ in
+      onto-more ((h ++ locations) ++ switches) forbiddens d x₃ x₄ (forbiddenAt h 0) f₃ to-forbiddens e₄ ∙ ap (λ (l : List ℤ). onto l d) in-turn
+
+  pub same-file : SameHead (fileWords s h) h
+  unfolding fileWords
+  same-file = same-front h (locations ++ (switches ++ forbiddens)) four
+
+  -- the words that are filled in are a whole model, as far as its head tells
+  pub file-whole : model.Head h → model.Whole (fileWords s h)
+  file-whole ok =
+      let same : SameHead (fileWords s h) h = same-file in
+      let size : modelSize (fileWords s h) ≡ modelSize h = same-size (fileWords s h) h same in
+      record {
+        head = same-allowed (fileWords s h) h same (omega (arith, length-file, head-first h)) ok;
+        long = omega (arith, length-file, size);
+      }
+
+  -- they are what is asked
+  pub front-of : (d x : List ℤ) (k : ℕ) → x ≡ onto (fileWords s h) d → k ≡ modelSize h → take k x ≡ fileWords s h
+  front-of d x k e l = rw e (take-onto (fileWords s h) d k (length-file ∙ sym l))
+
+pub length-head : (s : List ℕ) → length (headWords s) ≡ 4
+unfolding headWords
+length-head s = length-words s 3 4
+
+-- the head words of a file, read into four places
+pub head-read : (s : List ℕ) (d x : List ℤ) → length d ≡ 4 → x ≡ onto (take 0 d ++ wordsAt s 3 4) d → x ≡ headWords s
+unfolding headWords
+head-read s d x l e = e ∙ onto-all (wordsAt s 3 4) d (length-words s 3 4 ∙ sym l)
+
+pub head-filled : (s : List ℕ) (h d x : List ℤ) → h ≡ headWords s → x ≡ onto (take 0 d ++ wordsAt s 3 4) d → x ≡ onto h d
+unfolding headWords
+head-filled s h d x e f = rw e f
+
+-- ---- what a yes tells
+
+pub head-there : (s : List ℕ) → ask (isField (fieldAt s 0) 1 16) 1 ≡ 0 → 19 ≤ length s
+head-there s e = due s 0 1 16 (ask-yes (isField (fieldAt s 0) 1 16) 1 (omega arith) e) .there
+
+pub sizes-room : (h : List ℤ) (room : ℕ) → sizesQuestions h room ≡ 0 → (rangesQuestions h ≡ 0) × (modelSize h ≤ room)
+sizes-room h room e =
+    let a : (rangesQuestions h ≡ 0) × (ask (leb (modelSize h) room) 5 ≡ 0) = then-both (rangesQuestions h) (ask (leb (modelSize h) room) 5) e in
+    (a .0, leb→le (modelSize h) room (ask-yes (leb (modelSize h) room) 5 (omega arith) (a .1)))
+
+pub record BodyPassed (s : List ℕ) (h : List ℤ) : Type 0 where
+  pub locations-due : (i : ℕ) → i < L# h → Due s (fieldPlace 19 (6 * n# h + 1) i) 2 (4 * (6 * n# h + 1))
+  pub switches-due : (i : ℕ) → i < E# h → Due s (fieldPlace (switchesFrom h) (6 + 4 * n# h) i) 3 (4 * (6 + 4 * n# h))
+  pub forbiddens-due : (i : ℕ) → i < B# h → Due s (fieldPlace (forbiddensFrom h) (1 + 2 * n# h) i) 4 (4 * (1 + 2 * n# h))
+  pub ended : length s ≡ fileEnd h
+
+pub body-passed : (s : List ℕ) (h : List ℤ) → bodyQuestions s h ≡ 0 → BodyPassed s h
+unfolding bodyQuestions
+body-passed s h e =
+    let a : (runQuestions s 19 (L# h) 2 (6 * n# h + 1) ≡ 0) × _ = then-both (runQuestions s 19 (L# h) 2 (6 * n# h + 1)) _ e in
+    let b : (runQuestions s (switchesFrom h) (E# h) 3 (6 + 4 * n# h) ≡ 0) × _ = then-both (runQuestions s (switchesFrom h) (E# h) 3 (6 + 4 * n# h)) _ (a .1) in
+    let c : (runQuestions s (forbiddensFrom h) (B# h) 4 (1 + 2 * n# h) ≡ 0) × _ = then-both (runQuestions s (forbiddensFrom h) (B# h) 4 (1 + 2 * n# h)) _ (b .1) in
+    record {
+      locations-due = run-passed s 19 (L# h) 2 (6 * n# h + 1) (a .0);
+      switches-due = run-passed s (switchesFrom h) (E# h) 3 (6 + 4 * n# h) (b .0);
+      forbiddens-due = run-passed s (forbiddensFrom h) (B# h) 4 (1 + 2 * n# h) (c .0);
+      ended = eqb→eq (length s) (fileEnd h) (ask-yes (eqb (length s) (fileEnd h)) 8 (omega arith) (c .1));
+    }

@@ -1,0 +1,391 @@
+-- A model's file is read exactly if it is the file of words that pass the questions, and then gives those words. One way, each
+-- field that is written is read back; the other way, each field that is read is the one that would be written.
+use mathlib.Core.Path.{_≡_, refl, sym, ap, ap₂, _∙_}
+use mathlib.Core.Bool.{Bool}
+use mathlib.Core.List.{List, [], _++_, append-assoc, append-nil}
+use Prim.Native.Nat.{ℕ, zero, suc, _+_, _*_, _≤_, _<_}
+use native.Mathlib.Omega.{arith}
+use lib.Dec.{T, leb, eqb, le→leb, eqb-refl}
+use lib.IntN.{ℤ, pos}
+use lib.ListN.{length, getD, take, drop, length-append, take-append-drop}
+use lib.Seq.{take-add, take-at, drop-at, take-all, length-take-le, getD-take}
+use mir.Syntax.{w32}
+use mir.Val.{SFits}
+use Rattle.integers.specs.Words.{word, onto}
+use Rattle.integers.specs.Counted.{cat}
+use Rattle.integers.proofs.Tests.{and-intro}
+use Rattle.integers.proofs.Buffers.{cat-ext, cat-at, cat-parts, length-cat-below, take-onto}
+use Rattle.wire.specs.Bytes.{wordsAt, wordsBytes, part}
+use Rattle.wire.specs.Fields.{fieldAt, field, fieldPlace, isField}
+use Rattle.wire.specs.declared.Field.{Field}
+use Rattle.wire.specs.declared.Field.the-variants.{Whole}
+use Rattle.wire.proofs.Words.{AreBytes, AreWords, length-bytes, length-part, length-words, part-words, all-bytes-back}
+use Rattle.wire.proofs.Fields.{length-field, field-back, field-words-back, field-part, length-fields, fields-back, fields-words-back, fields-stand, Due, due}
+use Rattle.plant.specs.Ask.{ask, _then_}
+use Rattle.plant.specs.Model.{n#, L#, E#, B#, locationAt, switchAt, forbiddenAt, modelSize}
+use Rattle.plant.specs.Questions.{rangesQuestions, recordsQuestions, modelQuestions}
+use Rattle.plant.proofs.Asks.{ask-intro, ask-le, asked, then-both, then-intro, then-le, first-intro, first-le}
+use Rattle.plant.proofs.Numbers.{records-le, ranges-le}
+use Rattle.plant.proofs.Passed.{Passed, passed}
+use Rattle.plant.specs.Calls.{ReadOutcome, unlessRefused}
+use Rattle.plant.proofs.Reading.{past}
+use Rattle.records.specs.Whole as model
+use Rattle.records.proofs.Positions.{head-first, location-within, switch-within, forbidden-within}
+use Rattle.model.proofs.Passing.{whole-passed}
+use Rattle.model_files.specs.ModelFile.{recordField, modelFile, hasTag, fieldQuestions, runQuestions, headWords, sizesQuestions, headQuestions, switchesFrom, forbiddensFrom, fileEnd, bodyQuestions, runWords, fileWords, readModelCall}
+use Rattle.model_files.specs.ModelFilesExact.{wordsRead, IsModelFile, ModelFilesExact}
+use Rattle.model_files.proofs.Beginning.{records-yes}
+use Rattle.model_files.proofs.ModelReading.{SameHead, same-size, same-ranges, same-body, same-words, same-allowed, same-file, length-file, length-head, length-run, BodyPassed, body-passed, switches-at, forbiddens-at, words-end, sizes-room}
+
+-- ---- lists in four parts
+
+module _ {A : Type 0} where
+  -- the front of a list, in four parts
+  pub four-parts : (l : List A) (x a b c : ℕ) → take x l ++ (part l x a ++ (part l (x + a) b ++ part l (x + a + b) c)) ≡ take (x + a + b + c) l
+  four-parts l x a b c =
+      ap (λ (r : List A). take x l ++ r) (sym (append-assoc (part l x a) (part l (x + a) b) (part l (x + a + b) c)))
+      ∙ sym (append-assoc (take x l) (part l x a ++ part l (x + a) b) (part l (x + a + b) c))
+      ∙ ap (λ (r : List A). r ++ part l (x + a + b) c) (sym (append-assoc (take x l) (part l x a) (part l (x + a) b)) ∙ ap (λ (r : List A). r ++ part l (x + a) b) (sym (take-add x a l)) ∙ sym (take-add (x + a) b l))
+      ∙ sym (take-add (x + a + b) c l)
+
+  -- list i of lists of one length, after p
+  pub part-of-cat : (p : List A) (g : ℕ → List A) (q : List A) (k w at i : ℕ) → length p ≡ at → ((i : ℕ) → i < k → length (g i) ≡ w) → i < k → part (p ++ (cat k g ++ q)) (at + i * w) w ≡ g i
+  part-of-cat p g q k w at i e lens l =
+      let c = cat-at g k i l in
+      let around : p ++ (cat k g ++ q) ≡ (p ++ cat i g) ++ (g i ++ (c .0 ++ q)) =
+      ap (λ (x : List A). p ++ (x ++ q)) (c .1)
+      ∙ ap (λ (x : List A). p ++ x) (append-assoc (cat i g) (g i ++ c .0) q ∙ ap (λ (x : List A). cat i g ++ x) (append-assoc (g i) (c .0) q))
+      ∙ sym (append-assoc p (cat i g) (g i ++ (c .0 ++ q))) in
+      let before : length (p ++ cat i g) ≡ at + i * w = omega (arith, length-append p (cat i g), length-cat-below i w g (λ j u. lens j (omega arith))) in
+      rw around (ap (take w) (drop-at (p ++ cat i g) (g i ++ (c .0 ++ q)) (at + i * w) before) ∙ take-at (g i) (c .0 ++ q) w (lens i l))
+
+-- ---- a run of fields that is written is read back
+
+field-yes : (f : Field) (tag start len next : ℕ) → f ≡ Whole tag start len next → T (isField f tag len)
+field-yes f tag start len next e = rw e (and-intro (eqb tag tag) (eqb len len) (eqb-refl tag) (eqb-refl len))
+
+tag-yes : (f : Field) (tag start len next : ℕ) → f ≡ Whole tag start len next → T (hasTag f tag)
+tag-yes f tag start len next e = rw e (eqb-refl tag)
+
+questions-yes : (f : Field) (tag start len next : ℕ) → f ≡ Whole tag start len next → fieldQuestions f tag len ≡ 0
+questions-yes f tag start len next e = then-intro (ask-intro (hasTag f tag) 6 (tag-yes f tag start len next e)) (ask-intro (isField f tag len) 7 (field-yes f tag start len next e))
+
+module _ (s p : List ℕ) (tag : ℕ) (zs : ℕ → List ℤ) (k w : ℕ) (q : List ℕ) (at : ℕ) (es : s ≡ p ++ (cat k (λ i. field tag (wordsBytes (zs i))) ++ q)) (ep : length p ≡ at) (ew : (i : ℕ) → i < k → length (zs i) ≡ w) where
+  run-yes : 4 * w < 65536 → runQuestions s at k tag w ≡ 0
+  unfolding runQuestions
+  run-yes h =
+      first-intro k (λ i. fieldQuestions (fieldAt s (fieldPlace at w i)) tag (4 * w)) (λ i l.
+      questions-yes (fieldAt s (fieldPlace at w i)) tag (fieldPlace at w i + 3) (4 * w) (fieldPlace at w i + 3 + 4 * w) (rw es (fields-back p tag zs k w q at ep ew i l h)))
+
+  run-words : ((i : ℕ) → AreWords (zs i)) → runWords s at k w ≡ cat k zs
+  unfolding runWords
+  run-words f = cat-ext k (λ i. wordsAt s (fieldPlace at w i + 3) w) zs (λ i l. rw es (fields-words-back p tag zs k w q at ep ew i l (f i)))
+
+-- ---- the file of a model's words is read
+
+module _ (m : List ℤ) (ok : Passed m) (f : AreWords m) where
+  w : model.Whole m
+  w = whole-passed m ok
+
+  abbrev locationWords : ℕ → List ℤ
+  locationWords l = part m (locationAt m l) (6 * n# m + 1)
+
+  abbrev switchWords : ℕ → List ℤ
+  switchWords e = part m (switchAt m e) (6 + 4 * n# m)
+
+  abbrev forbiddenWords : ℕ → List ℤ
+  forbiddenWords b = part m (forbiddenAt m b) (1 + 2 * n# m)
+
+  abbrev headField : List ℕ
+  headField = field 1 (wordsBytes (part m 0 4))
+
+  abbrev locations : List ℕ
+  locations = cat (L# m) (λ l. field 2 (wordsBytes (locationWords l)))
+
+  abbrev switches : List ℕ
+  switches = cat (E# m) (λ e. field 3 (wordsBytes (switchWords e)))
+
+  abbrev forbiddens : List ℕ
+  forbiddens = cat (B# m) (λ b. field 4 (wordsBytes (forbiddenWords b)))
+
+  abbrev s : List ℕ
+  s = headField ++ (locations ++ (switches ++ forbiddens))
+
+  -- lengths
+
+  four : length (part m 0 4) ≡ 4
+  four = length-part m 0 4 (w .head .there)
+
+  length-payload : length (wordsBytes (part m 0 4)) ≡ 16
+  length-payload = omega (arith, length-bytes (part m 0 4), four)
+
+  length-head-field : length headField ≡ 19
+  length-head-field = omega (arith, length-field 1 (wordsBytes (part m 0 4)), length-payload)
+
+  length-location : (l : ℕ) → l < L# m → length (locationWords l) ≡ 6 * n# m + 1
+  length-location l u = length-part m (locationAt m l) (6 * n# m + 1) (location-within m w l u)
+
+  length-switch : (e : ℕ) → e < E# m → length (switchWords e) ≡ 6 + 4 * n# m
+  length-switch e u = length-part m (switchAt m e) (6 + 4 * n# m) (switch-within m w e u)
+
+  length-forbidden : (b : ℕ) → b < B# m → length (forbiddenWords b) ≡ 1 + 2 * n# m
+  length-forbidden b u = length-part m (forbiddenAt m b) (1 + 2 * n# m) (forbidden-within m w b u)
+
+  -- what stands before each run
+
+  before-switches : length (headField ++ locations) ≡ switchesFrom m
+  before-switches =
+      omega (arith, length-append headField locations, length-head-field, length-fields headField 2 locationWords (L# m) (6 * n# m + 1) (switches ++ forbiddens) 19 length-head-field length-location (L# m) (omega arith))
+
+  before-forbiddens : length ((headField ++ locations) ++ switches) ≡ forbiddensFrom m
+  before-forbiddens =
+      omega (arith, length-append (headField ++ locations) switches, before-switches, length-fields (headField ++ locations) 3 switchWords (E# m) (6 + 4 * n# m) forbiddens (switchesFrom m) before-switches length-switch (E# m) (omega arith))
+
+  around-switches : s ≡ (headField ++ locations) ++ (switches ++ forbiddens)
+  around-switches = sym (append-assoc headField locations (switches ++ forbiddens))
+
+  around-forbiddens : s ≡ ((headField ++ locations) ++ switches) ++ (forbiddens ++ [])
+  around-forbiddens =
+      around-switches ∙ sym (append-assoc (headField ++ locations) switches forbiddens) ∙ ap (λ (x : List ℕ). ((headField ++ locations) ++ switches) ++ x) (sym (append-nil forbiddens))
+
+  length-all : length s ≡ fileEnd m
+  length-all =
+      ap length (around-switches ∙ sym (append-assoc (headField ++ locations) switches forbiddens))
+      ∙ omega (arith, length-append ((headField ++ locations) ++ switches) forbiddens, before-forbiddens, length-fields ((headField ++ locations) ++ switches) 4 forbiddenWords (B# m) (1 + 2 * n# m) [] (forbiddensFrom m) before-forbiddens length-forbidden (B# m) (omega arith))
+
+  -- the questions of the fields
+
+  body-yes : bodyQuestions s m ≡ 0
+  unfolding bodyQuestions
+  body-yes =
+      let small : n# m ≤ 6 = ok .n-small in
+      then-intro (run-yes s headField 2 locationWords (L# m) (6 * n# m + 1) (switches ++ forbiddens) 19 refl length-head-field length-location (omega arith))
+      (then-intro (run-yes s (headField ++ locations) 3 switchWords (E# m) (6 + 4 * n# m) forbiddens (switchesFrom m) around-switches before-switches length-switch (omega arith))
+      (then-intro (run-yes s ((headField ++ locations) ++ switches) 4 forbiddenWords (B# m) (1 + 2 * n# m) [] (forbiddensFrom m) around-forbiddens before-forbiddens length-forbidden (omega arith))
+      (ask-intro (eqb (length s) (fileEnd m)) 8 (rw length-all (eqb-refl (fileEnd m))))))
+
+  head-yes : T (isField (fieldAt s 0) 1 16)
+  head-yes = field-yes (fieldAt s 0) 1 3 16 19 (field-back [] 1 (wordsBytes (part m 0 4)) (locations ++ (switches ++ forbiddens)) 0 16 refl length-payload (omega arith))
+
+  -- the words
+
+  head-words : headWords s ≡ part m 0 4
+  unfolding headWords
+  head-words = field-words-back [] 1 (part m 0 4) (locations ++ (switches ++ forbiddens)) 0 4 refl four (part-words m 0 4 f)
+
+  same : SameHead (headWords s) m
+  same j l = rw head-words (getD-take 4 m j (pos 0) l)
+
+  location-parts : cat (L# m) locationWords ≡ part m 4 (L# m * (6 * n# m + 1))
+  unfolding locationAt
+  location-parts = cat-parts m 4 (6 * n# m + 1) (L# m)
+
+  switch-parts : cat (E# m) switchWords ≡ part m (4 + L# m * (6 * n# m + 1)) (E# m * (6 + 4 * n# m))
+  unfolding switchAt locationAt
+  switch-parts = cat-parts m (4 + L# m * (6 * n# m + 1)) (6 + 4 * n# m) (E# m)
+
+  forbidden-parts : cat (B# m) forbiddenWords ≡ part m (4 + L# m * (6 * n# m + 1) + E# m * (6 + 4 * n# m)) (B# m * (1 + 2 * n# m))
+  unfolding forbiddenAt switchAt locationAt
+  forbidden-parts = cat-parts m (4 + L# m * (6 * n# m + 1) + E# m * (6 + 4 * n# m)) (1 + 2 * n# m) (B# m)
+
+  runs : runWords s 19 (L# m) (6 * n# m + 1) ++ (runWords s (switchesFrom m) (E# m) (6 + 4 * n# m) ++ runWords s (forbiddensFrom m) (B# m) (1 + 2 * n# m))
+      ≡ cat (L# m) locationWords ++ (cat (E# m) switchWords ++ cat (B# m) forbiddenWords)
+  runs =
+      ap₂ (λ (x y : List ℤ). x ++ y) (run-words s headField 2 locationWords (L# m) (6 * n# m + 1) (switches ++ forbiddens) 19 refl length-head-field length-location (λ i. part-words m (locationAt m i) (6 * n# m + 1) f))
+      (ap₂ (λ (x y : List ℤ). x ++ y) (run-words s (headField ++ locations) 3 switchWords (E# m) (6 + 4 * n# m) forbiddens (switchesFrom m) around-switches before-switches length-switch (λ i. part-words m (switchAt m i) (6 + 4 * n# m) f))
+      (run-words s ((headField ++ locations) ++ switches) 4 forbiddenWords (B# m) (1 + 2 * n# m) [] (forbiddensFrom m) around-forbiddens before-forbiddens length-forbidden (λ i. part-words m (forbiddenAt m i) (1 + 2 * n# m) f)))
+
+  size-is : 4 + L# m * (6 * n# m + 1) + E# m * (6 + 4 * n# m) + B# m * (1 + 2 * n# m) ≡ modelSize m
+  size-is = omega (arith, switches-at m, forbiddens-at m, words-end m)
+
+  words-are : fileWords s (headWords s) ≡ take (modelSize m) m
+  words-are =
+      same-words (headWords s) m same s
+      ∙ ap₂ (λ (x y : List ℤ). x ++ y) head-words (runs ∙ ap₂ (λ (x y : List ℤ). x ++ y) location-parts (ap₂ (λ (x y : List ℤ). x ++ y) switch-parts forbidden-parts))
+      ∙ four-parts m 4 (L# m * (6 * n# m + 1)) (E# m * (6 + 4 * n# m)) (B# m * (1 + 2 * n# m))
+      ∙ ap (λ (k : ℕ). take k m) size-is
+
+  -- the model's words alone pass, too
+
+  front-same : SameHead (take (modelSize m) m) m
+  front-same j l = getD-take (modelSize m) m j (pos 0) (omega (arith, head-first m))
+
+  front-whole : model.Whole (take (modelSize m) m)
+  front-whole =
+      let l : length (take (modelSize m) m) ≡ modelSize m = length-take-le (modelSize m) m (ok .long) in
+      record {
+        head = same-allowed (take (modelSize m) m) m front-same (omega (arith, l, head-first m)) (w .head);
+        long = omega (arith, l, same-size (take (modelSize m) m) m front-same);
+      }
+
+  front-records : recordsQuestions m ≡ 0 → recordsQuestions (take (modelSize m) m) ≡ 0
+  front-records h = records-yes (take (modelSize m) m) (drop (modelSize m) m) front-whole (ap recordsQuestions (take-append-drop (modelSize m) m) ∙ h)
+
+  reads : (words : List ℤ) → rangesQuestions m ≡ 0 → recordsQuestions m ≡ 0 → modelSize m ≤ length words
+      → record { reply = record { code = 100; value = modelSize m }; words = onto (take (modelSize m) m) words } ≡ readModelCall s words
+  unfolding readModelCall headQuestions
+  reads words ranges records room =
+      let size : modelSize (headWords s) ≡ modelSize m = same-size (headWords s) m same in
+      past _
+      (then-intro (ask-intro (isField (fieldAt s 0) 1 16) 1 head-yes)
+      (then-intro (same-ranges (headWords s) m same ∙ ranges) (ask-intro (leb (modelSize (headWords s)) (length words)) 5 (le→leb (modelSize (headWords s)) (length words) (omega (arith, size))))))
+      (past _ (then-intro (same-body (headWords s) m same s ∙ body-yes) (ap recordsQuestions words-are ∙ front-records records))
+      (rw (size, words-are) refl))
+
+-- ---- no refusal is 100
+
+asks : (b : Bool) (k : ℕ) → k ≤ 19 → ask b k ≤ 19
+asks b k h = omega (arith, ask-le b k)
+
+module _ (s : List ℕ) where
+  run-le : (from count tag w : ℕ) → runQuestions s from count tag w ≤ 19
+  unfolding runQuestions
+  run-le from count tag w =
+      first-le count (λ i. fieldQuestions (fieldAt s (fieldPlace from w i)) tag (4 * w)) 19 (λ i.
+      let f : Field = fieldAt s (fieldPlace from w i) in
+      then-le _ _ 19 (asks (hasTag f tag) 6 (omega arith)) (asks (isField f tag (4 * w)) 7 (omega arith)))
+
+  pub head-le : (room : ℕ) → headQuestions s room ≤ 19
+  unfolding headQuestions
+  head-le room =
+      then-le _ _ 19 (asks (isField (fieldAt s 0) 1 16) 1 (omega arith))
+      (then-le _ _ 19 (ranges-le (headWords s))
+      (asks (leb (modelSize (headWords s)) room) 5 (omega arith)))
+
+  pub body-le : (h : List ℤ) → bodyQuestions s h ≤ 19
+  unfolding bodyQuestions
+  body-le h =
+      then-le _ _ 19 (run-le 19 (L# h) 2 (6 * n# h + 1))
+      (then-le _ _ 19 (run-le (switchesFrom h) (E# h) 3 (6 + 4 * n# h))
+      (then-le _ _ 19 (run-le (forbiddensFrom h) (B# h) 4 (1 + 2 * n# h))
+      (asks (eqb (length s) (fileEnd h)) 8 (omega arith))))
+
+not-refused : (k : ℕ) (words : List ℤ) (next : ReadOutcome) → k ≤ 19 → unlessRefused k words next .reply .code ≡ 100 → (k ≡ 0) × (unlessRefused k words next ≡ next)
+unfolding unlessRefused
+not-refused zero words next l e = (refl, refl)
+not-refused (suc k) words next l e = absurd (omega arith)
+
+-- ---- bytes that are read are the file of the words that they give
+
+-- the file of the words a, by the head words b
+file-by : (a b : List ℤ) → SameHead a b → modelFile a
+    ≡ recordField 1 a 0 4
+    ++ (cat (L# b) (λ i. recordField 2 a (4 + i * (6 * n# b + 1)) (6 * n# b + 1))
+    ++ (cat (E# b) (λ i. recordField 3 a (4 + L# b * (6 * n# b + 1) + i * (6 + 4 * n# b)) (6 + 4 * n# b))
+    ++ cat (B# b) (λ i. recordField 4 a (4 + L# b * (6 * n# b + 1) + E# b * (6 + 4 * n# b) + i * (1 + 2 * n# b)) (1 + 2 * n# b))))
+unfolding modelFile locationAt switchAt forbiddenAt
+file-by a b e = rw (e 0 (omega arith), e 1 (omega arith), e 2 (omega arith), e 3 (omega arith)) refl
+
+-- the fields of a run are the file's part that is read
+run-stands : (s : List ℕ) (b : AreBytes s) (a p : List ℤ) (q : List ℤ) (from count tag w at : ℕ) → a ≡ p ++ (runWords s from count w ++ q) → length p ≡ at
+    → ((i : ℕ) → i < count → Due s (fieldPlace from w i) tag (4 * w)) → cat count (λ i. recordField tag a (at + i * w) w) ≡ part s from (count * (3 + 4 * w))
+unfolding runWords
+run-stands s b a p q from count tag w at ea ep dues =
+    cat-ext count (λ i. recordField tag a (at + i * w) w) (λ i. field tag (wordsBytes (wordsAt s (fieldPlace from w i + 3) w)))
+    (λ i l. ap (λ (x : List ℤ). field tag (wordsBytes x)) (ap (λ (x : List ℤ). part x (at + i * w) w) ea ∙ part-of-cat p (λ i. wordsAt s (fieldPlace from w i + 3) w) q count w at i ep (λ j u. length-words s (fieldPlace from w j + 3) w) l))
+    ∙ sym (fields-stand s b from tag w count (λ i l. dues i l .field-is))
+
+-- the words of a file pass the questions of words
+module _ (s : List ℕ) where
+  same-read : SameHead (fileWords s (headWords s)) (headWords s)
+  same-read = same-file s (headWords s) (length-head s)
+
+  length-read : length (fileWords s (headWords s)) ≡ modelSize (headWords s)
+  length-read = length-file s (headWords s) (length-head s)
+
+  pub read-size : modelSize (fileWords s (headWords s)) ≡ modelSize (headWords s)
+  read-size = same-size (fileWords s (headWords s)) (headWords s) same-read
+
+  pub read-passes : rangesQuestions (headWords s) ≡ 0 → recordsQuestions (fileWords s (headWords s)) ≡ 0 → modelQuestions (fileWords s (headWords s)) ≡ 0
+  unfolding modelQuestions
+  read-passes ranges records =
+      let a : List ℤ = fileWords s (headWords s) in
+      then-intro (ask-intro (leb 4 (length a)) 5 (le→leb 4 (length a) (omega (arith, length-read, head-first (headWords s)))))
+      (then-intro (same-ranges a (headWords s) same-read ∙ ranges)
+      (then-intro (ask-intro (leb (modelSize a) (length a)) 5 (le→leb (modelSize a) (length a) (omega (arith, length-read, read-size)))) records))
+
+module _ (s : List ℕ) (b : AreBytes s) (first-due : Due s 0 1 16) (due-all : BodyPassed s (headWords s)) where
+  abbrev h : List ℤ
+  h = headWords s
+
+  abbrev a : List ℤ
+  a = fileWords s h
+
+  abbrev locationRun : List ℤ
+  locationRun = runWords s 19 (L# h) (6 * n# h + 1)
+
+  abbrev switchRun : List ℤ
+  switchRun = runWords s (switchesFrom h) (E# h) (6 + 4 * n# h)
+
+  abbrev forbiddenRun : List ℤ
+  forbiddenRun = runWords s (forbiddensFrom h) (B# h) (1 + 2 * n# h)
+
+  around-locations : a ≡ h ++ (locationRun ++ (switchRun ++ forbiddenRun))
+  unfolding fileWords
+  around-locations = refl
+
+  around-switch-run : a ≡ (h ++ locationRun) ++ (switchRun ++ forbiddenRun)
+  around-switch-run = around-locations ∙ sym (append-assoc h locationRun (switchRun ++ forbiddenRun))
+
+  around-forbidden-run : a ≡ ((h ++ locationRun) ++ switchRun) ++ (forbiddenRun ++ [])
+  around-forbidden-run = around-switch-run ∙ sym (append-assoc (h ++ locationRun) switchRun forbiddenRun) ∙ ap (λ (x : List ℤ). ((h ++ locationRun) ++ switchRun) ++ x) (sym (append-nil forbiddenRun))
+
+  length-two : length (h ++ locationRun) ≡ 4 + L# h * (6 * n# h + 1)
+  length-two = omega (arith, length-append h locationRun, length-head s, length-run s 19 (L# h) (6 * n# h + 1))
+
+  length-three : length ((h ++ locationRun) ++ switchRun) ≡ 4 + L# h * (6 * n# h + 1) + E# h * (6 + 4 * n# h)
+  length-three = omega (arith, length-append (h ++ locationRun) switchRun, length-two, length-run s (switchesFrom h) (E# h) (6 + 4 * n# h))
+
+  head-part : part a 0 4 ≡ h
+  head-part = ap (λ (x : List ℤ). part x 0 4) around-locations ∙ take-at h (locationRun ++ (switchRun ++ forbiddenRun)) 4 (length-head s)
+
+  head-stands : recordField 1 a 0 4 ≡ take 19 s
+  unfolding headWords
+  head-stands =
+      ap (λ (x : List ℤ). field 1 (wordsBytes x)) head-part
+      ∙ ap (field 1) (all-bytes-back s 3 4 b (first-due .there))
+      ∙ sym (field-part s 0 1 3 16 19 b (first-due .field-is))
+
+  is-file : s ≡ modelFile a
+  is-file =
+      sym (file-by a h (same-file s h (length-head s))
+      ∙ ap₂ (λ (x y : List ℕ). x ++ y) head-stands
+      (ap₂ (λ (x y : List ℕ). x ++ y) (run-stands s b a h (switchRun ++ forbiddenRun) 19 (L# h) 2 (6 * n# h + 1) 4 around-locations (length-head s) (due-all .locations-due))
+      (ap₂ (λ (x y : List ℕ). x ++ y) (run-stands s b a (h ++ locationRun) forbiddenRun (switchesFrom h) (E# h) 3 (6 + 4 * n# h) (4 + L# h * (6 * n# h + 1)) around-switch-run length-two (due-all .switches-due))
+      (run-stands s b a ((h ++ locationRun) ++ switchRun) [] (forbiddensFrom h) (B# h) 4 (1 + 2 * n# h) (4 + L# h * (6 * n# h + 1) + E# h * (6 + 4 * n# h)) around-forbidden-run length-three (due-all .forbiddens-due))))
+      ∙ four-parts s 19 (L# h * (3 + 4 * (6 * n# h + 1))) (E# h * (3 + 4 * (6 + 4 * n# h))) (B# h * (3 + 4 * (1 + 2 * n# h)))
+      ∙ take-all (fileEnd h) s (omega (arith, due-all .ended)))
+
+  pub read-file : rangesQuestions h ≡ 0 → recordsQuestions a ≡ 0 → IsModelFile s a
+  read-file ranges records = record { is-file = is-file; passes = read-passes s ranges records; no-more = length-read s ∙ sym (read-size s) }
+
+head-passed : (s : List ℕ) (room : ℕ) → headQuestions s room ≡ 0 → Due s 0 1 16 × (rangesQuestions (headWords s) ≡ 0)
+unfolding headQuestions
+head-passed s room e =
+    let x : T (isField (fieldAt s 0) 1 16) × (sizesQuestions (headWords s) room ≡ 0) = asked (isField (fieldAt s 0) 1 16) 1 (sizesQuestions (headWords s) room) (omega arith) e in
+    (due s 0 1 16 (x .0), sizes-room (headWords s) room (x .1) .0)
+
+-- ---- the theorem
+
+file-reads : (m words : List ℤ) → modelQuestions m ≡ 0 → ((i : ℕ) → SFits w32 (word m i)) → modelSize m ≤ length words
+    → readModelCall (modelFile m) words ≡ record { reply = record { code = 100; value = modelSize m }; words = onto (take (modelSize m) m) words }
+unfolding modelFile modelQuestions
+file-reads m words e f room =
+    let x : _ × _ = asked (leb 4 (length m)) 5 _ (omega arith) e in
+    let y : (rangesQuestions m ≡ 0) × _ = then-both (rangesQuestions m) _ (x .1) in
+    let z : _ × (recordsQuestions m ≡ 0) = asked (leb (modelSize m) (length m)) 5 (recordsQuestions m) (omega arith) (y .1) in
+    sym (reads m (passed m e) f words (y .0) (z .1) room)
+
+read-is-file : (s : List ℕ) (words : List ℤ) → ((i : ℕ) → getD s i 0 < 256) → readModelCall s words .reply .code ≡ 100 → IsModelFile s (wordsRead (readModelCall s words))
+unfolding readModelCall
+read-is-file s words b e =
+    let h : List ℤ = headWords s in
+    let x = not-refused (headQuestions s (length words)) _ _ (head-le s (length words)) e in
+    let y = not-refused (bodyQuestions s h then recordsQuestions (fileWords s h)) _ _ (then-le _ _ 19 (body-le s h) (records-le (fileWords s h))) (rw (x .1) at e) in
+    let z : (bodyQuestions s h ≡ 0) × (recordsQuestions (fileWords s h) ≡ 0) = then-both (bodyQuestions s h) (recordsQuestions (fileWords s h)) (y .0) in
+    let k = head-passed s (length words) (x .0) in
+    rw (x .1 ∙ y .1, take-onto (fileWords s h) words (modelSize h) (length-file s h (length-head s)))
+    (read-file s b (k .0) (body-passed s h (z .0)) (k .1) (z .1))
+
+pub model-files-exact : ModelFilesExact
+model-files-exact = record { file-reads = file-reads; read-is-file = read-is-file }

@@ -1,0 +1,39 @@
+-- After the fields of the forbidden boxes.
+use native.Mathlib.Omega.{arith}
+use borrow.Author.Needs.{needs}
+use Rattle.model_files.proofs.ModelReading.{forbiddens-small}
+use Rattle.model_files.proofs.file_end.Statement.{statement}
+use Rattle.model_files.proofs.file_end.Tie as tie
+
+forbiddens-from-requires : tie.Need-forbiddens-from-requires
+forbiddens-from-requires c κs = search needs
+
+variables-requires : tie.Need-variables-requires
+variables-requires c κs = search needs
+
+mul-field-place : tie.Need-mul-field-place
+mul-field-place c = search needs
+
+add-field-place : tie.Need-add-field-place
+add-field-place c = search needs
+
+forbidden-boxes-requires : tie.Need-forbidden-boxes-requires
+forbidden-boxes-requires c κs = search needs
+
+field-place-requires : tie.Need-field-place-requires
+field-place-requires c κs = omega (arith, forbiddens-small _ (c .before .before .before .pre))
+
+returns : tie.Need-returns
+returns c = cc
+
+pub file-end-spec : {M : Type 1} → statement M
+file-end-spec =
+    tie.close
+    (tie.spec
+    forbiddens-from-requires
+    variables-requires
+    mul-field-place
+    add-field-place
+    forbidden-boxes-requires
+    field-place-requires
+    returns)

@@ -1,0 +1,2 @@
+pub mod ModelFile
+pub mod ModelFilesExact

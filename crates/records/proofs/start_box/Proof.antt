@@ -1,0 +1,45 @@
+-- The record of location l lies within the words, and so does this box.
+use native.Mathlib.Omega.{arith}
+use borrow.Author.Needs.{needs}
+use Rattle.plant.specs.Model as M
+use Rattle.records.proofs.Positions.{location-within}
+use Rattle.records.proofs.start_box.Statement.{statement}
+use Rattle.records.proofs.start_box.Tie as tie
+
+variables-requires : tie.Need-variables-requires
+variables-requires c κs = search needs
+
+location-at-requires : tie.Need-location-at-requires
+location-at-requires c κs = search needs
+
+mul-box-at : tie.Need-mul-box-at
+mul-box-at c = search needs
+
+add-box-at : tie.Need-add-box-at
+add-box-at c = search needs
+
+add-box-at-2 : tie.Need-add-box-at-2
+add-box-at-2 c =
+    let s = c .before .before in
+    omega (arith, location-within (s .args .model .now) (s .pre .0) (s .args .l) (s .pre .1))
+
+box-at-requires : tie.Need-box-at-requires
+box-at-requires c κs =
+    let s = c .before .before in
+    omega (arith, location-within (s .args .model .now) (s .pre .0) (s .args .l) (s .pre .1))
+
+returns : tie.Need-returns
+unfolding M.startBox
+returns c = cc
+
+pub start-box-spec : {M : Type 1} → statement M
+start-box-spec =
+    tie.close
+    (tie.spec
+    variables-requires
+    location-at-requires
+    mul-box-at
+    add-box-at
+    add-box-at-2
+    box-at-requires
+    returns)

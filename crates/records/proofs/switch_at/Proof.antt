@@ -1,0 +1,47 @@
+-- After at most 64 locations, at most 128 switches of at most 30 words: no product wraps.
+use native.Mathlib.Omega.{arith}
+use borrow.Author.Needs.{needs}
+use Rattle.plant.specs.Model.{switchAt}
+use Rattle.records.proofs.Positions.{location-small, switches-small}
+use Rattle.records.proofs.switch_at.Statement.{statement}
+use Rattle.records.proofs.switch_at.Tie as tie
+
+locations-requires : tie.Need-locations-requires
+locations-requires c κs = search needs
+
+location-at-requires : tie.Need-location-at-requires
+location-at-requires c κs = search needs
+
+variables-requires : tie.Need-variables-requires
+variables-requires c κs = search needs
+
+mul-result : tie.Need-mul-result
+mul-result c = search needs
+
+add-result : tie.Need-add-result
+add-result c = search needs
+
+mul-result-2 : tie.Need-mul-result-2
+mul-result-2 c = omega (arith, switches-small (c .variables .result) (c .before .before .before .args .e) (omega arith) (omega arith))
+
+add-result-2 : tie.Need-add-result-2
+add-result-2 c =
+    let s = c .before .before .before in
+    omega (arith, switches-small (c .variables .result) (s .args .e) (omega arith) (omega arith), location-small (s .args .model .now) (s .pre .0) (c .before .before .locations .result) (omega arith))
+
+returns : tie.Need-returns
+unfolding switchAt
+returns c = cc
+
+pub switch-at-spec : {M : Type 1} → statement M
+switch-at-spec =
+    tie.close
+    (tie.spec
+    locations-requires
+    location-at-requires
+    variables-requires
+    mul-result
+    add-result
+    mul-result-2
+    add-result-2
+    returns)

@@ -1,0 +1,52 @@
+-- The header, the count, then the fields.
+use mathlib.Core.Path.{_∙_}
+use Prim.Native.Nat.{_<_}
+use native.Mathlib.Omega.{arith}
+use borrow.Author.Needs.{needs}
+use mir.Syntax.{w32}
+use mir.Facts.{toZ-pos}
+use Rattle.integers.proofs.Signed.{fits32}
+use Rattle.table_files.proofs.TableWriting.{longest-least, present-few, file-put, file-length}
+use Rattle.table_files.proofs.writing.put_table.Statement.{statement}
+use Rattle.table_files.proofs.writing.put_table.Tie as tie
+
+put-header-requires : tie.Need-put-header-requires
+put-header-requires c κs = (omega arith, omega (arith, longest-least (c .before .before .args .model .now), c .before .before .pre .bytes))
+
+present-faces-requires : tie.Need-present-faces-requires
+present-faces-requires c κs = search needs
+
+cast-put-word : tie.Need-cast-put-word
+cast-put-word c = fits32 (omega (arith, c .present-faces .ensures, present-few (c .before .before .before .before .before .before .before .args .model .now) (c .before .before .before .before .before .before .before .args .table .now) (c .before .before .before .before .before .before .before .pre .head)))
+
+put-word-requires : tie.Need-put-word-requires
+put-word-requires c κs = omega (arith, longest-least (c .before .before .before .before .before .before .before .args .model .now), c .before .before .before .before .before .before .before .pre .bytes, c .before .before .before .before .put-header .kept .0)
+
+put-faces-requires : tie.Need-put-faces-requires
+put-faces-requires c κs = search needs
+
+same-length : tie.Need-same-length
+same-length c = search needs
+
+returns : tie.Need-returns
+returns c =
+    let s = c .before .before .before .before .before .before .before .before .before .before .before .before .before .before in
+    let a = s .args in
+    let p = c .before .before .before .before .before .before .before .present-faces in
+    let few : p .result < 2147483648 = omega (arith, p .ensures, present-few (a .model .now) (a .table .now) (s .pre .head)) in (
+      file-put (a .model .now) (a .table .now) (a .file .now) (c .before .before .before .before .before .before .before .before .before .before .before .put-header .last .0) (c .before .before .before .before .before .before .put-word .last .0) _ (c .before .before .before .before .before .before .before .before .before .before .before .put-header .ensures)
+          (rw (toZ-pos w32 {n = p .result} few, p .ensures) at (c .before .before .before .before .before .before .put-word .ensures)) (c .before .before .put-faces .ensures .0),
+      c .before .before .put-faces .ensures .1 ∙ file-length (a .model .now) (a .table .now),
+    )
+
+pub put-table-spec : {M : Type 1} → statement M
+put-table-spec =
+    tie.close
+    (tie.spec
+    put-header-requires
+    present-faces-requires
+    cast-put-word
+    put-word-requires
+    put-faces-requires
+    same-length
+    returns)

@@ -1,0 +1,3 @@
+pub mod TableFile
+pub mod TableRoom
+pub mod TableBack

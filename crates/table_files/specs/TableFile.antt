@@ -1,0 +1,149 @@
+-- Document 01, "Files" and "The questions, in order": the file of a table, and what reading and writing one give.
+use mathlib.Core.Bool.{Bool, true, cond, _&&_}
+use mathlib.Core.List.{List, [], _∷_, _++_}
+use Prim.Native.Nat.{ℕ, zero, suc, _+_, _-_, _*_}
+use lib.Dec.{eqb, leb, ltb}
+use lib.IntN.{ℤ, pos}
+use lib.ListN.{length}
+use Rattle.integers.specs.Words.{word, num, within, onto}
+use Rattle.integers.specs.Counted.{cat, sumBelow}
+use Rattle.wire.specs.Bytes.{wordAt, wordsAt, wordBytes, wordsBytes}
+use Rattle.wire.specs.Fields.{fieldAt, field, fieldPlace, isField}
+use Rattle.plant.specs.Ask.{ask, _then_, first}
+use Rattle.plant.specs.Box.{low, high, boxBy, boxAt, Face, absent, present}
+use Rattle.plant.specs.Model.{n#, L#}
+use Rattle.plant.specs.Questions.{modelQuestions}
+use Rattle.plant.specs.Tables.{tableSize, tableBy, faceOf, tableOk}
+use Rattle.plant.specs.Calls.{Reply, refused, ReadOutcome, unlessRefused, zeroed}
+
+-- ---- the file of a table: tag 6 (count of present faces), then a tag 5 for each (location, face number, box), by location, then face
+
+-- the words of a face's field
+abbrev pub faceFieldSize : ℕ → ℕ
+faceFieldSize n = 2 + 2 * n
+
+abbrev pub faceField : (n l f : ℕ) → Face → List ℕ
+faceField n l f absent = []
+faceField n l f (present b) = field 5 (wordsBytes (pos l ∷ pos f ∷ boxBy n (low b) (high b)))
+
+abbrev pub presence : Face → ℕ
+presence absent = 0
+presence (present b) = 1
+
+unfoldable pub presentFaces : (m t : List ℤ) → ℕ
+presentFaces m t = sumBelow (L# m) (λ l. sumBelow (2 * n# m) (λ f. presence (faceOf m t l f)))
+
+unfoldable pub faceFields : (m t : List ℤ) → List ℕ
+faceFields m t = cat (L# m) (λ l. cat (2 * n# m) (λ f. faceField (n# m) l f (faceOf m t l f)))
+
+unfoldable pub tableFile : (m t : List ℤ) → List ℕ
+tableFile m t = field 6 (wordBytes (pos (presentFaces m t))) ++ faceFields m t
+
+-- ---- the questions of a table file
+
+-- where the faces' fields begin, and field i of them
+abbrev pub facesFrom : ℕ
+facesFrom = fieldPlace 0 1 1
+
+abbrev pub facePlace : (n i : ℕ) → ℕ
+facePlace n i = fieldPlace facesFrom (faceFieldSize n) i
+
+-- the count as the head field has it
+unfoldable pub countWord : List ℕ → ℤ
+countWord s = wordAt s 3
+
+-- head field whole, tag 6, length 4, count 0 to 2nL
+unfoldable pub countQuestion : (m : List ℤ) (s : List ℕ) → ℕ
+countQuestion m s =
+    ask (isField (fieldAt s 0) 6 4) 35
+    then ask (within (pos 0) (pos (2 * n# m * L# m)) (countWord s)) 35
+
+-- the words of field i: location, face number, box
+unfoldable pub faceFieldWords : (n : ℕ) (s : List ℕ) (i : ℕ) → List ℤ
+faceFieldWords n s i = wordsAt s (facePlace n i + 3) (faceFieldSize n)
+
+-- faces in the order of the file: location × 2n + face number
+abbrev pub faceKey : (n : ℕ) → List ℤ → ℕ
+faceKey n w = num w 0 * (2 * n) + num w 1
+
+-- after the one before
+abbrev pub afterOk : (n : ℕ) (s : List ℕ) (i : ℕ) → Bool
+afterOk n s zero = true
+afterOk n s (suc i) = ltb (faceKey n (faceFieldWords n s i)) (faceKey n (faceFieldWords n s (suc i)))
+
+-- location and face exist, after the one before
+unfoldable pub placeOk : (m : List ℤ) (s : List ℕ) (i : ℕ) → Bool
+placeOk m s i =
+    within (pos 0) (pos (L# m - 1)) (word (faceFieldWords (n# m) s i) 0)
+    && (within (pos 0) (pos (2 * n# m - 1)) (word (faceFieldWords (n# m) s i) 1)
+    && afterOk (n# m) s i)
+
+-- field i: whole, tag 5, due length? 36; location and face exist, after the one before? 37
+unfoldable pub faceQuestions : (m : List ℤ) (s : List ℕ) (i : ℕ) → ℕ
+faceQuestions m s i =
+    ask (isField (fieldAt s (facePlace (n# m) i)) 5 (4 * faceFieldSize (n# m))) 36
+    then ask (placeOk m s i) 37
+
+-- ---- the table of a file: a face is present with the box of the field that names it
+
+unfoldable pub fileFace : (m : List ℤ) (s : List ℕ) → ℕ → (l f : ℕ) → Face
+fileFace m s zero l f = absent
+fileFace m s (suc i) l f =
+    cond (eqb (num (faceFieldWords (n# m) s i) 0) l && eqb (num (faceFieldWords (n# m) s i) 1) f)
+    (present (boxAt (n# m) (faceFieldWords (n# m) s i) 2))
+    (fileFace m s i l f)
+
+abbrev pub count# : List ℕ → ℕ
+count# s = num (countWord s ∷ []) 0
+
+unfoldable pub fileTable : (m : List ℤ) (s : List ℕ) → List ℤ
+fileTable m s = tableBy m (fileFace m s (count# s))
+
+-- each field in turn; when all are read: file ended? 38
+unfoldable pub fieldsQuestions : (m : List ℤ) (s : List ℕ) → ℕ
+fieldsQuestions m s =
+    countQuestion m s
+    then first (count# s) (faceQuestions m s)
+    then ask (eqb (length s) (facePlace (n# m) (count# s))) 38
+
+-- then 32 of the outcome
+unfoldable pub tableQuestions : (m : List ℤ) (s : List ℕ) → ℕ
+tableQuestions m s = fieldsQuestions m s then ask (tableOk m (fileTable m s)) 32
+
+-- ---- reading a table file: the model's questions and 20 change nothing, 35 to 38 and 32 zero the whole table buffer
+
+-- the model's questions, then: table buffer or list long enough? 20
+unfoldable pub roomQuestions : (m : List ℤ) (room : ℕ) → ℕ
+roomQuestions m room = modelQuestions m then ask (leb (tableSize m) room) 20
+
+-- once these are yes
+abbrev pub readFaces : (m : List ℤ) (s : List ℕ) (table : List ℤ) → ReadOutcome
+readFaces m s table =
+    unlessRefused (tableQuestions m s) (zeroed table)
+    (record { reply = record { code = 100; value = tableSize m }; words = onto (fileTable m s) table })
+
+unfoldable pub readTableCall : (m : List ℤ) (s : List ℕ) (table : List ℤ) → ReadOutcome
+readTableCall m s table = unlessRefused (roomQuestions m (length table)) table (readFaces m s table)
+
+-- ---- writing a table file: model's questions, 20, 32, 39; a refusal changes nothing
+
+-- the longest table file of the model: 7 + L × 2n × (11 + 8n)
+unfoldable pub longestTableFile : List ℤ → ℕ
+longestTableFile m = 7 + L# m * (2 * n# m) * (11 + 8 * n# m)
+
+unfoldable pub writeQuestions : (m t : List ℤ) (room : ℕ) → ℕ
+writeQuestions m t room =
+    roomQuestions m (length t)
+    then ask (tableOk m t) 32
+    then ask (leb (longestTableFile m) room) 39
+
+pub record WriteOutcome : Type 0 where
+  pub reply : Reply
+  pub file : List ℕ
+
+abbrev pub writeBy : ℕ → (m t : List ℤ) (file : List ℕ) → WriteOutcome
+writeBy zero m t file = record { reply = record { code = 100; value = length (tableFile m t) }; file = onto (tableFile m t) file }
+writeBy (suc k) m t file = record { reply = refused (suc k); file = file }
+
+unfoldable pub writeTableCall : (m t : List ℤ) (file : List ℕ) → WriteOutcome
+writeTableCall m t file = writeBy (writeQuestions m t (length file)) m t file
