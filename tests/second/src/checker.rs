@@ -1,7 +1,7 @@
 //! The checker: accepts exactly if the model's questions, 20 and 32 to 34 are all yes.
 
 use crate::model::Plant;
-use crate::tables::{forbidden_touched, pass, well_formed};
+use crate::tables::{forbidden_touched, forbidden_touched_quick, pass, well_formed};
 use crate::Refusal;
 
 pub fn checker(model: &[i32], list: &[i32]) -> Result<(), Refusal> {
@@ -17,12 +17,25 @@ pub fn ask_table(plant: &Plant, table: &[i32]) -> Result<(), Refusal> {
     if !well_formed(plant, table) {
         return Err(32);
     }
+    ask_fixpoint(plant, table)
+}
+
+/// Questions 33 and 34 of a table that has passed 32.
+pub fn ask_fixpoint(plant: &Plant, table: &[i32]) -> Result<(), Refusal> {
+    ask(plant, table, forbidden_touched)
+}
+
+/// The same, with the quick touching: the speed baseline.
+pub fn ask_fixpoint_quick(plant: &Plant, table: &[i32]) -> Result<(), Refusal> {
+    ask(plant, table, forbidden_touched_quick)
+}
+
+fn ask(plant: &Plant, table: &[i32], touched: fn(&Plant, &[i32]) -> bool) -> Result<(), Refusal> {
     let mut next = vec![0; table.len()];
-    pass(plant, table, &mut next);
-    if next != table {
+    if pass(plant, table, &mut next) {
         return Err(33);
     }
-    if forbidden_touched(plant, table) {
+    if touched(plant, table) {
         return Err(34);
     }
     Ok(())

@@ -1,6 +1,6 @@
-//! Document 01's plant P and source 000's examples, as drafts.
+//! Document 01's plant P, source 000's examples and some plants more, as drafts.
 
-use crate::draft::{grid, Draft, LocationDraft};
+use crate::draft::{grid, Draft, LocationDraft, SwitchDraft};
 
 /// Plant P of document 01.
 pub fn plant_p() -> Draft {
@@ -90,8 +90,8 @@ fn root(value: i32, up: bool) -> i32 {
 /// report's script this holds for the whole cell. Where x1 - x2 + k3 would be negative
 /// the flow through the pipe is taken as 0 (no flow back).
 ///
-/// Start: x1 40..45, x2 5..8. Forbidden: tank 2 at its rim, x2 59..60, in any cell.
-pub fn two_tank() -> Draft {
+/// Start: x1 40..45, x2 5..8. Forbidden: tank 2 at its rim, x2 from `rim` to 60, in any cell.
+pub fn two_tank(rim: i32) -> Draft {
     let (k1, k3) = (500, 20);
     let cuts: Vec<i32> = (0..=6).map(|i| 10 * i).collect();
     let flow = |h: i32, up: bool| root(10_000 * h.max(0), up);
@@ -104,10 +104,109 @@ pub fn two_tank() -> Draft {
         vec![k1 - most_pipe, k1 - least_pipe, least_pipe - most_out, most_pipe - least_out]
     });
     draft.locations[4].start = Some(vec![40, 45, 5, 8]);
-    for location in 30..36 {
-        draft.forbidden.push((location, vec![0, 60, 59, 60]));
+    for (l, location) in draft.locations.iter().enumerate() {
+        if location.invariant[3] >= rim {
+            draft.forbidden.push((l, vec![0, 60, rim, 60]));
+        }
     }
     draft
+}
+
+/// Section 3.4's box once more, divided or not, with t 0..1 on the far wall x = 4 forbidden.
+/// A run meets that wall at t 2..4 only. The whole box is safe; divided, the faces between
+/// the cells lose the tie between x and t, and the answer is unknown.
+pub fn guarded_box(divided: bool) -> Draft {
+    let mut draft = if divided { divided_box((0, 2)) } else { whole_box((0, 2)) };
+    for (l, location) in draft.locations.iter().enumerate() {
+        if location.invariant[1] == 4 {
+            draft.forbidden.push((l, vec![4, 4, 0, 4, 0, 1]));
+        }
+    }
+    draft
+}
+
+/// A water-level monitor (Alur and others, source 000's reference 1). The level rises by 1
+/// while the pump is on and falls by 2 while it is off. At level 10 the monitor calls for
+/// off, at 5 for on, and the pump follows when a clock has run for `lag`. The level is to
+/// stay within 1 and 12. Levels and times are in tenths: in whole units the rounding at the
+/// walls would already touch a level that no run meets.
+///
+/// Variable 0 is the level, variable 1 the clock. Locations: 0 on, 1 off called for, 2 off,
+/// 3 on called for. The clock stands still at 0 in locations 0 and 2.
+pub fn water_level(lag: i32) -> Draft {
+    let location = |low, high, clock, rate, ticks| LocationDraft {
+        invariant: vec![low, high, 0, clock],
+        rates: vec![rate, rate, ticks, ticks],
+        start: None,
+    };
+    let mut locations = vec![
+        location(0, 100, 0, 1, 0),
+        location(100, 150, lag, 1, 1),
+        location(50, 150, 0, -2, 0),
+        location(0, 50, lag, -2, 1),
+    ];
+    locations[0].start = Some(vec![10, 10, 0, 0]);
+    let at_level = |source, side, level, clock| SwitchDraft {
+        source,
+        target: source + 1,
+        d: 0,
+        source_side: side,
+        target_side: 1 - side,
+        mask: 0,
+        guard: vec![level, level, 0, clock],
+        reset: vec![level, level, 0, clock],
+    };
+    let when_run_out = |source, target, low, high| SwitchDraft {
+        source,
+        target,
+        d: 1,
+        source_side: 1,
+        target_side: 0,
+        mask: 0b10,
+        guard: vec![low, high, lag, lag],
+        reset: vec![low, high, 0, 0],
+    };
+    Draft {
+        n: 2,
+        locations,
+        switches: vec![
+            at_level(0, 1, 100, 0),
+            when_run_out(1, 2, 100, 150),
+            at_level(2, 0, 50, 0),
+            when_run_out(3, 0, 0, 50),
+        ],
+        forbidden: vec![
+            (0, vec![0, 9, 0, 0]),
+            (1, vec![121, 150, 0, lag]),
+            (2, vec![121, 150, 0, 0]),
+            (3, vec![0, 9, 0, lag]),
+        ],
+    }
+}
+
+/// A vat that is filled by one dose a stroke, up to 5,000: the stroke x runs from 0 to 1 and
+/// is set back, the level y rises by 1 meanwhile. Every stroke takes two passes, so the table
+/// grows for some 10,000 of them. From level `forbidden` on it is forbidden.
+pub fn dosing(forbidden: i32) -> Draft {
+    Draft {
+        n: 2,
+        locations: vec![LocationDraft {
+            invariant: vec![0, 1, 0, 5_000],
+            rates: vec![1, 1, 1, 1],
+            start: Some(vec![0, 0, 0, 0]),
+        }],
+        switches: vec![SwitchDraft {
+            source: 0,
+            target: 0,
+            d: 0,
+            source_side: 1,
+            target_side: 0,
+            mask: 0b01,
+            guard: vec![1, 1, 0, 5_000],
+            reset: vec![0, 0, 0, 5_000],
+        }],
+        forbidden: vec![(0, vec![0, 1, forbidden, 5_000])],
+    }
 }
 
 /// A plant of 64 locations for timing: a grid over n variables (n = 2: 8 by 8; n = 3: 4 by

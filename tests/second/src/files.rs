@@ -1,7 +1,7 @@
 //! Files: fields of a one-byte tag, a two-byte length, a payload; words of four bytes,
 //! highest byte first.
 
-use crate::model::{ask_records, Plant, Sizes};
+use crate::model::{ask_records, Model, Plant, Sizes};
 use crate::tables::well_formed;
 use crate::Refusal;
 
@@ -82,22 +82,35 @@ fn words_of(payload: &[u8]) -> impl Iterator<Item = i32> + '_ {
     payload.chunks_exact(4).map(|b| i32::from_be_bytes([b[0], b[1], b[2], b[3]]))
 }
 
-/// Reads a model file into the word buffer and gives how many words it has.
-/// Refused by 6 to 8 or 11 to 19: the whole buffer is zero. Refused by 1 to 5: unchanged.
-pub fn read_model(file: &[u8], buffer: &mut [i32]) -> Result<usize, Refusal> {
+/// Questions 1 to 4 of a model file: its counts, and the cursor after its head.
+fn read_head(file: &[u8]) -> Result<(Sizes, Cursor<'_>), Refusal> {
     let mut cursor = Cursor { bytes: file };
     let Next::Payload(payload) = cursor.next(HEAD, 4) else {
         return Err(1);
     };
-    let mut model: Vec<i32> = words_of(payload).collect();
-    let sizes = Sizes::ask(model[0], model[1], model[2], model[3])?;
+    let mut words = words_of(payload);
+    let mut next = || words.next().expect("the head has four words");
+    let sizes = Sizes::ask(next(), next(), next(), next())?;
+    Ok((sizes, cursor))
+}
+
+/// A model file's words, held as long as they need to be: questions 1 to 4, 6 to 8, 11 to 19.
+pub fn model_of_file(file: &[u8]) -> Result<Model, Refusal> {
+    let (sizes, cursor) = read_head(file)?;
+    read_records(cursor, sizes)
+}
+
+/// Reads a model file into the word buffer and gives how many words it has.
+/// Refused by 6 to 8 or 11 to 19: the whole buffer is zero. Refused by 1 to 5: unchanged.
+pub fn read_model(file: &[u8], buffer: &mut [i32]) -> Result<usize, Refusal> {
+    let (sizes, cursor) = read_head(file)?;
     if buffer.len() < sizes.model_words() {
         return Err(5);
     }
-    match read_records(&mut cursor, &sizes, &mut model) {
-        Ok(()) => {
-            buffer[..model.len()].copy_from_slice(&model);
-            Ok(model.len())
+    match read_records(cursor, sizes) {
+        Ok(model) => {
+            buffer[..model.words.len()].copy_from_slice(&model.words);
+            Ok(model.words.len())
         }
         Err(refusal) => {
             buffer.fill(0);
@@ -106,46 +119,45 @@ pub fn read_model(file: &[u8], buffer: &mut [i32]) -> Result<usize, Refusal> {
     }
 }
 
-/// Questions 6 to 8 and 11 to 19; adds the records' words to the head's.
-fn read_records(cursor: &mut Cursor, sizes: &Sizes, model: &mut Vec<i32>) -> Result<(), Refusal> {
+/// Questions 6 to 8 and 11 to 19: the words of the head and of the records behind it.
+fn read_records(mut cursor: Cursor, sizes: Sizes) -> Result<Model, Refusal> {
+    let mut words = Vec::with_capacity(sizes.model_words());
+    words.extend([sizes.n, sizes.locations, sizes.switches, sizes.forbidden].map(|count| count as i32));
     let due = [
         (LOCATION, sizes.locations, sizes.location_words()),
         (SWITCH, sizes.switches, sizes.switch_words()),
         (FORBIDDEN, sizes.forbidden, sizes.forbidden_words()),
     ];
-    for (tag, count, words) in due {
+    for (tag, count, length) in due {
         for _ in 0..count {
-            match cursor.next(tag, words) {
+            match cursor.next(tag, length) {
                 Next::NotDue => return Err(6),
                 Next::Short => return Err(7),
-                Next::Payload(payload) => model.extend(words_of(payload)),
+                Next::Payload(payload) => words.extend(words_of(payload)),
             }
         }
     }
     if !cursor.ended() {
         return Err(8);
     }
-    ask_records(sizes, model)
+    ask_records(&sizes, &words)?;
+    Ok(Model { sizes, words })
 }
 
 /// The table file of a well-formed table.
 pub fn table_file(plant: &Plant, table: &[i32]) -> Vec<u8> {
     let sizes = plant.sizes;
-    let mut count = 0;
-    let mut faces = Vec::new();
-    for l in 0..sizes.locations {
-        for face in 0..sizes.faces() {
-            let words = &table[sizes.face_at(l, face)..][..sizes.face_words()];
-            if words[0] == 1 {
-                count += 1;
-                let mut record = vec![l as i32, face as i32];
-                record.extend(&words[1..]);
-                faces.extend(field(FACE, &record));
-            }
-        }
+    let faces = table.chunks_exact(sizes.face_words());
+    let count = faces.clone().filter(|words| words[0] == 1).count();
+    let mut bytes = Vec::with_capacity(7 + count * (11 + 8 * sizes.n));
+    bytes.extend([TABLE_HEAD, 0, 4]);
+    bytes.extend((count as i32).to_be_bytes());
+    for (number, words) in faces.enumerate().filter(|(_, words)| words[0] == 1) {
+        bytes.extend([FACE, 0, (8 + 8 * sizes.n) as u8]);
+        bytes.extend(((number / sizes.faces()) as i32).to_be_bytes());
+        bytes.extend(((number % sizes.faces()) as i32).to_be_bytes());
+        words[1..].iter().for_each(|word| bytes.extend(word.to_be_bytes()));
     }
-    let mut bytes = field(TABLE_HEAD, &[count]);
-    bytes.extend(faces);
     bytes
 }
 
@@ -206,8 +218,9 @@ pub fn parse_table(plant: &Plant, file: &[u8]) -> Result<Vec<i32>, Refusal> {
         let Next::Payload(payload) = cursor.next(FACE, 2 + 2 * sizes.n) else {
             return Err(36);
         };
-        let record: Vec<i32> = words_of(payload).collect();
-        let (l, face) = (record[0], record[1]);
+        let mut record = words_of(payload);
+        let mut next = || record.next().expect("a face's field has the words of its record");
+        let (l, face) = (next(), next());
         let exists = (0..sizes.locations as i32).contains(&l) && (0..sizes.faces() as i32).contains(&face);
         if !exists || before.is_some_and(|earlier| (l, face) <= earlier) {
             return Err(37);
@@ -215,7 +228,7 @@ pub fn parse_table(plant: &Plant, file: &[u8]) -> Result<Vec<i32>, Refusal> {
         before = Some((l, face));
         let words = &mut table[sizes.face_at(l as usize, face as usize)..][..sizes.face_words()];
         words[0] = 1;
-        words[1..].copy_from_slice(&record[2..]);
+        words[1..].iter_mut().for_each(|bound| *bound = next());
     }
     if !cursor.ended() {
         return Err(38);

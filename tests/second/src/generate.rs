@@ -324,12 +324,42 @@ pub fn close(plant: &Plant, table: &mut [i32], most: u32) -> bool {
     false
 }
 
-/// One change to the words of a table.
-pub fn damage_table(random: &mut Random, plant: &Plant, table: &mut [i32]) {
+/// The kinds of change that `damage_table` makes.
+pub const TABLE_DAMAGE: [&str; 13] = [
+    "a face wider below",
+    "a face wider above",
+    "a face narrower below",
+    "a face narrower above",
+    "a face off its wall at one end",
+    "a face off its wall at both ends",
+    "a face taken away",
+    "another face",
+    "a face as wide as its wall",
+    "low and high exchanged",
+    "any word in a face",
+    "a flag that is neither 0 nor 1",
+    "an absent face that is not zero",
+];
+
+/// Those of them that a table file can say: it has no flags and no absent faces.
+pub const FACES_DAMAGE: &[&str] = TABLE_DAMAGE.split_at(11).0;
+
+/// One change to the words of a table; gives its kind.
+pub fn damage_table(random: &mut Random, plant: &Plant, table: &mut [i32]) -> &'static str {
+    let kind = random.below(TABLE_DAMAGE.len());
+    change_table(random, plant, table, kind)
+}
+
+/// One change to the faces of a table that a table file can say; gives its kind.
+pub fn damage_faces(random: &mut Random, plant: &Plant, table: &mut [i32]) -> &'static str {
+    let kind = random.below(FACES_DAMAGE.len());
+    change_table(random, plant, table, kind)
+}
+
+fn change_table(random: &mut Random, plant: &Plant, table: &mut [i32], kind: usize) -> &'static str {
     let sizes = plant.sizes;
     let l = random.below(sizes.locations);
     let mut face = random.below(sizes.faces());
-    let i = random.below(sizes.n);
     // A present face where one is found quickly.
     for _ in 0..4 {
         if table[sizes.face_at(l, face)] == 1 {
@@ -337,38 +367,32 @@ pub fn damage_table(random: &mut Random, plant: &Plant, table: &mut [i32]) {
         }
         face = random.below(sizes.faces());
     }
+    let i = random.below(sizes.n);
+    let (low, high, wall) = (1 + 2 * i, 2 + 2 * i, 1 + 2 * (face / 2));
     let invariant = plant.location(l).invariant;
     let at = sizes.face_at(l, face);
     let words = &mut table[at..at + sizes.face_words()];
-    let present = words[0] == 1;
     let by = random.pick(&[1, 1, 1, 2, 5]);
-    match random.below(13) {
-        0 => words[1 + 2 * i] = words[1 + 2 * i].wrapping_sub(by), // wider below
-        1 => words[2 + 2 * i] = words[2 + 2 * i].wrapping_add(by), // wider above
-        2 if present => words[1 + 2 * i] = words[1 + 2 * i].wrapping_add(by), // narrower below
-        3 if present => words[2 + 2 * i] = words[2 + 2 * i].wrapping_sub(by), // narrower above
-        4 => words[1 + face] = words[1 + face].wrapping_add(by),   // off its wall at one end
-        5 => {
-            // off its wall at both ends
-            for end in 1..3 {
-                let place = end + 2 * (face / 2);
-                words[place] = words[place].wrapping_add(by);
-            }
-        }
-        6 => words[0] = random.pick(&[2, -1, 1, i32::MAX, i32::MIN]),
-        7 => words[0] = 0, // absent, but not zero
-        8 => words.fill(0),
-        9 => put_random_face(random, plant, table, l, face),
-        10 => {
-            // the whole wall
+    match kind {
+        0 => words[low] = words[low].wrapping_sub(by),
+        1 => words[high] = words[high].wrapping_add(by),
+        2 => words[low] = words[low].wrapping_add(by),
+        3 => words[high] = words[high].wrapping_sub(by),
+        4 => words[1 + face] = words[1 + face].wrapping_add(by),
+        5 => words[wall..wall + 2].iter_mut().for_each(|end| *end = end.wrapping_add(by)),
+        6 => words.fill(0),
+        7 => put_random_face(random, plant, table, l, face),
+        8 => {
             words[0] = 1;
             words[1..].copy_from_slice(invariant);
-            words[1 + 2 * (face / 2)] = invariant[face];
-            words[2 + 2 * (face / 2)] = invariant[face];
+            words[wall..wall + 2].fill(invariant[face]);
         }
-        11 => words[1 + 2 * i..3 + 2 * i].reverse(),
-        _ => words[1 + random.below(2 * sizes.n)] = random_word(random),
+        9 => words[low..=high].reverse(),
+        10 => words[1 + random.below(2 * sizes.n)] = random_word(random),
+        11 => words[0] = random.pick(&[2, -1, i32::MAX, i32::MIN]),
+        _ => words[0] = 0,
     }
+    TABLE_DAMAGE[kind]
 }
 
 // ---------------------------------------------------------------- damage to models
@@ -535,24 +559,46 @@ pub fn field_places(bytes: &[u8]) -> Vec<usize> {
     places
 }
 
-/// One change to the bytes of a file.
-pub fn damage_bytes(random: &mut Random, bytes: &mut Vec<u8>) {
+/// The kinds of change that `damage_bytes` makes.
+pub const BYTE_DAMAGE: [&str; 16] = [
+    "bits flipped",
+    "a byte appended",
+    "a byte replaced",
+    "cut anywhere",
+    "cut at a field's head",
+    "cut at a field's end",
+    "zeros appended",
+    "a field appended",
+    "a byte taken out",
+    "a byte put in",
+    "another tag",
+    "another length",
+    "a field taken out",
+    "a field doubled",
+    "two fields exchanged",
+    "a word more or fewer",
+];
+
+/// One change to the bytes of a file; gives its kind.
+pub fn damage_bytes(random: &mut Random, bytes: &mut Vec<u8>) -> &'static str {
     let places = field_places(bytes);
     let fields = places.len() - 1;
     if bytes.is_empty() || fields == 0 {
         bytes.push(random.next() as u8);
-        return;
+        return BYTE_DAMAGE[1];
     }
     let chosen = random.below(fields);
     let (from, to) = (places[chosen], places[chosen + 1]);
     let any = random.below(bytes.len());
-    match random.below(16) {
-        0 | 1 => {
+    let kind = random.below(BYTE_DAMAGE.len());
+    match kind {
+        0 => {
             for _ in 0..1 + random.below(3) {
                 let place = random.below(bytes.len());
                 bytes[place] ^= 1 << random.below(8);
             }
         }
+        1 => bytes.push(random.next() as u8),
         2 => bytes[any] = random.next() as u8,
         3 => bytes.truncate(any),
         4 => bytes.truncate(from + random.below(4)),
@@ -580,7 +626,6 @@ pub fn damage_bytes(random: &mut Random, bytes: &mut Vec<u8>) {
             bytes.splice(to..to, again);
         }
         14 => {
-            // Two fields change places.
             let other = random.below(fields);
             let (a, b) = (chosen.min(other), chosen.max(other));
             if a != b {
@@ -593,7 +638,7 @@ pub fn damage_bytes(random: &mut Random, bytes: &mut Vec<u8>) {
             }
         }
         _ => {
-            // A length that is right for its words, but with one word more or fewer.
+            // A length that is right for its words.
             if random.chance(1, 2) {
                 bytes.splice(to..to, [0; 4]);
                 let length = (to - from - 3 + 4) as u16;
@@ -605,16 +650,40 @@ pub fn damage_bytes(random: &mut Random, bytes: &mut Vec<u8>) {
             }
         }
     }
+    BYTE_DAMAGE[kind]
 }
 
-/// A table file made field by field, with a change to its count, places, order or bytes.
-pub fn damaged_table_file(random: &mut Random, plant: &Plant, table: &[i32]) -> Vec<u8> {
-    let sizes = plant.sizes;
-    let mut table = table.to_vec();
+/// The kinds of change to the fields of a table file that `damaged_table_file` makes.
+pub const FIELD_DAMAGE: [&str; 6] = [
+    "another count of faces",
+    "a location that does not exist",
+    "a face that does not exist",
+    "a face twice",
+    "faces in another order",
+    "a face left out, and counted so",
+];
+
+/// A table file with one change, in its words, its fields or its bytes; gives the kind too.
+pub fn damaged_table_file(random: &mut Random, plant: &Plant, table: &[i32]) -> (Vec<u8>, &'static str) {
     let kind = random.below(10);
     if kind < 4 {
-        damage_table(random, plant, &mut table);
+        let mut table = table.to_vec();
+        let label = damage_faces(random, plant, &mut table);
+        return (joined_fields(&face_records(plant, &table), None), label);
     }
+    let mut records = face_records(plant, table);
+    if kind < 7 {
+        let (count, label) = damage_fields(random, plant, &mut records);
+        return (joined_fields(&records, count), label);
+    }
+    let mut bytes = joined_fields(&records, None);
+    let label = damage_bytes(random, &mut bytes);
+    (bytes, label)
+}
+
+/// The records of the faces whose flag is not 0.
+fn face_records(plant: &Plant, table: &[i32]) -> Vec<Vec<i32>> {
+    let sizes = plant.sizes;
     let mut records = Vec::new();
     for l in 0..sizes.locations {
         for face in 0..sizes.faces() {
@@ -626,40 +695,43 @@ pub fn damaged_table_file(random: &mut Random, plant: &Plant, table: &[i32]) -> 
             }
         }
     }
-    let mut count = records.len() as i32;
-    let most = (sizes.faces() * sizes.locations) as i32;
-    match kind {
-        4 => count = random.pick(&[count + 1, count - 1, -1, most, most + 1, 0, i32::MIN, i32::MAX]),
-        5 if !records.is_empty() => {
-            let chosen = random.below(records.len());
-            match random.below(4) {
-                0 => records[chosen][0] = random.pick(&[-1, sizes.locations as i32, 0, i32::MAX]),
-                1 => records[chosen][1] = random.pick(&[-1, sizes.faces() as i32, 0, i32::MIN]),
-                2 => {
-                    let again = records[chosen].clone();
-                    records.insert(chosen, again);
-                    count += 1;
-                }
-                _ => {
-                    let other = random.below(records.len());
-                    records.swap(chosen, other);
-                }
-            }
-        }
-        6 if !records.is_empty() => {
-            // One face fewer, the count with it: well formed, but a pass may change it.
-            let chosen = random.below(records.len());
-            records.remove(chosen);
-            count -= 1;
-        }
-        _ => {}
-    }
-    let mut bytes = field(TABLE_HEAD, &[count]);
-    for record in &records {
+    records
+}
+
+/// The table file of these records, with another count at its head if there is one.
+fn joined_fields(records: &[Vec<i32>], count: Option<i32>) -> Vec<u8> {
+    let mut bytes = field(TABLE_HEAD, &[count.unwrap_or(records.len() as i32)]);
+    for record in records {
         bytes.extend(field(FACE, record));
     }
-    if kind >= 7 {
-        damage_bytes(random, &mut bytes);
-    }
     bytes
+}
+
+/// One change to the records of a table file, or another count; gives that count and the kind.
+fn damage_fields(random: &mut Random, plant: &Plant, records: &mut Vec<Vec<i32>>) -> (Option<i32>, &'static str) {
+    let sizes = plant.sizes;
+    let kind = if records.is_empty() { 0 } else { random.below(FIELD_DAMAGE.len()) };
+    let chosen = random.below(records.len().max(1));
+    let mut count = None;
+    match kind {
+        0 => {
+            let right = records.len() as i32;
+            let most = (sizes.faces() * sizes.locations) as i32;
+            count = Some(random.pick(&[right + 1, right - 1, -1, most, most + 1, 0, i32::MIN, i32::MAX]));
+        }
+        1 => records[chosen][0] = random.pick(&[-1, sizes.locations as i32, i32::MAX]),
+        2 => records[chosen][1] = random.pick(&[-1, sizes.faces() as i32, i32::MIN]),
+        3 => {
+            let again = records[chosen].clone();
+            records.insert(chosen, again);
+        }
+        4 => {
+            let other = random.below(records.len());
+            records.swap(chosen, other);
+        }
+        _ => {
+            records.remove(chosen);
+        }
+    }
+    (count, FIELD_DAMAGE[kind])
 }

@@ -1,56 +1,69 @@
 //! The host's two calls, on bytes.
 
-use crate::analysis::run;
-use crate::checker::ask_table;
-use crate::files::{parse_table, read_model, table_file};
+use crate::analysis::{run, run_quick, Answer};
+use crate::checker::{ask_fixpoint, ask_fixpoint_quick};
+use crate::files::{model_of_file, parse_table, table_file};
 use crate::model::{Plant, MAX_FORBIDDEN, MAX_LOCATIONS, MAX_SWITCHES};
 use crate::Refusal;
 
 /// Words of the largest model: the host's own buffer is always long enough.
 pub const MOST_MODEL_WORDS: usize = 4 + MAX_LOCATIONS * 37 + MAX_SWITCHES * 30 + MAX_FORBIDDEN * 13;
 
-/// The model's words out of a file; questions 1 to 4, 6 to 8, 11 to 19.
-pub fn model_words(file: &[u8]) -> Result<Vec<i32>, Refusal> {
-    let mut words = vec![0; MOST_MODEL_WORDS];
-    let length = read_model(file, &mut words)?;
-    words.truncate(length);
-    Ok(words)
-}
+type Run = fn(&Plant, u32, &mut [i32], &mut [i32]) -> (Answer, u32);
+type Ask = fn(&Plant, &[i32]) -> Result<(), Refusal>;
 
 /// Decide: code × 2^32 + k. Writes the table file into the buffer, the rest of which is
 /// unchanged; a refusal changes nothing and has k 0.
 pub fn decide(model: &[u8], buffer: &mut [u8], limit: u32) -> u64 {
-    match try_decide(model, buffer, limit) {
-        Ok((code, k)) => (code as u64) << 32 | k as u64,
+    decided(model, buffer, limit, run)
+}
+
+/// The same, with the quick touching: the speed baseline.
+pub fn decide_quick(model: &[u8], buffer: &mut [u8], limit: u32) -> u64 {
+    decided(model, buffer, limit, run_quick)
+}
+
+fn decided(model: &[u8], buffer: &mut [u8], limit: u32, run: Run) -> u64 {
+    match try_decide(model, buffer, limit, run) {
+        Ok((answer, k)) => (answer.code() as u64) << 32 | k as u64,
         Err(refusal) => (refusal as u64) << 32,
     }
 }
 
-fn try_decide(model: &[u8], buffer: &mut [u8], limit: u32) -> Result<(u32, u32), Refusal> {
-    let words = model_words(model)?;
-    let plant = Plant::from_words(&words)?;
+fn try_decide(model: &[u8], buffer: &mut [u8], limit: u32, run: Run) -> Result<(Answer, u32), Refusal> {
+    let model = model_of_file(model)?;
+    let plant = model.plant();
     if buffer.len() < plant.sizes.table_file_room() {
         return Err(39);
     }
     let mut table = vec![0; plant.sizes.table_words()];
     let mut work = table.clone();
-    let (answer, k) = run(&plant, limit, &mut table, &mut work);
+    let answer = run(&plant, limit, &mut table, &mut work);
     let file = table_file(&plant, &table);
     buffer[..file.len()].copy_from_slice(&file);
-    Ok((answer.code(), k))
+    Ok(answer)
 }
 
 /// Check: 100, or the refusal.
 pub fn check(model: &[u8], table: &[u8]) -> u64 {
-    match try_check(model, table) {
+    checked(model, table, ask_fixpoint)
+}
+
+/// The same, with the quick touching: the speed baseline.
+pub fn check_quick(model: &[u8], table: &[u8]) -> u64 {
+    checked(model, table, ask_fixpoint_quick)
+}
+
+fn checked(model: &[u8], table: &[u8], ask: Ask) -> u64 {
+    match try_check(model, table, ask) {
         Ok(()) => 100,
         Err(refusal) => refusal as u64,
     }
 }
 
-fn try_check(model: &[u8], table: &[u8]) -> Result<(), Refusal> {
-    let words = model_words(model)?;
-    let plant = Plant::from_words(&words)?;
+fn try_check(model: &[u8], table: &[u8], ask: Ask) -> Result<(), Refusal> {
+    let model = model_of_file(model)?;
+    let plant = model.plant();
     let table = parse_table(&plant, table)?;
-    ask_table(&plant, &table)
+    ask(&plant, &table)
 }

@@ -14,8 +14,9 @@
 //! * `plain`     – a slow, literal pass and touching, to check the quick ones
 //! * `simulate`  – random runs, from the section "Runs" alone
 //! * `generate`  – random models and damaged inputs; `random` is its number source
-//! * `examples`  – document 01's plant P, source 000's examples
-//! * `compare`   – compares two implementations of the host calls
+//! * `examples`  – document 01's plant P, source 000's examples and more; `samples` names those in `models`
+//! * `compare`   – compares two implementations of the host calls; `fixed` has its fixed cases,
+//!   `coverage` counts what came up
 //! * `host_ffi`  – the C calls of libhost.a (feature `host`), or a stand-in
 
 pub mod analysis;
@@ -23,11 +24,13 @@ pub mod calls;
 pub mod ceiling;
 pub mod checker;
 pub mod compare;
+pub mod coverage;
 pub mod delays;
 pub mod desk;
 pub mod draft;
 pub mod examples;
 pub mod files;
+pub mod fixed;
 pub mod fraction;
 pub mod generate;
 pub mod host;
@@ -36,6 +39,7 @@ pub mod listing;
 pub mod model;
 pub mod plain;
 pub mod random;
+pub mod samples;
 pub mod simulate;
 pub mod steps;
 pub mod tables;

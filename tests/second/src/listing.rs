@@ -1,19 +1,18 @@
 //! The listing program's text.
 
 use crate::analysis::run;
-use crate::host::model_words;
-use crate::model::Plant;
+use crate::files::model_of_file;
 
 /// The program's pass limit.
 pub const LIMIT: u32 = 1_000;
 
 /// What the listing program prints for the bytes on its standard input.
 pub fn listing(file: &[u8]) -> String {
-    let words = match model_words(file) {
-        Ok(words) => words,
+    let model = match model_of_file(file) {
+        Ok(model) => model,
         Err(refusal) => return format!("refused {refusal}\n"),
     };
-    let plant = Plant::from_words(&words).expect("a model that was read has passed its questions");
+    let plant = model.plant();
     let sizes = plant.sizes;
     let mut table = vec![0; sizes.table_words()];
     let mut work = table.clone();

@@ -120,6 +120,18 @@ pub struct Forbidden<'a> {
     pub bounds: &'a [i32],
 }
 
+/// A model out of a file, once it has passed its questions.
+pub struct Model {
+    pub sizes: Sizes,
+    pub words: Vec<i32>,
+}
+
+impl Model {
+    pub fn plant(&self) -> Plant<'_> {
+        Plant { sizes: self.sizes, words: &self.words }
+    }
+}
+
 impl<'a> Plant<'a> {
     /// All questions of a model given as words: 5 under four words, then 2 to 5, 11 to 19.
     pub fn from_words(list: &'a [i32]) -> Result<Plant<'a>, Refusal> {

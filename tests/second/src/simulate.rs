@@ -165,6 +165,53 @@ pub fn random_run(plant: &Plant, random: &mut Random, denominator: i64, length: 
     Some(Run { denominator, first, moves })
 }
 
+/// What random runs went through.
+#[derive(Clone, Copy, Debug, Default)]
+pub struct Travelled {
+    pub runs: u64,
+    pub delays: u64,
+    pub switches: u64,
+    pub configurations: u64,
+    /// Configurations that lie in a forbidden box.
+    pub forbidden: u64,
+    /// Configurations that no part of the table reaches.
+    pub unreached: u64,
+}
+
+impl Travelled {
+    pub fn add(&mut self, other: &Travelled) {
+        self.runs += other.runs;
+        self.delays += other.delays;
+        self.switches += other.switches;
+        self.configurations += other.configurations;
+        self.forbidden += other.forbidden;
+        self.unreached += other.unreached;
+    }
+}
+
+/// Makes random runs, over several denominators, and holds each configuration to the
+/// forbidden boxes and to the table.
+pub fn travel(plant: &Plant, table: &[i32], random: &mut Random, runs: u64) -> Travelled {
+    let mut travelled = Travelled::default();
+    for _ in 0..runs {
+        let denominator = random.pick(&[1, 2, 3, 4, 6, 12, 60, 7, 420]);
+        let Some(run) = random_run(plant, random, denominator, 15) else {
+            continue;
+        };
+        assert!(is_run(plant, &run), "the maker of random runs made none: {run:?}");
+        travelled.runs += 1;
+        let switches = run.moves.iter().filter(|(step, _)| matches!(step, Move::Switch(_))).count();
+        travelled.switches += switches as u64;
+        travelled.delays += (run.moves.len() - switches) as u64;
+        for at in std::iter::once(&run.first).chain(run.moves.iter().map(|(_, left)| left)) {
+            travelled.configurations += 1;
+            travelled.forbidden += is_forbidden(plant, denominator, at) as u64;
+            travelled.unreached += !is_reached(plant, table, denominator, at) as u64;
+        }
+    }
+    travelled
+}
+
 /// One of the switches that are allowed here.
 fn propose_switch(
     plant: &Plant,

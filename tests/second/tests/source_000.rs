@@ -101,7 +101,7 @@ fn section_3_4_as_plants() {
 
 #[test]
 fn two_tanks() {
-    let words = two_tank().words();
+    let words = two_tank(59).words();
     let plant = Plant::from_words(&words).unwrap();
     let (answer, k, table) = run(&words);
     assert_eq!((answer, k), (Answer::Safe, 15));

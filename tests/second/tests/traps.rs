@@ -5,7 +5,7 @@
 use std::cell::Cell;
 
 use second::compare::{Comparison, Tested};
-use second::files::{parse_table, table_file};
+use second::files::{model_of_file, parse_table, table_file};
 use second::host;
 use second::model::Plant;
 
@@ -241,11 +241,11 @@ fn to_words(plant: &Plant, faces: &Faces) -> Vec<i32> {
 }
 
 fn decide(model: &[u8], buffer: &mut [u8], limit: u32) -> u64 {
-    let words = match host::model_words(model) {
-        Ok(words) => words,
+    let model = match model_of_file(model) {
+        Ok(model) => model,
         Err(number) => return (number as u64) << 32,
     };
-    let plant = Plant::from_words(&words).unwrap();
+    let plant = model.plant();
     if buffer.len() < plant.sizes.table_file_room() {
         return 39 << 32;
     }
@@ -275,11 +275,11 @@ fn decide(model: &[u8], buffer: &mut [u8], limit: u32) -> u64 {
 }
 
 fn check(model: &[u8], table: &[u8]) -> u64 {
-    let words = match host::model_words(model) {
-        Ok(words) => words,
+    let model = match model_of_file(model) {
+        Ok(model) => model,
         Err(number) => return number as u64,
     };
-    let plant = Plant::from_words(&words).unwrap();
+    let plant = model.plant();
     let table = match parse_table(&plant, table) {
         Ok(table) => table,
         Err(number) => return number as u64,

@@ -4,23 +4,56 @@
 //!         cargo run --release --offline --features host --bin compare [models] [damaged] [seed]
 //!
 //! Exit status: 0 no difference; 1 a difference, printed with its input in hex; 2 some
-//! number that a call can give never came up under the full counts; 3 built without the
-//! library (then only `--dry` runs: the second implementation against itself).
-//! `--trace` prints every input to standard error before the tested call, for a program
-//! that stops within one.
+//! number that a call can give, or some kind of input, never came up under the full counts;
+//! 3 built without the library (then only `--dry` runs: the second implementation against
+//! itself). `--trace` prints every input to standard error before the tested call, for a
+//! program that stops within one. `--tight` lends buffers that end where their heap block
+//! ends, for a run under a memory checker; `--random-only` leaves the fixed cases out.
 
 use second::compare::{Comparison, Tested};
+use second::coverage::{Counts, Tally};
 use second::host_ffi;
 
 const MODELS: u64 = 20_000;
 const DAMAGED: u64 = 100_000;
 const SEED: u64 = 0x01_9912;
 
+fn listed(tally: &Tally) -> String {
+    tally.iter().map(|(kind, count)| format!("{kind} {count}")).collect::<Vec<_>>().join("; ")
+}
+
+fn print_counts(counts: &Counts) {
+    println!("fixed cases compared: {}", counts.fixed);
+    println!("random models compared: {} (by n: {:?})", counts.models, &counts.by_n[1..]);
+    println!("  with {}", listed(&counts.model_kinds));
+    println!("  under limits {}", listed(&counts.limits));
+    println!("  most passes of an answer: {}", counts.most_passes);
+    println!("damaged inputs compared: {}", counts.damaged);
+    println!("  {}", listed(&counts.damage));
+    println!("decide gave {:?}", counts.decide);
+    println!("check gave {:?}", counts.check);
+    println!(
+        "tables accepted of {} safe answers, {} tables refused for models answered unknown",
+        counts.accepted, counts.refused
+    );
+    let (safe, unknown) = (&counts.safe_runs, &counts.unknown_runs);
+    println!(
+        "runs of safe models: {}, with {} delays and {} switches; of {} configurations {} forbidden, {} unreached",
+        safe.runs, safe.delays, safe.switches, safe.configurations, safe.forbidden, safe.unreached
+    );
+    println!(
+        "runs of unknown models: {}; of {} configurations {} forbidden",
+        unknown.runs, unknown.configurations, unknown.forbidden
+    );
+}
+
 fn main() {
     let mut arguments: Vec<String> = std::env::args().skip(1).collect();
     let dry = arguments.iter().any(|a| a == "--dry");
     let trace = arguments.iter().any(|a| a == "--trace");
-    arguments.retain(|a| a != "--dry" && a != "--trace");
+    let tight = arguments.iter().any(|a| a == "--tight");
+    let random_only = arguments.iter().any(|a| a == "--random-only");
+    arguments.retain(|a| !["--dry", "--trace", "--tight", "--random-only"].contains(&a.as_str()));
     let number = |place: usize, usual: u64| match arguments.get(place) {
         Some(text) => text.parse().unwrap_or_else(|_| panic!("not a number: {text}")),
         None => usual,
@@ -38,21 +71,17 @@ fn main() {
     let tested = Tested { decide: host_ffi::decide, check: host_ffi::check };
     let mut comparison = Comparison::new(tested, seed);
     comparison.trace = trace;
-    let outcome = comparison.all(models, damaged);
+    comparison.tight = tight;
+    let outcome = if random_only { comparison.random_cases(models, damaged) } else { comparison.all(models, damaged) };
     let counts = &comparison.counts;
-    println!("fixed cases compared: {}", counts.fixed);
-    println!("random models compared: {} (by n: {:?})", counts.models, &counts.by_n[1..]);
-    println!("damaged inputs compared: {}", counts.damaged);
-    println!("most passes of an answer: {}", counts.most_passes);
-    println!("decide gave {:?}", counts.decide);
-    println!("check gave {:?}", counts.check);
+    print_counts(counts);
     if let Err(difference) = outcome {
         println!("DIFFERENCE\n{difference:?}");
         std::process::exit(1);
     }
     let not_seen = counts.not_seen();
     if not_seen.is_empty() {
-        println!("every number of both calls came up");
+        println!("every number of both calls and every kind of input came up");
     } else {
         println!("never came up: {}", not_seen.join(", "));
         if models >= MODELS && damaged >= DAMAGED {

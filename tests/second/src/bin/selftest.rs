@@ -24,11 +24,11 @@ use second::checker::ask_table;
 use second::desk::Desk;
 use second::files::{model_file, table_file};
 use second::generate::*;
-use second::host::MOST_MODEL_WORDS;
+use second::host::{self, MOST_MODEL_WORDS};
 use second::model::Plant;
 use second::plain;
 use second::random::Random;
-use second::simulate::{is_forbidden, is_reached, is_run, random_run, Move};
+use second::simulate::{travel, Travelled};
 
 const MODELS: u64 = 10_000;
 const SEED: u64 = 0x01_9912;
@@ -45,11 +45,7 @@ struct Counts {
     /// Answers by k: 0, 1, 2, 3 to 5, 6 to 10, 11 to 100, more.
     by_passes: [u64; 7],
     literal_passes: u64,
-    runs: u64,
-    configurations: u64,
-    delays: u64,
-    switches: u64,
-    forbidden_met_on_unknown: u64,
+    travelled: Travelled,
     tables_refused: u64,
     desk_calls: u64,
     seen: Seen,
@@ -174,12 +170,16 @@ fn one_model(random: &mut Random, counts: &mut Counts) {
     assert_eq!(accepted.is_ok(), answer == Answer::Safe);
     let written = table_file(&plant, table);
     assert_eq!(calls::check(&file, &written), accepted.err().map_or(100, u64::from));
+    assert_eq!(host::check_quick(&file, &written), accepted.err().map_or(100, u64::from));
     let room = sizes.table_file_room();
     let before: Vec<u8> = (0..room + spare).map(|_| random.next() as u8).collect();
     let (number, bytes) = calls::decide(&file, before.clone(), limit);
     assert_eq!(number, (answer.code() as u64) << 32 | k as u64);
     assert_eq!(bytes[..written.len()], written);
     assert_eq!(bytes[written.len()..], before[written.len()..]);
+    let mut quick = before.clone();
+    assert_eq!(host::decide_quick(&file, &mut quick, limit), number);
+    assert_eq!(quick, bytes);
     let (length, bytes) = calls::write_table(&words, &after.table, before.clone());
     note(&mut counts.seen, "write table", &length);
     assert_eq!(length, Ok(written.len()));
@@ -203,30 +203,12 @@ fn one_model(random: &mut Random, counts: &mut Counts) {
     }
 
     // Runs.
-    for _ in 0..3 {
-        let denominator = random.pick(&[1, 2, 3, 4, 6, 12, 60, 7, 420]);
-        let Some(run) = random_run(&plant, random, denominator, 15) else {
-            continue;
-        };
-        counts.runs += 1;
-        assert!(is_run(&plant, &run));
-        for (step, _) in &run.moves {
-            match step {
-                Move::Delay(_) => counts.delays += 1,
-                Move::Switch(_) => counts.switches += 1,
-            }
-        }
-        for at in std::iter::once(&run.first).chain(run.moves.iter().map(|m| &m.1)) {
-            counts.configurations += 1;
-            let met = is_forbidden(&plant, denominator, at);
-            if answer == Answer::Safe {
-                assert!(!met, "a forbidden box is met on a safe model");
-                assert!(is_reached(&plant, table, denominator, at), "no part reaches {at:?}");
-            } else if met {
-                counts.forbidden_met_on_unknown += 1;
-            }
-        }
+    let travelled = travel(&plant, table, random, 3);
+    if answer == Answer::Safe {
+        assert_eq!(travelled.forbidden, 0, "a forbidden box is met on a safe model");
+        assert_eq!(travelled.unreached, 0, "no part reaches a configuration");
     }
+    counts.travelled.add(&travelled);
 
     damaged_inputs(random, counts, &plant, &file, table, &rest);
     desk_list(random, counts, &words, size, limit.min(20));
@@ -307,7 +289,7 @@ fn damaged_inputs(random: &mut Random, counts: &mut Counts, plant: &Plant, file:
 
         // Tables as files.
         let base = if random.chance(1, 2) { rest } else { table };
-        let bytes = damaged_table_file(random, plant, base);
+        let (bytes, _) = damaged_table_file(random, plant, base);
         let length = if random.chance(1, 8) { random.below(size) } else { size + random.below(3) };
         read_table(random, counts, &list, &bytes, length);
     }
@@ -406,9 +388,10 @@ fn main() {
         counts.passes, counts.most_passes, counts.literal_passes
     );
     println!("answers by k (0, 1, 2, 3-5, 6-10, 11-100, more): {:?}", counts.by_passes);
+    let runs = &counts.travelled;
     println!(
-        "runs {}, configurations {}, delays {}, switches {}; forbidden met on models not safe {}",
-        counts.runs, counts.configurations, counts.delays, counts.switches, counts.forbidden_met_on_unknown
+        "runs {}, configurations {}, delays {}, switches {}; in a forbidden box (of models not safe) {}",
+        runs.runs, runs.configurations, runs.delays, runs.switches, runs.forbidden
     );
     println!("further tables refused on unknown models {}, desk calls {}", counts.tables_refused, counts.desk_calls);
     let mut missing = Vec::new();

@@ -1,0 +1,120 @@
+/*
+ * decide MODEL [LIMIT] - decides a model file, then has the table of the answer checked.
+ *
+ * Prints the answer, its passes and the length of its table file, and what check says of that
+ * table; or 'refused' and the number. The limit is 1,000 passes if none is given.
+ *
+ * Exit status: 0 answered, 1 refused, 2 called wrongly or a file that cannot be read.
+ *
+ *     cc -std=c99 -I include -o decide examples/decide.c target/staticlib/libhost.a
+ *     ./decide models/plant-p.model
+ */
+#include "qiifaduleh.h"
+
+#include <errno.h>
+#include <inttypes.h>
+#include <stdio.h>
+#include <stdlib.h>
+#include <string.h>
+
+#define USUAL_LIMIT 1000
+
+/* Exit status. */
+#define ANSWERED 0
+#define REFUSED 1
+#define CALLED_WRONGLY 2
+
+/* One byte more than the longest model file: a file that fills this is refused in any case. */
+static uint8_t model[QII_MODEL_BYTES_MAX + 1];
+static uint8_t table[QII_TABLE_BYTES_MAX];
+
+/* Reads the beginning of a file into model. Gives its length, or -1. */
+static long read_model(const char *name)
+{
+    FILE *file = fopen(name, "rb");
+    size_t len;
+    int failed;
+
+    if (file == NULL)
+        return -1;
+    len = fread(model, 1, sizeof model, file);
+    failed = ferror(file);
+    fclose(file);
+    return failed ? -1 : (long)len;
+}
+
+/* Takes a limit from its decimal digits. Gives 0 if there is none in 32 bits. */
+static int read_limit(const char *digits, uint32_t *limit)
+{
+    char *end;
+    unsigned long long value;
+
+    if (strspn(digits, "0123456789") == 0)
+        return 0;
+    errno = 0;
+    value = strtoull(digits, &end, 10);
+    if (*end != '\0' || errno != 0 || value > UINT32_MAX)
+        return 0;
+    *limit = (uint32_t)value;
+    return 1;
+}
+
+static const char *answer_word(uint32_t code)
+{
+    switch (code) {
+    case QII_SAFE:
+        return "safe";
+    case QII_UNKNOWN:
+        return "unknown";
+    case QII_UNFINISHED:
+        return "unfinished";
+    default:
+        return NULL;
+    }
+}
+
+/* Has the table of an answer checked, and prints what check says. */
+static void print_check(size_t model_len, size_t table_len)
+{
+    uint64_t checked = check(model, model_len, table, table_len);
+
+    if (checked == QII_ACCEPTED)
+        printf("check accepted\n");
+    else
+        printf("check refused %" PRIu64 "\n", checked);
+}
+
+/* Decides the model, and prints the answer or the refusal. Gives the exit status. */
+static int print_answer(size_t model_len, uint32_t limit)
+{
+    uint64_t decided = decide(model, model_len, table, sizeof table, limit);
+    const char *word = answer_word(qii_code(decided));
+    size_t table_len;
+
+    if (word == NULL) {
+        printf("refused %" PRIu32 "\n", qii_code(decided));
+        return REFUSED;
+    }
+    table_len = qii_table_len(table);
+    printf("answer %s\npasses %" PRIu32 "\ntable bytes %zu\n", word, qii_passes(decided),
+           table_len);
+    print_check(model_len, table_len);
+    return ANSWERED;
+}
+
+int main(int argc, char **argv)
+{
+    uint32_t limit = USUAL_LIMIT;
+    long model_len;
+
+    if (argc < 2 || argc > 3 || (argc == 3 && !read_limit(argv[2], &limit))) {
+        fprintf(stderr, "usage: %s MODEL [LIMIT]\n", argv[0]);
+        return CALLED_WRONGLY;
+    }
+    model_len = read_model(argv[1]);
+    if (model_len < 0) {
+        fprintf(stderr, "%s: cannot read %s\n", argv[0], argv[1]);
+        return CALLED_WRONGLY;
+    }
+    return print_answer((size_t)model_len, limit);
+}

@@ -1,0 +1,18 @@
+//! Writes the sample models: <name>.model, and <name>.listing with what the listing program
+//! is to print for it.
+//!
+//!     cargo run --release --offline --bin write_models <directory>
+
+use std::path::Path;
+
+use second::listing::listing;
+use second::samples;
+
+fn main() {
+    let directory = std::env::args().nth(1).expect("the directory to write to");
+    let directory = Path::new(&directory);
+    for (name, file) in samples::all() {
+        std::fs::write(directory.join(format!("{name}.model")), &file).expect("the model file can be written");
+        std::fs::write(directory.join(format!("{name}.listing")), listing(&file)).expect("the listing can be written");
+    }
+}

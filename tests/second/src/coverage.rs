@@ -1,0 +1,150 @@
+//! What came up in a comparison: kinds of models, limits, damage and numbers. Every kind that
+//! is listed must come up under the full counts.
+
+use std::collections::BTreeMap;
+
+use crate::ceiling;
+use crate::generate::{BYTE_DAMAGE, FACES_DAMAGE, FIELD_DAMAGE};
+use crate::model::{ordered_inside, Plant, LEVEL, MAX_FORBIDDEN, MAX_LOCATIONS, MAX_SWITCHES, RATE};
+use crate::simulate::Travelled;
+
+/// The numbers that each call can give: refusals, then answers.
+pub const DECIDE_NUMBERS: [u32; 20] = [1, 2, 3, 4, 6, 7, 8, 11, 12, 13, 14, 15, 16, 17, 18, 19, 39, 100, 101, 102];
+pub const CHECK_NUMBERS: [u32; 24] =
+    [1, 2, 3, 4, 6, 7, 8, 11, 12, 13, 14, 15, 16, 17, 18, 19, 32, 33, 34, 35, 36, 37, 38, 100];
+
+pub const MODEL_KINDS: [&str; 15] = [
+    "a wall of zero width",
+    "a guard that sticks out",
+    "a reset box that sticks out",
+    "a switch with a mask",
+    "a switch that never lands",
+    "a switch to its own location",
+    "no start",
+    "several starts",
+    "no switch",
+    "no forbidden box",
+    "64 locations",
+    "128 switches",
+    "64 forbidden boxes",
+    "a level of 1,000,000",
+    "a rate of 1,000",
+];
+
+pub const LIMIT_KINDS: [&str; 5] = ["0", "1 to 3", "4 to the ceiling", "above the ceiling", "4,294,967,295"];
+
+/// Damage that is not one of the kinds of `generate`.
+pub const OTHER_DAMAGE: [&str; 4] =
+    ["words at the edge of a question", "such words, then bytes", "random bytes", "a head and nothing else"];
+
+/// Counts by kind.
+pub type Tally = BTreeMap<String, u64>;
+
+/// What was compared.
+#[derive(Clone, Debug, Default)]
+pub struct Counts {
+    pub fixed: u64,
+    pub models: u64,
+    pub damaged: u64,
+    /// Models by number of variables (index n).
+    pub by_n: [u64; 7],
+    pub model_kinds: Tally,
+    pub limits: Tally,
+    pub damage: Tally,
+    /// Calls by the number that decide or check gave.
+    pub decide: BTreeMap<u32, u64>,
+    pub check: BTreeMap<u32, u64>,
+    /// The most passes of an answer.
+    pub most_passes: u32,
+    /// Safe answers whose table was accepted.
+    pub accepted: u64,
+    /// Tables that were refused for models answered unknown.
+    pub refused: u64,
+    /// Runs of models answered safe, and of models answered unknown.
+    pub safe_runs: Travelled,
+    pub unknown_runs: Travelled,
+}
+
+pub fn note(tally: &mut Tally, kind: impl Into<String>) {
+    *tally.entry(kind.into()).or_default() += 1;
+}
+
+impl Counts {
+    pub fn note_model(&mut self, plant: &Plant, limit: u32) {
+        self.models += 1;
+        self.by_n[plant.sizes.n] += 1;
+        for kind in model_kinds(plant) {
+            note(&mut self.model_kinds, kind);
+        }
+        note(&mut self.limits, limit_kind(plant, limit));
+    }
+
+    /// All that is listed and never came up.
+    pub fn not_seen(&self) -> Vec<String> {
+        let mut missing = Vec::new();
+        let mut expect = |what: &str, seen: bool| {
+            if !seen {
+                missing.push(what.to_string());
+            }
+        };
+        DECIDE_NUMBERS.iter().for_each(|n| expect(&format!("decide {n}"), self.decide.contains_key(n)));
+        CHECK_NUMBERS.iter().for_each(|n| expect(&format!("check {n}"), self.check.contains_key(n)));
+        (1..=6).for_each(|n| expect(&format!("n {n}"), self.by_n[n] > 0));
+        MODEL_KINDS.iter().for_each(|kind| expect(kind, self.model_kinds.contains_key(*kind)));
+        LIMIT_KINDS.iter().for_each(|kind| expect(&format!("limit {kind}"), self.limits.contains_key(*kind)));
+        all_damage().iter().for_each(|kind| expect(kind, self.damage.contains_key(kind)));
+        expect("a safe answer's table accepted", self.accepted > 0);
+        expect("a table refused for an unknown model", self.refused > 0);
+        expect("a switch in a run of a safe model", self.safe_runs.switches > 0);
+        expect("a forbidden box met in a run of an unknown model", self.unknown_runs.forbidden > 0);
+        missing
+    }
+}
+
+/// Every kind of damage, each with what is damaged.
+pub fn all_damage() -> Vec<String> {
+    let model = BYTE_DAMAGE.iter().chain(&OTHER_DAMAGE).map(|kind| format!("model: {kind}"));
+    let table = BYTE_DAMAGE.iter().chain(FACES_DAMAGE).chain(&FIELD_DAMAGE).map(|kind| format!("table: {kind}"));
+    model.chain(table).collect()
+}
+
+fn limit_kind(plant: &Plant, limit: u32) -> &'static str {
+    match limit {
+        0 => LIMIT_KINDS[0],
+        1..=3 => LIMIT_KINDS[1],
+        u32::MAX => LIMIT_KINDS[4],
+        _ if limit as u64 > ceiling::of_plant(plant) => LIMIT_KINDS[3],
+        _ => LIMIT_KINDS[2],
+    }
+}
+
+/// The kinds that a model is of.
+fn model_kinds(plant: &Plant) -> Vec<&'static str> {
+    let sizes = plant.sizes;
+    let locations = || (0..sizes.locations).map(|l| plant.location(l));
+    let switches = || (0..sizes.switches).map(|s| plant.switch(s));
+    let invariant = |l: usize| plant.location(l).invariant;
+    let starts = locations().filter(|l| l.started).count();
+    let never_lands = |s: &crate::model::Switch| {
+        let wall = s.guard[2 * s.d];
+        s.mask >> s.d & 1 == 0 && (wall < s.reset[2 * s.d] || s.reset[2 * s.d + 1] < wall)
+    };
+    let is = [
+        locations().any(|l| l.invariant.chunks_exact(2).any(|r| r[0] == r[1])),
+        switches().any(|s| !ordered_inside(s.guard, invariant(s.source))),
+        switches().any(|s| !ordered_inside(s.reset, invariant(s.target))),
+        switches().any(|s| s.mask != 0),
+        switches().any(|s| never_lands(&s)),
+        switches().any(|s| s.source == s.target),
+        starts == 0,
+        starts > 1,
+        sizes.switches == 0,
+        sizes.forbidden == 0,
+        sizes.locations == MAX_LOCATIONS,
+        sizes.switches == MAX_SWITCHES,
+        sizes.forbidden == MAX_FORBIDDEN,
+        locations().any(|l| l.invariant.iter().any(|level| level.abs() == LEVEL)),
+        locations().any(|l| l.rates.iter().any(|rate| rate.abs() == RATE)),
+    ];
+    MODEL_KINDS.into_iter().zip(is).filter(|(_, is)| *is).map(|(kind, _)| kind).collect()
+}

@@ -1,0 +1,306 @@
+//! The comparison's fixed cases: document 01's, source 000's examples, the sample models, and
+//! sweeps over every cut, every bit and every word of small files.
+
+use crate::compare::{hex, written_table, Comparison, Difference, MOST_ROOM};
+use crate::draft::{Draft, LocationDraft};
+use crate::examples;
+use crate::files::{field, model_file, model_of_file, table_file};
+use crate::generate::byte_of_word;
+use crate::model::{Plant, LEVEL, RATE};
+use crate::samples;
+
+/// The buffer that plant P needs.
+const P_ROOM: usize = 7 + 4 * (11 + 16);
+
+/// Words at the edges of the questions.
+const EDGES: [i32; 25] = [
+    i32::MIN,
+    -LEVEL - 1,
+    -LEVEL,
+    -RATE - 1,
+    -RATE,
+    -1,
+    0,
+    1,
+    2,
+    3,
+    4,
+    5,
+    6,
+    7,
+    10,
+    11,
+    64,
+    65,
+    128,
+    129,
+    RATE,
+    RATE + 1,
+    LEVEL,
+    LEVEL + 1,
+    i32::MAX,
+];
+
+fn answer(code: u64, k: u64) -> u64 {
+    code << 32 | k
+}
+
+fn expect(label: &str, wanted: u64, found: u64) -> Result<(), Difference> {
+    if wanted == found {
+        return Ok(());
+    }
+    Err(Difference { text: format!("{label}: the document wants {wanted:#x}, both give {found:#x}") })
+}
+
+fn p_file() -> Vec<u8> {
+    model_file(&examples::plant_p().words())
+}
+
+/// The table file of P's answer, field by field.
+fn p_table_file() -> Vec<u8> {
+    let mut table = field(6, &[2]);
+    table.extend(field(5, &[0, 0, 0, 0, 2, 5]));
+    table.extend(field(5, &[0, 3, 2, 8, 10, 10]));
+    table
+}
+
+fn p_unknown_file() -> Vec<u8> {
+    model_file(&examples::plant_p_unknown().words())
+}
+
+fn p_without_start() -> Vec<u8> {
+    let mut draft = examples::plant_p();
+    draft.locations[0].start = None;
+    model_file(&draft.words())
+}
+
+fn p_up_to(level: i32) -> Vec<u8> {
+    let mut draft = examples::plant_p();
+    draft.locations[0].invariant[3] = level;
+    model_file(&draft.words())
+}
+
+/// One location of six variables; its first word is the last byte of the head's first word.
+fn six_variables() -> Vec<u8> {
+    let six = LocationDraft { invariant: vec![0; 12], rates: vec![0; 12], start: None };
+    model_file(&Draft { n: 6, locations: vec![six], ..Draft::default() }.words())
+}
+
+impl Comparison {
+    /// All of them.
+    pub fn fixed_cases(&mut self) -> Result<(), Difference> {
+        self.answers_of_p()?;
+        self.other_answers()?;
+        self.tables_of_p()?;
+        self.largest_model()?;
+        self.source_000()?;
+        self.sample_models()?;
+        self.cuts_and_bits()?;
+        self.words_of_a_model()?;
+        self.words_of_a_table()
+    }
+
+    /// A decide call whose number the document gives.
+    fn decide_gives(
+        &mut self,
+        label: &str,
+        model: &[u8],
+        length: usize,
+        limit: u32,
+        wanted: u64,
+    ) -> Result<Vec<u8>, Difference> {
+        let (number, buffer) = self.decide(label, model, length, limit)?;
+        expect(label, wanted, number)?;
+        self.counts.fixed += 1;
+        Ok(buffer)
+    }
+
+    /// A check call whose number the document gives.
+    fn check_gives(&mut self, label: &str, model: &[u8], table: &[u8], wanted: u64) -> Result<(), Difference> {
+        let number = self.check(label, model, table)?;
+        expect(label, wanted, number)?;
+        self.counts.fixed += 1;
+        Ok(())
+    }
+
+    fn answers_of_p(&mut self) -> Result<(), Difference> {
+        let (p, table) = (p_file(), p_table_file());
+        for limit in [1, 2, 1_000, u32::MAX] {
+            let buffer = self.decide_gives("P", &p, P_ROOM, limit, answer(100, 1))?;
+            if buffer[..table.len()] != table {
+                return Err(Difference { text: format!("P: the table file is {}", hex(&buffer[..table.len()])) });
+            }
+        }
+        self.decide_gives("P, limit 0", &p, P_ROOM, 0, answer(102, 0))?;
+        self.decide_gives("P, buffer one byte short", &p, P_ROOM - 1, 9, answer(39, 0))?;
+        self.decide_gives("P, no buffer", &p, 0, 9, answer(39, 0))?;
+        Ok(())
+    }
+
+    fn other_answers(&mut self) -> Result<(), Difference> {
+        let (unknown, no_start) = (p_unknown_file(), p_without_start());
+        let six = six_variables();
+        let mut seven = six.clone();
+        seven[6] = 7;
+        self.decide_gives("P, x 5, y 9..10 forbidden", &unknown, P_ROOM, 9, answer(101, 0))?;
+        self.decide_gives("P, the same under limit 0", &unknown, P_ROOM, 0, answer(101, 0))?;
+        self.decide_gives("P without a start, limit 0", &no_start, P_ROOM, 0, answer(100, 0))?;
+        self.decide_gives("level 1,000,000", &p_up_to(1_000_000), P_ROOM, 50, answer(100, 1))?;
+        self.decide_gives("level 1,000,001", &p_up_to(1_000_001), P_ROOM, 50, answer(11, 0))?;
+        self.decide_gives("n 6", &six, MOST_ROOM, 5, answer(100, 0))?;
+        self.decide_gives("n 7", &seven, MOST_ROOM, 5, answer(2, 0))?;
+        self.decide_gives("an empty file", &[], P_ROOM, 5, answer(1, 0))?;
+        self.decide_gives("tag 9", &field(9, &[1, 1, 0, 0]), P_ROOM, 5, answer(1, 0))?;
+        Ok(())
+    }
+
+    fn tables_of_p(&mut self) -> Result<(), Difference> {
+        let (p, table, no_faces) = (p_file(), p_table_file(), field(6, &[0]));
+        let words = examples::plant_p().words();
+        let plant = Plant::from_words(&words).expect("P passes its questions");
+        let wider = table_file(&plant, &examples::plant_p_wider());
+        let mut narrow = examples::plant_p_table();
+        narrow[16] = 3;
+        let narrow = table_file(&plant, &narrow);
+        self.check_gives("P's table", &p, &table, 100)?;
+        self.check_gives("P's wider table", &p, &wider, 100)?;
+        self.check_gives("P's table with x 3..8", &p, &narrow, 33)?;
+        self.check_gives("P's table for the unknown P", &p_unknown_file(), &table, 34)?;
+        self.check_gives("no faces for P", &p, &no_faces, 33)?;
+        self.check_gives("no faces for P without a start", &p_without_start(), &no_faces, 100)?;
+        self.check_gives("an empty table file", &p, &[], 35)?;
+        self.check_gives("an empty model file", &[], &table, 1)
+    }
+
+    /// The largest model there is, whole, cut by one byte, and with bytes behind it.
+    fn largest_model(&mut self) -> Result<(), Difference> {
+        let largest = model_file(&examples::large_grid(6, 3).words());
+        let mut longer = largest.clone();
+        longer.push(4);
+        let mut much_longer = largest.clone();
+        much_longer.resize(200_000, 0);
+        let cut = &largest[..largest.len() - 1];
+        let no_faces = field(6, &[0]);
+        self.decide_gives("the largest model", &largest, MOST_ROOM, 3, answer(102, 3))?;
+        self.check_gives("the largest model", &largest, &no_faces, 33)?;
+        for (label, model, number) in [
+            ("the largest model, cut by one byte", cut, 7),
+            ("the largest model and one byte", &longer, 8),
+            ("the largest model and many bytes", &much_longer, 8),
+        ] {
+            self.decide_gives(label, model, MOST_ROOM, 3, answer(number, 0))?;
+            self.check_gives(label, model, &no_faces, number)?;
+        }
+        Ok(())
+    }
+
+    /// Source 000's examples and large plants, under every limit up to the answer, and their
+    /// tables.
+    fn source_000(&mut self) -> Result<(), Difference> {
+        for (label, draft) in [
+            ("figure 1", examples::figure_1()),
+            ("section 3.4, whole", examples::whole_box((0, 2))),
+            ("section 3.4, divided", examples::divided_box((0, 2))),
+            ("section 3.4, first half", examples::divided_box((1, 2))),
+            ("section 3.4, second half", examples::divided_box((0, 1))),
+            ("two tanks", examples::two_tank(59)),
+            ("64 locations, n 2", examples::large_grid(2, 6)),
+            ("64 locations, n 3", examples::large_grid(3, 4)),
+            ("64 locations, n 6", examples::large_grid(6, 3)),
+        ] {
+            let words = draft.words();
+            let plant = Plant::from_words(&words).expect("an example passes its questions");
+            let model = model_file(&words);
+            for limit in (0..20).chain([1_000]) {
+                let (_, buffer) = self.decide(label, &model, MOST_ROOM, limit)?;
+                self.check(label, &model, written_table(&plant, &buffer))?;
+                self.counts.fixed += 2;
+            }
+        }
+        Ok(())
+    }
+
+    /// The sample models, and their tables exchanged among each other.
+    fn sample_models(&mut self) -> Result<(), Difference> {
+        let mut tables = vec![field(6, &[0])];
+        for (name, model) in samples::all() {
+            let (number, buffer) = self.decide(name, &model, MOST_ROOM, 1_000)?;
+            self.counts.fixed += 1;
+            if number >> 32 >= 100 {
+                let read = model_of_file(&model).expect("a model that is answered reads");
+                tables.push(written_table(&read.plant(), &buffer).to_vec());
+            }
+        }
+        for (name, model) in samples::all() {
+            for table in &tables {
+                self.check(name, &model, table)?;
+                self.counts.fixed += 1;
+            }
+        }
+        Ok(())
+    }
+
+    /// Every cut of P's file and of its table file, and every bit of both flipped.
+    fn cuts_and_bits(&mut self) -> Result<(), Difference> {
+        let (p, table) = (p_file(), p_table_file());
+        for length in 0..p.len() {
+            self.decide("P cut short", &p[..length], P_ROOM, 9)?;
+            self.check("P cut short", &p[..length], &table)?;
+            self.counts.fixed += 2;
+        }
+        for length in 0..table.len() {
+            self.check("P's table cut short", &p, &table[..length])?;
+            self.counts.fixed += 1;
+        }
+        for bit in 0..8 * p.len() {
+            let mut flipped = p.clone();
+            flipped[bit / 8] ^= 1 << (bit % 8);
+            self.decide("P with a bit flipped", &flipped, MOST_ROOM, 9)?;
+            self.check("P with a bit flipped", &flipped, &table)?;
+            self.counts.fixed += 2;
+        }
+        for bit in 0..8 * table.len() {
+            let mut flipped = table.clone();
+            flipped[bit / 8] ^= 1 << (bit % 8);
+            self.check("P's table with a bit flipped", &p, &flipped)?;
+            self.counts.fixed += 1;
+        }
+        Ok(())
+    }
+
+    /// Every word of the water-level model at every edge.
+    fn words_of_a_model(&mut self) -> Result<(), Difference> {
+        let words = examples::water_level(20).words();
+        let plant = Plant::from_words(&words).expect("an example passes its questions");
+        let model = model_file(&words);
+        let (_, buffer) = self.decide("the water level", &model, MOST_ROOM, 1_000)?;
+        let table = written_table(&plant, &buffer).to_vec();
+        for index in 0..words.len() {
+            for edge in EDGES {
+                let mut changed = model.clone();
+                let place = byte_of_word(&plant.sizes, index);
+                changed[place..place + 4].copy_from_slice(&edge.to_be_bytes());
+                self.decide("the water level with another word", &changed, MOST_ROOM, 20)?;
+                self.check("the water level with another word", &changed, &table)?;
+                self.counts.fixed += 2;
+            }
+        }
+        Ok(())
+    }
+
+    /// Every word of P's table file at every edge.
+    fn words_of_a_table(&mut self) -> Result<(), Difference> {
+        let (p, table) = (p_file(), p_table_file());
+        let head = [3];
+        let faces = (0..2).flat_map(|face| (0..6).map(move |word| 7 + face * 27 + 3 + 4 * word));
+        for place in head.into_iter().chain(faces) {
+            for edge in EDGES {
+                let mut changed = table.clone();
+                changed[place..place + 4].copy_from_slice(&edge.to_be_bytes());
+                self.check("P's table with another word", &p, &changed)?;
+                self.counts.fixed += 1;
+            }
+        }
+        Ok(())
+    }
+}

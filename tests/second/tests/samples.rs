@@ -1,0 +1,58 @@
+//! The sample models, and what random runs say of one of them.
+
+use second::analysis::run;
+use second::examples::water_level;
+use second::listing::listing;
+use second::model::Plant;
+use second::random::Random;
+use second::samples;
+use second::simulate::{travel, Travelled};
+
+/// The first line of each listing.
+#[test]
+fn first_lines() {
+    let expected = [
+        ("plant-p", "safe 1 2"),
+        ("plant-p-unknown", "unknown 0 0"),
+        ("plant-p-no-start", "safe 0 0"),
+        ("figure-1", "safe 1 2"),
+        ("box-whole", "safe 6 6"),
+        ("box-divided", "unknown 3 12"),
+        ("two-tanks", "safe 15 75"),
+        ("two-tanks-low-rim", "unknown 10 59"),
+        ("water-level", "safe 7 12"),
+        ("water-level-slow", "unknown 2 4"),
+        ("dosing", "unfinished 1000 3"),
+        ("largest", "safe 10 192"),
+        ("refused-empty", "refused 1"),
+        ("refused-cut", "refused 7"),
+        ("refused-trailing", "refused 8"),
+        ("refused-level", "refused 11"),
+    ];
+    let found: Vec<_> = samples::all().into_iter().map(|(name, file)| (name, listing(&file))).collect();
+    assert_eq!(found.len(), expected.len());
+    for ((name, text), (expected_name, line)) in found.iter().zip(expected) {
+        assert_eq!((*name, text.lines().next()), (expected_name, Some(line)));
+    }
+}
+
+/// Runs of the water-level plant against its answer's table, or against no faces at all.
+fn travelled(lag: i32, with_table: bool) -> Travelled {
+    let words = water_level(lag).words();
+    let plant = Plant::from_words(&words).unwrap();
+    let mut table = vec![0; plant.sizes.table_words()];
+    if with_table {
+        let mut work = table.clone();
+        run(&plant, 1_000, &mut table, &mut work);
+    }
+    travel(&plant, &table, &mut Random::new(9), 200)
+}
+
+#[test]
+fn runs_find_what_is_there_to_find() {
+    let safe = travelled(20, true);
+    assert!(safe.runs == 200 && safe.switches > 400, "{safe:?}");
+    assert_eq!((safe.forbidden, safe.unreached), (0, 0));
+    assert!(travelled(20, false).unreached > 0);
+    assert!(travelled(25, true).forbidden > 0);
+}
