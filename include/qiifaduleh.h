@@ -5,7 +5,9 @@
  *     check    says whether a table, whoever made it, shows that a model is safe
  *
  * If check accepts a table, no run of the model, of any length, meets a forbidden box. This is
- * proved (docs/PROMISES.md), and it does not rest on decide.
+ * proved (docs/PROMISES.md), and it does not rest on decide. Proved too: what the answers of
+ * decide and check mean, what decide leaves in the table buffer, and that a refusal is the number
+ * of the first question that is not yes.
  *
  *     uint8_t table[QII_TABLE_BYTES_MAX];
  *     uint64_t decided = decide(model, model_len, table, sizeof table, 1000);
@@ -175,7 +177,7 @@ enum qii_refusal {
 #define QII_TABLE_BYTES_MAX 45319
 
 /* The stack of a thread that makes either call. tests/c/stack.c measures what is used of it. */
-#define QII_STACK_BYTES (128 * 1024)
+#define QII_STACK_BYTES (160 * 1024)
 
 /* The code in decide's number: of enum qii_answer or enum qii_refusal. */
 static inline uint32_t qii_code(uint64_t decided)

@@ -14,11 +14,10 @@ use Rattle.plant.specs.declared.Answer.{Answer}
 use Rattle.plant.specs.Ask.{ask, orElse, _then_}
 use Rattle.plant.specs.Questions.{modelQuestions}
 use Rattle.plant.specs.Tables.{tableSize, tableOk, pass, touching, ceilingOf}
-use Rattle.plant.specs.Calls.{Reply, refused, answerReply, ceilingBy, ceilingCall, unchanged, checkerQuestions, checkBy, checkCall, analysis, answerTable, passesOf, analysisQuestions, Analysed, answered, analyseBy, analyseCall}
+use Rattle.plant.specs.Calls.{Reply, refused, answerReply, ceilingBy, ceilingCall, unchanged, certificateQuestions, tableQuestions, checkerQuestions, checkBy, checkCall, analysis, answerTable, passesOf, analysisQuestions, Analysed, answered, analyseBy, analyseCall}
 use Rattle.plant.proofs.Asks.{go, halt, ask-intro, ask-yes, then-intro, then-both}
 use Rattle.plant.proofs.Passed.{passed}
 use Rattle.plant.proofs.Keeps.{after-length}
-use Rattle.analysis.specs.Questions.{certificateQuestions, tableQuestions}
 use Rattle.analysis.proofs.Front.{front, questions-front}
 
 -- ---- the ceiling
@@ -97,7 +96,7 @@ module _ (m t : List ℤ) where
 
     module _ (room : tableSize m ≤ length t) (q : ℕ) (e : q ≡ tableQuestions m (front m t)) where
       chain : q ≡ checkerQuestions m t
-      unfolding checkerQuestions tableQuestions certificateQuestions
+      unfolding checkerQuestions
       chain = go refl asks (go refl (long m t 20 room) (e ∙ questions-front m (passed m asks) t))
 
       pub check-table : (q ≡ 0 → ⊥) → refused q ≡ checkCall m t

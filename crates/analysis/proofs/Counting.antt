@@ -36,7 +36,7 @@ zeros-first m full =
 
 -- ---- each table k passes 32
 
-after-ok : (m : List ℤ) → Passed m → (k : ℕ) → tableOk m (tableAfter m k) ≡ true
+pub after-ok : (m : List ℤ) → Passed m → (k : ℕ) → tableOk m (tableAfter m k) ≡ true
 after-ok m ok k = is-true (made-ok m (filled m ok) (tableAfter m k) (facesAfter m k) (after-begins m ok k) (faces-ok m ok k))
 
 -- ---- the answer at table k

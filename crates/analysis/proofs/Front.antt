@@ -1,42 +1,25 @@
 -- A table is the first words of a list: what the definitions say of the list they say of those words alone, since no face reaches
 -- past the table's length.
 use mathlib.Core.Path.{_≡_, refl, ap, ap₂, _∙_}
-use mathlib.Core.Bool.{Bool, cond, _&&_, _||_}
-use mathlib.Core.List.{List, [], _∷_}
-use Prim.Native.Nat.{ℕ, zero, suc, _+_, _*_, _<_, _≤_}
+use mathlib.Core.Bool.{cond, _&&_, _||_}
+use mathlib.Core.List.{List}
+use Prim.Native.Nat.{ℕ, zero, suc, _+_, _*_, _<_}
 use native.Mathlib.Omega.{arith}
 use lib.Dec.{eqb}
 use lib.IntN.{ℤ, pos}
-use lib.ListN.{take, drop}
+use lib.ListN.{take}
 use lib.Seq.{getD-take, take-take}
 use Rattle.integers.specs.Words.{eqZ, same}
 use Rattle.integers.specs.Counted.{allBelow, anyBelow}
+use Rattle.integers.proofs.Counted.{all-ext, any-ext}
+use Rattle.integers.proofs.Buffers.{part-front}
 use Rattle.plant.specs.Box.{boxAt, Face, absent, present, onBox, faceWords, joins}
 use Rattle.plant.specs.Model.{n#, L#, E#, B#, invariant, source, target, variableOf, faceWall}
 use Rattle.plant.specs.Tables.{faceSize, tableSize, faceAt, faceRead, faceOf, absentOk, presentOk, faceOk, tableOk, partOf, wallStepAt, wallFrom, sourceFace, targetFace, switchStepAt, switchOnto, wallsJoined, newFace, pass, partTouches, touching}
-use Rattle.plant.specs.Calls.{unchanged}
+use Rattle.plant.specs.Calls.{unchanged, certificateQuestions, tableQuestions}
 use Rattle.plant.proofs.Boxes.{joins-ext}
 use Rattle.plant.proofs.Passed.{Passed, SwitchPassed}
 use Rattle.plant.proofs.Tables.{filled, face-inside, table-ext}
-use Rattle.analysis.specs.Questions.{certificateQuestions, tableQuestions}
-
--- a part within the first n places
-part-front : (a k n : ℕ) (s : List ℤ) → a + k ≤ n → take k (drop a (take n s)) ≡ take k (drop a s)
-part-front zero k n s h = take-take k n s (omega arith)
-part-front (suc a) k zero s h = absurd (omega arith)
-part-front (suc a) k (suc n) [] h = refl
-part-front (suc a) k (suc n) (x ∷ s) h = part-front a k n s (omega arith)
-
--- tests that agree below k
-all-ext : (k : ℕ) (f g : ℕ → Bool) → ((i : ℕ) → i < k → f i ≡ g i) → allBelow k f ≡ allBelow k g
-unfolding allBelow
-all-ext zero f g h = refl
-all-ext (suc k) f g h = ap₂ (λ (a b : Bool). a && b) (all-ext k f g (λ i l. h i (omega arith))) (h k (omega arith))
-
-any-ext : (k : ℕ) (f g : ℕ → Bool) → ((i : ℕ) → i < k → f i ≡ g i) → anyBelow k f ≡ anyBelow k g
-unfolding anyBelow
-any-ext zero f g h = refl
-any-ext (suc k) f g h = ap₂ (λ (a b : Bool). a || b) (any-ext k f g (λ i l. h i (omega arith))) (h k (omega arith))
 
 -- the table that a list of words begins with
 abbrev pub front : List ℤ → List ℤ → List ℤ

@@ -4,9 +4,8 @@ ghost use mathlib.Core.Bool.{true};
 ghost use Rattle.integers.specs.Words.{same};
 ghost use Rattle.plant.specs.Tables.{tableOk, pass};
 ghost use Rattle.plant.specs.Calls as C;
-ghost use Rattle.plant.specs.Calls.{Analysed, answerReply, verdictReply, ceilingReply, ceilingCall, checkCall, answerTable, analysisQuestions, answered, analyseCall};
+ghost use Rattle.plant.specs.Calls.{Analysed, answerReply, verdictReply, ceilingReply, ceilingCall, certificateQuestions, tableQuestions, checkCall, answerTable, analysisQuestions, answered, analyseCall};
 ghost use Rattle.analysis.specs.Ready.{Sized};
-ghost use Rattle.analysis.specs.Questions.{certificateQuestions, tableQuestions};
 use plant::Answer;
 use plant::Ceiling;
 use plant::Verdict;
@@ -35,21 +34,33 @@ fn fixpoint<'a>(model: &'a [i32], table: &'a [i32], after: &mut [i32]) -> bool
     integers::equal(after, table)
 }
 
-// 33 and 34 of a table that passes 32: 0 if both are yes, else the number of the first that is not.
-pub fn certificate_questions<'a>(model: &'a [i32], table: &'a [i32]) -> u32
-    requires { ⌜ Sized (now model) (now table) × (tableOk (now model) (now table) ≡ true) ⌝ }
+// 33 and 34 of a table that passes 32, with words lent for the pass: 0 if both are yes, else the number of the first that is not.
+fn certificate_with<'a>(model: &'a [i32], table: &'a [i32], after: &mut [i32]) -> u32
+    requires { ⌜ Sized (now model) (now table) × (tableOk (now model) (now table) ≡ true) × Sized (now model) (now after) ⌝ }
     ensures { λ r. ⌜ r ≡ certificateQuestions (now (model .entry)) (now (table .entry)) ⌝ }
 {
-    // The largest table: 64 locations of 156 words.
-    let mut after = [0i32; 9984];
-    let size = table.len();
-    if !fixpoint(model, table, &mut after[..size]) {
+    if !fixpoint(model, table, after) {
         return 33;
     }
     if checks::touching(model, table) {
         return 34;
     }
     0
+}
+
+// 33 and 34 of a table that passes 32. The words held for the pass are cleared at each call: few for a small table.
+pub fn certificate_questions<'a>(model: &'a [i32], table: &'a [i32]) -> u32
+    requires { ⌜ Sized (now model) (now table) × (tableOk (now model) (now table) ≡ true) ⌝ }
+    ensures { λ r. ⌜ r ≡ certificateQuestions (now (model .entry)) (now (table .entry)) ⌝ }
+{
+    let size = table.len();
+    if size <= 1280 {
+        let mut after = [0i32; 1280];
+        return certificate_with(model, table, &mut after[..size]);
+    }
+    // The largest table: 64 locations of 156 words.
+    let mut after = [0i32; 9984];
+    certificate_with(model, table, &mut after[..size])
 }
 
 // The questions of a table's words, 32 to 34: 0 if all are yes, else the number of the first that is not.

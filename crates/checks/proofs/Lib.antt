@@ -3,4 +3,5 @@ pub mod Faces
 pub mod Ranges
 pub mod Widths
 pub mod Touched
+pub mod Links
 pub mod Search

@@ -1,20 +1,11 @@
 -- One turn of a loop over every number below k: tests that all hold, a search for one that holds, and a sum.
-use mathlib.Core.Path.{_≡_, refl, sym, ap₂}
-use mathlib.Core.Bool.{Bool, true, false, not, _&&_}
+use mathlib.Core.Path.{_≡_, refl, ap₂}
+use mathlib.Core.Bool.{Bool, true, false, _&&_}
 use Prim.Native.Nat.{ℕ, zero, suc, _+_, _*_, _<_, _≤_}
 use native.Mathlib.Numerals.{add-one}
 use native.Mathlib.Omega.{arith}
 use Rattle.integers.specs.Counted.{allBelow, anyBelow, sumBelow}
 use Rattle.integers.proofs.Counted.{any-intro, is-true, true-is}
-
--- a test that was negated
-pub not-yes : (t : Bool) → not t ≡ true → t ≡ false
-not-yes true e = sym e
-not-yes false e = refl
-
-pub not-no : (t : Bool) → not t ≡ false → t ≡ true
-not-no true e = refl
-not-no false e = sym e
 
 module _ (f : ℕ → Bool) where
   pub all-none : true ≡ allBelow 0 f

@@ -5,7 +5,7 @@ use mathlib.Core.List.{List}
 use Prim.Native.Nat.{ℕ, _<_}
 use native.Mathlib.Omega.{arith}
 use lib.IntN.{ℤ}
-use Rattle.delays.specs.Ranges.{LevelAt, Levels, RateAt, Rates}
+use Rattle.delays.specs.Ranges.{LevelAt, Levels}
 use Rattle.plant.specs.Model.{n#, B#, forbiddenBox}
 use Rattle.plant.proofs.Passed.{Passed}
 use Rattle.records.proofs.Positions.{length-forbiddenBox}
@@ -18,6 +18,3 @@ forbidden-in m ok b u = levels-from (n# m) (forbiddenBox m b) (length-forbiddenB
 -- what code has in place of n and a box
 pub levels-are : (n n′ : ℕ) (a a′ : List ℤ) → n ≡ n′ → a ≡ a′ → Levels n′ a′ → Levels n a
 levels-are n n′ a a′ e f h i l = subst (λ (s : List ℤ). LevelAt s i) (sym f) (h i (omega arith))
-
-pub rates-are : (n n′ : ℕ) (a a′ : List ℤ) → n ≡ n′ → a ≡ a′ → Rates n′ a′ → Rates n a
-rates-are n n′ a a′ e f h i l = subst (λ (s : List ℤ). RateAt s i) (sym f) (h i (omega arith))

@@ -1,20 +1,20 @@
 -- The search for a touch, by its three loops: the parts passed, the forbidden boxes passed and the locations passed. Parts are
 -- asked of a location's own boxes alone, box by box; the definition has the parts outside and the boxes inside.
 use mathlib.Core.Path.{_≡_, refl, sym, ap, _∙_, subst}
-use mathlib.Core.Bool.{Bool, true, false}
-use mathlib.Core.Logic.{⊎-elim}
+use mathlib.Core.Bool.{Bool, true, false, or-false}
 use mathlib.Core.List.{List}
 use Prim.Native.Nat.{ℕ, zero, suc, _+_, _*_, _-_, _<_, _≤_}
 use native.Mathlib.Omega.{arith}
 use lib.Dec.{T, eqb}
-use borrow.Author.Tests.{ne-eqb}
 use lib.IntN.{ℤ}
 use Rattle.integers.specs.Counted.{anyBelow}
-use Rattle.integers.proofs.Counted.{Some, any-some, any-intro, split}
+use Rattle.integers.proofs.Tests.{by-test}
+use Rattle.integers.proofs.Counted.{any-ext, any-some, any-intro, is-false}
 use Rattle.plant.specs.Box.{Face, absent, present}
 use Rattle.plant.specs.Model.{n#, L#, B#, forbiddenLocation}
 use Rattle.plant.specs.Tables.{partOf, partTouches, touching}
-use Rattle.checks.specs.NextBoxes.{NextBox}
+use Rattle.checks.specs.Links.{lastBox}
+use Rattle.checks.proofs.Links.{last-within, last-own}
 use Rattle.checks.proofs.Loops.{any-none, any-more, any-found}
 
 -- ---- two searches, one inside the other, in either order
@@ -35,16 +35,6 @@ module _ (j k : ℕ) (f : ℕ → ℕ → Bool) where
 any-swap : (j k : ℕ) (f : ℕ → ℕ → Bool) → anyBelow j (λ x. anyBelow k (f x)) ≡ anyBelow k (λ y. anyBelow j (λ x. f x y))
 any-swap j k f = same-truth _ _ (over j k f) (over k j (λ y x. f x y))
 
-any-ext : (k : ℕ) (f g : ℕ → Bool) → ((i : ℕ) → f i ≡ g i) → anyBelow k f ≡ anyBelow k g
-unfolding anyBelow
-any-ext zero f g h = refl
-any-ext (suc k) f g h = rw (any-ext k f g h, h k) refl
-
--- ---- boxes that are passed
-
-pub one-passed : (m : List ℤ) (l b i : ℕ) → ((j : ℕ) → b ≤ j → j < i → forbiddenLocation m j ≡ l → ⊥) → (forbiddenLocation m i ≡ l → ⊥) → (j : ℕ) → b ≤ j → j < i + 1 → forbiddenLocation m j ≡ l → ⊥
-one-passed m l b i h n j u v e = ⊎-elim (λ w. h j u w e) (λ w. n (subst (λ (x : ℕ). forbiddenLocation m x ≡ l) w e)) (split j i (omega arith))
-
 -- ---- the loops
 
 module _ (m t : List ℤ) where
@@ -62,14 +52,14 @@ module _ (m t : List ℤ) where
   unfolding locationsTouch boxesTouched partsTouch touching
   search-is =
       any-ext (L# m) (λ l. boxesTouched l (B# m)) (λ l. anyBelow (suc (2 * n# m)) (λ p. anyBelow (B# m) (λ b. partTouches m l b (partOf m t l p))))
-      (λ l. any-swap (B# m) (suc (2 * n# m)) (λ b p. partTouches m l b (partOf m t l p)))
+      (λ l _. any-swap (B# m) (suc (2 * n# m)) (λ b p. partTouches m l b (partOf m t l p)))
 
   -- none at first
   pub no-part : (l b : ℕ) → partsTouch l b 0 ≡ false
   unfolding partsTouch
   no-part l b = any-none (λ p. partTouches m l b (partOf m t l p))
 
-  pub no-box : (l : ℕ) → boxesTouched l 0 ≡ false
+  no-box : (l : ℕ) → boxesTouched l 0 ≡ false
   unfolding boxesTouched
   no-box l = any-none (λ b. partsTouch l b (suc (2 * n# m)))
 
@@ -82,9 +72,9 @@ module _ (m t : List ℤ) where
   unfolding partsTouch
   part-more l b p e h = any-more (λ p. partTouches m l b (partOf m t l p)) p e h
 
-  pub box-more : (l b : ℕ) → boxesTouched l b ≡ false → partsTouch l b (suc (2 * n# m)) ≡ false → boxesTouched l (b + 1) ≡ false
-  unfolding boxesTouched
-  box-more l b e h = any-more (λ b. partsTouch l b (suc (2 * n# m))) b e h
+  box-less : (l b : ℕ) → partsTouch l b (suc (2 * n# m)) ≡ false → boxesTouched l (suc b) ≡ boxesTouched l b
+  unfolding boxesTouched anyBelow
+  box-less l b h = rw h (or-false (boxesTouched l b))
 
   pub location-more : (l : ℕ) → locationsTouch l ≡ false → boxesTouched l (B# m) ≡ false → locationsTouch (l + 1) ≡ false
   unfolding locationsTouch
@@ -101,16 +91,34 @@ module _ (m t : List ℤ) where
   none-elsewhere l b zero e = refl
   none-elsewhere l b (suc k) e = rw (none-elsewhere l b k e, elsewhere l b (partOf m t l k) e) refl
 
-  -- boxes of other locations passed
-  skip : (l b k : ℕ) → boxesTouched l b ≡ false → ((i : ℕ) → b ≤ i → i < b + k → eqb (forbiddenLocation m i) l ≡ false) → boxesTouched l (b + k) ≡ false
-  skip l b zero e h = subst (λ (x : ℕ). boxesTouched l x ≡ false) (omega arith) e
-  skip l b (suc k) e h = subst (λ (x : ℕ). boxesTouched l x ≡ false) (omega arith) (box-more l (b + k) (skip l b k e (λ i u v. h i u (omega arith))) (none-elsewhere l (b + k) (suc (2 * n# m)) (h (b + k) (omega arith) (omega arith))))
+  -- the last box of the location below k is touched, or one before it, if one below k is
+  up-to-last : (l k : ℕ) → boxesTouched l (lastBox m l k) ≡ boxesTouched l k
+  unfolding lastBox
+  up-to-last l zero = refl
+  up-to-last l (suc k) =
+      by-test (λ (b : ℕ). boxesTouched l b ≡ boxesTouched l (suc k)) (eqb (forbiddenLocation m k) l) (λ _. refl)
+      (λ t. up-to-last l k ∙ sym (box-less l k (none-elsewhere l k (suc (2 * n# m)) (is-false t))))
 
-  pub boxes-passed : {l b r : ℕ} → NextBox m l b r → boxesTouched l b ≡ false → boxesTouched l r ≡ false
-  boxes-passed {l} {b} {r} x e =
-      let d : ℕ = r - b in
-      let is : b + d ≡ r = omega (arith, x .from) in
-      subst (λ (k : ℕ). boxesTouched l k ≡ false) is (skip l b d e (λ i u v. ne-eqb (forbiddenLocation m i) l (x .passed i u (omega arith))))
+  -- of location l box b - 1 is left and those before it, or none at 0
+  pub record BoxesLeft (l b : ℕ) : Type 0 where
+    pub within : b ≤ B# m
+    pub own : 0 < b → forbiddenLocation m (b - 1) ≡ l
+    pub passed : boxesTouched l b ≡ boxesTouched l (B# m)
+
+  left-below : (l k : ℕ) → k ≤ B# m → boxesTouched l k ≡ boxesTouched l (B# m) → BoxesLeft l (lastBox m l k)
+  left-below l k u e = record { within = omega (arith, last-within m l k); own = last-own m l k; passed = up-to-last l k ∙ e }
+
+  pub all-left : (l : ℕ) {b : ℕ} → b ≡ lastBox m l (B# m) → BoxesLeft l b
+  all-left l e = subst (BoxesLeft l) (sym e) (left-below l (B# m) (omega arith) refl)
+
+  pub one-less : (l : ℕ) {b c : ℕ} → BoxesLeft l b → 0 < b → partsTouch l (b - 1) (suc (2 * n# m)) ≡ false → c ≡ lastBox m (forbiddenLocation m (b - 1)) (b - 1) → BoxesLeft l c
+  one-less l {b} h u e d =
+      let is : suc (b - 1) ≡ b = omega arith in
+      subst (BoxesLeft l) (sym (d ∙ ap (λ (x : ℕ). lastBox m x (b - 1)) (h .own u)))
+      (left-below l (b - 1) (omega (arith, h .within)) (sym (box-less l (b - 1) e) ∙ ap (boxesTouched l) is ∙ h .passed))
+
+  pub none-left : (l : ℕ) {b : ℕ} → BoxesLeft l b → b ≤ 0 → boxesTouched l (B# m) ≡ false
+  none-left l {b} h u = let is : b ≡ 0 = omega arith in sym (h .passed) ∙ ap (boxesTouched l) is ∙ no-box l
 
   -- the first touch
   pub found : (l p b : ℕ) → l < L# m → p < suc (2 * n# m) → b < B# m → partTouches m l b (partOf m t l p) ≡ true → touching m t ≡ true

@@ -1,50 +1,46 @@
--- Whether a part touches a forbidden box of its location, by the part's flag; and that the words of a part are ready to be
--- asked it.
-use mathlib.Core.Path.{_≡_, refl, sym, ap, _∙_, subst}
-use mathlib.Core.Bool.{Bool, true, false}
+-- Whether a part touches a forbidden box of its location, by the part's words; and that these are ready to be asked it.
+use mathlib.Core.Path.{_≡_, refl, ap, _∙_}
+use mathlib.Core.Bool.{Bool, true, false, _&&_}
 use mathlib.Core.List.{List}
 use Prim.Native.Nat.{ℕ, _*_, _<_, _≤_}
 use borrow.Author.Tests.{eq-eqb}
 use lib.IntN.{ℤ, pos}
 use Rattle.integers.specs.Words.{word, eqZ}
-use Rattle.integers.proofs.Counted.{true-is}
 use Rattle.plant.specs.Box.{boxAt}
 use Rattle.plant.specs.Model.{n#, L#, B#, invariant, rate, forbiddenLocation, forbiddenBox}
 use Rattle.plant.specs.Steps.{touches}
-use Rattle.plant.specs.Tables.{faceRead, tableOk, partOf, partTouches}
-use Rattle.plant.proofs.Passed.{passed}
-use Rattle.passes.specs.Ready.{TableReady}
+use Rattle.plant.specs.Tables.{faceRead, partOf, partTouches}
+use Rattle.plant.proofs.Passed.{Passed}
+use Rattle.passes.specs.Checked.{Checked}
 use Rattle.passes.specs.Parts.{partWords}
-use Rattle.passes.proofs.PartWords.{part-read, part-long, part-in}
-use Rattle.checks.specs.Ready.{PartReady}
+use Rattle.passes.proofs.PartWords.{invariant-in, rate-in, part-read}
+use Rattle.passes.proofs.Reading.{model-passed, part-ok}
+use Rattle.checks.specs.Ready.{TouchReady}
+use Rattle.checks.proofs.Ranges.{forbidden-in}
 
--- a part, and a forbidden box to ask it of
-pub part-ready : (m t : List ℤ) → TableReady m t → tableOk m t ≡ true → (l p b : ℕ) (part : List ℤ) → part ≡ partWords m t l p → l < L# m → p ≤ 2 * n# m → b < B# m → forbiddenLocation m b ≡ l → PartReady m l part b
-part-ready m t r valid l p b part e u v w x = subst (λ (s : List ℤ). PartReady m l s b) (sym e) (record {
-  passes = r .passes;
-  is-location = u;
-  is-box = w;
-  of-location = x;
-  part-length = part-long m t (passed m (r .passes)) (r .room) l u p v;
-  part-in = part-in m t (passed m (r .passes)) (r .room) l u (true-is valid) p v;
-})
+-- what was read of location l for its forbidden box b: the number of variables, invariant, rates, the box
+pub record BoxRead (m : List ℤ) (l b n : ℕ) (inv rates forbidden : List ℤ) : Type 0 where
+  pub n-is : n ≡ n# m
+  pub inv-is : inv ≡ invariant m l
+  pub rate-is : rates ≡ rate m l
+  pub box-is : forbidden ≡ forbiddenBox m b
+  pub of-location : forbiddenLocation m b ≡ l
 
--- ---- by the flag
+by-flag : (m : List ℤ) (l b : ℕ) (part : List ℤ) (t : Bool) → eqZ (word part 0) (pos 1) ≡ t → forbiddenLocation m b ≡ l → (t && touches (n# m) (invariant m l) (rate m l) (boxAt (n# m) part 1) (forbiddenBox m b)) ≡ partTouches m l b (faceRead (n# m) part 0)
+unfolding faceRead partTouches
+by-flag m l b part false e h = rw e refl
+by-flag m l b part true e h = rw (e, eq-eqb (forbiddenLocation m b) l h) refl
 
-module _ (m : List ℤ) (l b : ℕ) (part : List ℤ) where
-  pub absent-untouched : eqZ (word part 0) (pos 1) ≡ false → false ≡ partTouches m l b (faceRead (n# m) part 0)
-  unfolding faceRead partTouches
-  absent-untouched e = rw e refl
+module _ (m t : List ℤ) (l b p : ℕ) {n : ℕ} {inv rates forbidden part : List ℤ} (r : BoxRead m l b n inv rates forbidden) (part-is : part ≡ partWords m t l p) where
+  pub touch-ready : Checked m t → l < L# m → b < B# m → p ≤ 2 * n# m → TouchReady n inv rates part forbidden
+  touch-ready ok u v w =
+      let k : Passed m = model-passed m t ok in
+      rw (r .n-is, r .inv-is, r .rate-is, r .box-is, part-is) (record {
+        inv-in = invariant-in m k l u;
+        rate-in = rate-in m k l u;
+        part-ok = part-ok m t ok l p u w;
+        forbidden-in = forbidden-in m k b v;
+      })
 
-  module _ (e : eqZ (word part 0) (pos 1) ≡ true) where
-    pub present-touches : forbiddenLocation m b ≡ l → touches (n# m) (invariant m l) (rate m l) (boxAt (n# m) part 1) (forbiddenBox m b) ≡ partTouches m l b (faceRead (n# m) part 0)
-    unfolding faceRead partTouches
-    present-touches h = rw (e, eq-eqb (forbiddenLocation m b) l h) refl
-
--- of the part whose words they are
-pub part-touches-is : (m t : List ℤ) (l p b : ℕ) (part : List ℤ) {r : Bool} → r ≡ partTouches m l b (faceRead (n# m) part 0) → part ≡ partWords m t l p → r ≡ partTouches m l b (partOf m t l p)
-part-touches-is m t l p b part h e = h ∙ ap (λ (s : List ℤ). partTouches m l b (faceRead (n# m) s 0)) e ∙ ap (partTouches m l b) (part-read m t l p)
-
--- what code has in place of n, the invariant, ..
-pub touches-are : {n n′ : ℕ} {a a′ b b′ c c′ d d′ : List ℤ} {r : Bool} → r ≡ touches n a b c d → n ≡ n′ → a ≡ a′ → b ≡ b′ → c ≡ c′ → d ≡ d′ → r ≡ touches n′ a′ b′ c′ d′
-touches-are h e f g i j = cc
+  pub touched-is : {x : Bool} → x ≡ (eqZ (word part 0) (pos 1) && touches n inv rates (boxAt n part 1) forbidden) → x ≡ partTouches m l b (partOf m t l p)
+  touched-is e = e ∙ rw (r .n-is, r .inv-is, r .rate-is, r .box-is, part-is) (by-flag m l b (partWords m t l p) _ refl (r .of-location) ∙ ap (partTouches m l b) (part-read m t l p))

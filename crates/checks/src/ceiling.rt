@@ -60,7 +60,7 @@ pub fn ceiling_of(model: &[i32]) -> u64
     requires { ⌜ modelQuestions (now model) ≡ 0 ⌝ }
     ensures { λ r. ⌜ r ≡ ceilingOf (now (model .entry)) ⌝ }
 {
-    let locations = integers::number(model, 1);
+    let locations = records::locations(model);
     let mut sum: u64 = 0;
     let mut l: usize = 0;
     while l < locations {

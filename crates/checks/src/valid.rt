@@ -58,7 +58,7 @@ pub fn table_ok(model: &[i32], table: &[i32]) -> bool
     requires { ⌜ TableReady (now model) (now table) ⌝ }
     ensures { λ r. ⌜ r ≡ tableOk (now (model .entry)) (now (table .entry)) ⌝ }
 {
-    let locations = integers::number(model, 1);
+    let locations = records::locations(model);
     let mut ok = true;
     let mut l: usize = 0;
     while l < locations {

@@ -2,7 +2,7 @@
 -- is empty, or that no delay brings into its range, settles the test.
 use mathlib.Core.Path.{_≡_, refl, sym, ap, ap₂, _∙_, subst}
 use mathlib.Core.Logic.{⊎-elim}
-use mathlib.Core.Bool.{Bool, true, false, not, _&&_}
+use mathlib.Core.Bool.{Bool, true, false, not, _&&_, _||_}
 use mathlib.Core.List.{List}
 use Prim.Native.Nat.{ℕ, zero, suc, _+_, _≤_, _<_}
 use native.Mathlib.Numerals.{add-one}
@@ -12,12 +12,13 @@ use lib.IntN.{ℤ}
 use lib.Signed.{_≤ℤ_, ltZ}
 use Rattle.integers.specs.Rounding.{maxZ, minZ}
 use Rattle.integers.proofs.Parts.{arithZ}
+use Rattle.integers.proofs.Tests.{or-yes}
 use Rattle.integers.proofs.Counted.{split, is-true, is-false}
 use Rattle.plant.specs.declared.Interval.{Interval}
 use Rattle.plant.specs.declared.Delays.{Delays}
 use Rattle.plant.specs.declared.Delays.the-variants.{Between, Never}
 use Rattle.plant.specs.Box.{low, high, ordered, cut}
-use Rattle.plant.specs.Delays.{delaysInto, bothDelays, hasDelay, anyDelay, reachesEnd, shared}
+use Rattle.plant.specs.Delays.{noDelay, delaysInto, bothDelays, hasDelay, anyDelay, reachesEnd, shared}
 use Rattle.plant.specs.Steps.{delaysIntoBox, touches}
 use Rattle.plant.proofs.Boxes.{low-cut, high-cut, ordered-yes, ordered-intro}
 use Rattle.delays.specs.Ranges.{Level, LevelAt, RateAt, SmallInterval}
@@ -40,6 +41,10 @@ and-false : (s t : Bool) → t ≡ false → s && t ≡ false
 and-false true t e = e
 and-false false t e = refl
 
+never : (p q a c lo hi : ℤ) → noDelay p q a c lo hi ≡ true → delaysInto p q a c lo hi ≡ Never
+unfolding delaysInto
+never p q a c lo hi e = simp e
+
 -- ---- variable i
 
 -- its range of the box cut to the invariant, and the delays of the part into it
@@ -51,6 +56,9 @@ highest inv box i = minZ (high box i) (high inv i)
 
 abbrev pub delaysAt : (inv rate part box : List ℤ) → ℕ → Delays
 delaysAt inv rate part box i = delaysInto (low part i) (high part i) (low rate i) (high rate i) (lowest inv box i) (highest inv box i)
+
+abbrev pub noDelayAt : (inv rate part box : List ℤ) → ℕ → Bool
+noDelayAt inv rate part box i = noDelay (low part i) (high part i) (low rate i) (high rate i) (lowest inv box i) (highest inv box i)
 
 module _ {inv box : List ℤ} {i : ℕ} (v : LevelAt inv i) (b : LevelAt box i) where
   pub lowest-in : Level (lowest inv box i)
@@ -133,3 +141,10 @@ module _ (n : ℕ) (inv rate part box : List ℤ) where
   pub no-delay : (i : ℕ) → i < n → delaysAt inv rate part box i ≡ Never → touches n inv rate part box ≡ false
   unfolding touches hasDelay
   no-delay i l e = and-false (ordered n region) (hasDelay (delaysIntoBox rate part region n)) (ap hasDelay (never-stays i n l (omega arith) e))
+
+  -- the test of one variable by comparisons alone
+  pub ruled-out : (i : ℕ) → i < n → ltZ (highest inv box i) (lowest inv box i) || noDelayAt inv rate part box i ≡ true → touches n inv rate part box ≡ false
+  ruled-out i l e =
+      ⊎-elim (λ t. empty-cut i l (is-true t))
+      (λ t. no-delay i l (never (low part i) (high part i) (low rate i) (high rate i) (lowest inv box i) (highest inv box i) (is-true t)))
+      (or-yes (ltZ (highest inv box i) (lowest inv box i)) (noDelayAt inv rate part box i) (subst T (sym e) tt))

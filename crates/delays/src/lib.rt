@@ -1,5 +1,6 @@
 // The delays from a part to a wall or into a range, and whether a part touches a box (document 01, "Delays").
 ghost use mathlib.Core.Path.{_≡_};
+ghost use mathlib.Core.Bool.{true, false, cond};
 ghost use lib.IntN.{_-ℤ_};
 ghost use Rattle.integers.specs.Rounding.{maxZ, minZ};
 ghost use Rattle.plant.specs.Box.{low, high};
@@ -118,18 +119,29 @@ fn later(e: Fraction, f: Fraction) -> Fraction
     if le(e, f) { f } else { e }
 }
 
-// The sooner of two latest ends.
+// The earlier of two delays.
+fn earlier(e: Fraction, f: Fraction) -> Fraction
+    requires { ⌜ Small e × Small f ⌝ }
+    ensures { λ r. ⌜ r ≡ cond (leF e f) e f ⌝ }
+{
+    if le(e, f) { e } else { f }
+}
+
+// The sooner of two latest ends, built anew: handed on whole, an end is copied with its unused bytes.
 fn sooner(s: End, t: End) -> End
     requires { ⌜ SmallEnd s × SmallEnd t ⌝ }
     ensures { λ r. ⌜ r ≡ D.sooner s t ⌝ }
 {
-    let End::At(f) = s else {
-        return t;
-    };
-    let End::At(g) = t else {
-        return s;
-    };
-    if le(f, g) { s } else { t }
+    match s {
+        End::Endless => match t {
+            End::Endless => End::Endless,
+            End::At(g) => End::At(g),
+        },
+        End::At(f) => match t {
+            End::Endless => End::At(f),
+            End::At(g) => End::At(earlier(f, g)),
+        },
+    }
 }
 
 // The delays that two intervals share.
@@ -178,11 +190,38 @@ pub fn cut_high(a: &[i32], b: &[i32], i: usize) -> i64
     integers::smaller(integers::word(a, j), integers::word(b, j))
 }
 
+// Some variable rules a touch out by itself: its cut is empty, or no delay leads into it. Comparisons alone, no products: most
+// parts end here.
+fn ruled_out(n: usize, inv: &[i32], rate: &[i32], part: &[i32], forbidden: &[i32]) -> bool
+    requires { ⌜ Levels n (now inv) × Rates n (now rate) × Levels n (now part) × Levels n (now forbidden) ⌝ }
+    ensures { λ r. ⌜ (r ≡ true → Steps.touches n (now (inv .entry)) (now (rate .entry)) (now (part .entry)) (now (forbidden .entry)) ≡ false) ⌝ }
+{
+    let mut i = 0;
+    while i < n {
+        let lo = cut_low(forbidden, inv, i);
+        let hi = cut_high(forbidden, inv, i);
+        let k = 2 * i;
+        let j = k + 1;
+        let p = integers::word(part, k);
+        let q = integers::word(part, j);
+        let a = integers::word(rate, k);
+        let c = integers::word(rate, j);
+        if (hi < lo) | no_delay(p, q, a, c, lo, hi) {
+            return true;
+        }
+        i += 1;
+    }
+    false
+}
+
 // A part touches a forbidden box cut to the invariant: one delay serves all variables.
 pub fn touches(n: usize, inv: &[i32], rate: &[i32], part: &[i32], forbidden: &[i32]) -> bool
     requires { ⌜ Levels n (now inv) × Rates n (now rate) × Levels n (now part) × Levels n (now forbidden) ⌝ }
     ensures { λ r. ⌜ r ≡ Steps.touches n (now (inv .entry)) (now (rate .entry)) (now (part .entry)) (now (forbidden .entry)) ⌝ }
 {
+    if ruled_out(n, inv, rate, part, forbidden) {
+        return false;
+    }
     let mut window = Interval {
         earliest: Fraction { num: 0, den: 1 },
         latest: End::Endless,

@@ -1,2 +1,3 @@
-pub mod Counts
 pub mod Serving
+pub mod Answers
+pub mod Counts

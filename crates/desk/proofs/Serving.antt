@@ -7,13 +7,11 @@ use native.Mathlib.Omega.{arith}
 use borrow.Author.Tests.{leb-true, leb-false, lt-ltb, le-ltb, le-leb, lt-leb}
 use lib.Dec.{T, leb, ltb}
 use lib.IntN.{ℤ}
-use Rattle.plant.specs.Ask.{ask, _then_}
+use Rattle.plant.specs.Ask.{ask}
 use Rattle.plant.specs.declared.Answer.{Answer}
-use Rattle.plant.specs.declared.Answer.the-variants.{Safe, Unknown, Unfinished, Refused}
-use Rattle.plant.specs.Calls.{Reply, refused, answerReply, Analysed, analysis, passesOf, analysisQuestions, answered}
-use Rattle.plant.specs.Demands.{FirstIndex}
+use Rattle.plant.specs.Calls.{refused, answerReply, Analysed, analysis, passesOf, analysisQuestions, answered}
 use Rattle.plant.proofs.Asks.{go, halt, ask-intro, then-intro}
-use Rattle.plant.proofs.Search.{first-index}
+use Rattle.plant.proofs.Search.{within-limit}
 use Rattle.desk.specs.declared.Desk.{Desk}
 use Rattle.desk.specs.Desks.{most, countersOk, deskQuestions, Served, counted, deskBy, deskCall}
 
@@ -45,13 +43,6 @@ module _ (d : Desk) (limit : ℕ) where
     unfolding countersOk
     limit-fits = leb-true (d .passes + limit) most (both-true (leb (d .jobs + 1) most) (leb (d .passes + limit) most) room .1)
 
--- no answer makes more passes than the limit
-within : (m : List ℤ) (limit : ℕ) (a : Answer) → FirstIndex m limit a → answerReply a .value ≤ limit
-within m limit (Safe k) f = f .0
-within m limit (Unknown k) f = f .0
-within m limit (Unfinished k) f = omega (arith, f .0)
-within m limit (Refused k) f = absurd f
-
 -- ---- the cases
 
 module _ (d : Desk) (m : List ℤ) (limit : ℕ) (table work : List ℤ) where
@@ -81,7 +72,7 @@ module _ (d : Desk) (m : List ℤ) (limit : ℕ) (table work : List ℤ) where
       pub k-within : k ≤ limit
       k-within =
           let e : passesOf a ≡ passesOf (analysis m limit) = ap (λ (x : Analysed). x .reply .value) is in
-          omega (arith, made, e, within m limit (analysis m limit) (first-index m limit))
+          omega (arith, made, e, within-limit m limit)
 
       all-yes : 0 ≡ deskQuestions d m limit table work
       unfolding deskQuestions

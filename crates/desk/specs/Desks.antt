@@ -2,11 +2,11 @@
 use mathlib.Core.Path.{_≡_}
 use mathlib.Core.Bool.{Bool, cond, _&&_}
 use mathlib.Core.List.{List, [], _∷_}
-use Prim.Native.Nat.{ℕ, zero, suc, _+_}
-use lib.Dec.{leb}
+use Prim.Native.Nat.{ℕ, zero, suc, _+_, _≤_}
+use lib.Dec.{T, leb}
 use lib.IntN.{ℤ}
 use Rattle.plant.specs.Ask.{ask, _then_}
-use Rattle.plant.specs.Calls.{Reply, refused, Analysed, analysis, analysisQuestions, answered}
+use Rattle.plant.specs.Calls.{Reply, refused, Analysed, analysis, analysisQuestions, answered, analyseCall}
 use Rattle.desk.specs.declared.Desk.{Desk}
 
 -- a counter's largest number
@@ -40,6 +40,31 @@ deskBy (suc k) d m limit table work = record { desk = d; analysed = record { rep
 unfoldable pub deskCall : (d : Desk) (m : List ℤ) (limit : ℕ) (table work : List ℤ) → Served
 deskCall d m limit table work = deskBy (deskQuestions d m limit table work) d m limit table work
 
+-- ---- what every call at the desk keeps to
+
+-- both counters are numbers that a counter can hold
+pub record Holds (d : Desk) : Type 0 where
+  pub jobs-most : d .jobs ≤ most
+  pub passes-most : d .passes ≤ most
+
+-- an answered reply: safe, unknown or unfinished
+abbrev pub isAnswer : Reply → Bool
+isAnswer r = leb 100 (r .code)
+
+pub record DeskAnswers (d : Desk) (m : List ℤ) (limit : ℕ) (table work : List ℤ) : Type 0 where
+  -- where the counters can take the limit, the call is the analysis: the same reply, the same buffers, answered or refused
+  pub is-analysis : T (countersOk d limit) → deskCall d m limit table work .analysed ≡ analyseCall m limit table work
+  -- where they cannot, an analysis that would be answered is refused by 22, and nothing changes
+  pub full : (T (countersOk d limit) → ⊥) → analysisQuestions m table work ≡ 0
+      → deskCall d m limit table work ≡ record { desk = d; analysed = record { reply = refused 22; table = table; work = work } }
+  -- an answered call moves passes by the passes answered and jobs by 1, a refused one neither
+  pub passes-moved : let s = deskCall d m limit table work in s .desk .passes ≡ d .passes + cond (isAnswer (s .analysed .reply)) (s .analysed .reply .value) 0
+  pub jobs-moved : let s = deskCall d m limit table work in s .desk .jobs ≡ d .jobs + cond (isAnswer (s .analysed .reply)) 1 0
+  -- no call is charged more passes than its limit
+  pub within-limit : deskCall d m limit table work .desk .passes ≤ d .passes + limit
+  -- no counter runs over
+  pub stays : Holds d → Holds (deskCall d m limit table work .desk)
+
 -- ---- a list of desk calls, with any models, limits and buffers
 
 pub record Call : Type 0 where
@@ -61,10 +86,6 @@ unfoldable pub replies : Desk → List Call → List Reply
 replies d [] = []
 replies d (c ∷ cs) = serve d c .analysed .reply ∷ replies (serve d c .desk) cs
 
--- the answered ones: safe, unknown, unfinished
-abbrev pub isAnswer : Reply → Bool
-isAnswer r = leb 100 (r .code)
-
 -- how many answers there are among replies, and the sum of the passes answered
 unfoldable pub answersOf : List Reply → ℕ
 answersOf [] = 0
@@ -74,7 +95,9 @@ unfoldable pub passesOf : List Reply → ℕ
 passesOf [] = 0
 passesOf (r ∷ rs) = cond (isAnswer r) (r .value) 0 + passesOf rs
 
--- for every list of desk calls from a fresh desk: passes is the sum of the passes answered, jobs the number of answered calls
+-- for every list of desk calls from a fresh desk: passes is the sum of the passes answered, jobs the number of answered calls,
+-- and no counter has run over
 pub record DeskCounts (cs : List Call) : Type 0 where
   pub passes-sum : deskAfter freshDesk cs .passes ≡ passesOf (replies freshDesk cs)
   pub jobs-number : deskAfter freshDesk cs .jobs ≡ answersOf (replies freshDesk cs)
+  pub holds : Holds (deskAfter freshDesk cs)

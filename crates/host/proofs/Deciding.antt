@@ -1,68 +1,53 @@
 -- Decide's number and its byte buffer, from what the calls below it say.
-use mathlib.Core.Path.{_≡_, refl, sym, ap, ap₂, _∙_}
+use mathlib.Core.Path.{_≡_, refl, sym, ap, _∙_}
 use mathlib.Core.List.{List}
-use Prim.Native.Nat.{ℕ, zero, suc, _+_, _*_, _≤_, _<_}
+use Prim.Native.Nat.{ℕ, zero, suc, _≤_, _<_}
 use native.Mathlib.Omega.{arith}
 use lib.Dec.{leb, le→leb}
 use borrow.Author.Tests.{lt-leb}
 use lib.IntN.{ℤ, pos}
 use lib.ListN.{length, take, replicate, length-replicate}
-use lib.Seq.{length-take-le}
 use Rattle.integers.specs.Words.{onto}
-use Rattle.integers.proofs.Buffers.{take-onto, length-onto}
 use Rattle.plant.specs.declared.Answer.{Answer}
-use Rattle.plant.specs.Ask.{ask, orElse, _then_}
+use Rattle.plant.specs.Ask.{orElse, _then_}
 use Rattle.plant.specs.Questions.{modelQuestions}
-use Rattle.plant.specs.Tables.{tableSize, tableAfter}
-use Rattle.plant.specs.Calls.{Reply, refused, answerReply, Analysed, analysis, answerTable, answered, analysisQuestions, passesOf}
+use Rattle.plant.specs.Tables.{tableSize}
+use Rattle.plant.specs.Calls.{Reply, refused, answerReply, Analysed, analysis, answerTable, answered, passesOf}
 use Rattle.plant.proofs.Asks.{ask-intro}
-use Rattle.plant.proofs.Passed.{Passed, passed}
+use Rattle.plant.proofs.Passed.{passed}
 use Rattle.plant.proofs.Keeps.{after-length}
 use Rattle.model.proofs.Passing.{head-ready}
 use Rattle.tables.proofs.Faces.{table-most}
-use Rattle.analysis.proofs.Calls.{all-yes}
 use Rattle.table_files.specs.TableFile.{tableFile, longestTableFile}
 use Rattle.host.specs.Hosts.{modelOf, modelFileQuestions, packed, Decided, decided, decideBy, roomQuestion, decideCall}
-
--- the words that a call holds for a table
-abbrev pub held : List ℤ
-held = replicate 9984 (pos 0)
+use Rattle.host.proofs.Held.{Front, front}
 
 -- ---- once all questions are yes
 
-module _ (m : List ℤ) (asks : modelQuestions m ≡ 0) where
-  pub table-fits : tableSize m ≤ length held
-  table-fits = omega (arith, table-most m (head-ready m asks), length-replicate 9984 (pos 0))
-
-  pub asked : analysisQuestions m held held ≡ 0
-  asked = sym (all-yes m held held asks table-fits table-fits)
+-- the words that a call holds for a table are enough for the largest
+pub table-fits : (m : List ℤ) → modelQuestions m ≡ 0 → tableSize m ≤ length (replicate 9984 (pos 0))
+table-fits m asks = omega (arith, table-most m (head-ready m asks), length-replicate 9984 (pos 0))
 
 module _ (m : List ℤ) (asks : modelQuestions m ≡ 0) (limit : ℕ) where
   abbrev a : Answer
   a = analysis m limit
 
-  length-answer : length (answerTable m a) ≡ tableSize m
+  pub length-answer : length (answerTable m a) ≡ tableSize m
   unfolding answerTable
   length-answer = after-length m (passed m asks) (passesOf a)
 
-  module _ {q : Reply} {t w : List ℤ} (e : _≡_ {A = Analysed} (record { reply = q; table = t; work = w }) (answered m a held held)) where
+  -- with words lent for the table
+  module _ (table work : List ℤ) (fits : tableSize m ≤ length table) {q : Reply} {t w : List ℤ} (e : _≡_ {A = Analysed} (record { reply = q; table = t; work = w }) (answered m a table work)) where
     same-reply : packed q ≡ packed (answerReply a)
     same-reply = ap (λ (x : Analysed). packed (x .reply)) e
 
-    same-table : {size : ℕ} → size ≡ tableSize m → take size t ≡ answerTable m a
-    same-table {size} is-size = ap (take size) (ap (λ (x : Analysed). x .table) e) ∙ take-onto (answerTable m a) held size (length-answer ∙ sym is-size)
-
     -- the words of the table are lent to the writer
-    module _ {size : ℕ} (is-size : size ≡ tableSize m) where
-      pub size-there : size ≤ length t
-      size-there = omega (arith, table-fits m asks, is-size, length-answer, ap (λ (x : Analysed). length (x .table)) e, length-onto (answerTable m a) held (omega (arith, length-answer, table-fits m asks)))
-
-      pub size-taken : size ≡ length (take size t)
-      size-taken = sym (length-take-le size t size-there)
+    pub answer-front : {size : ℕ} → size ≡ tableSize m → Front t size (answerTable m a)
+    answer-front is-size = front table (ap (λ (x : Analysed). x .table) e) (length-answer ∙ sym is-size) (omega (arith, is-size, fits))
 
     pub is-decided : {size number : ℕ} (file : List ℕ) {after : List ℕ} → size ≡ tableSize m → number ≡ packed q → after ≡ onto (tableFile m (take size t)) file
         → _≡_ {A = Decided} (record { number = number; file = after }) (decided m a file)
-    is-decided {size} {number} file {after} is-size n f = rw (n, f, same-reply, same-table is-size) refl
+    is-decided {size} {number} file {after} is-size n f = rw (n, f, same-reply, answer-front is-size .are) refl
 
 -- ---- 39
 

@@ -1,3 +1,5 @@
+pub mod Held
 pub mod Reading
 pub mod Deciding
 pub mod Checking
+pub mod Demand

@@ -1,6 +1,5 @@
 -- Document 01, "Desk and host": the two calls of the host, on bytes. Each is one number, and decide's byte buffer besides, for
 -- every input. Both hold words of their own, always long enough for 5, 20 and 21: these are not asked.
-use mathlib.Core.Bool.{not}
 use mathlib.Core.List.{List}
 use Prim.Native.Nat.{ℕ, zero, suc, _+_, _*_}
 use lib.Dec.{leb}
@@ -12,10 +11,9 @@ use Rattle.plant.specs.declared.Answer.{Answer}
 use Rattle.plant.specs.Ask.{ask, _then_}
 use Rattle.plant.specs.Model.{headSize}
 use Rattle.plant.specs.Questions.{rangesQuestions, recordsQuestions}
-use Rattle.plant.specs.Tables.{touching}
-use Rattle.plant.specs.Calls.{Reply, refused, answerReply, unchanged, checkBy, analysis, answerTable}
+use Rattle.plant.specs.Calls.{Reply, refused, answerReply, certificateQuestions, checkBy, analysis, answerTable}
 use Rattle.model_files.specs.ModelFile.{headWords, bodyQuestions, fileWords}
-use Rattle.table_files.specs.TableFile.{tableFile, tableQuestions, fileTable, longestTableFile}
+use Rattle.table_files.specs.TableFile.{tableFile, tableFileQuestions, fileTable, longestTableFile}
 
 -- ---- the model
 
@@ -63,9 +61,8 @@ decideCall s file limit = decideBy (modelFileQuestions s then roomQuestion (mode
 -- of a table file: 35 to 38 and 32, then 33 and 34 of the table that it holds
 unfoldable pub certificateFileQuestions : (m : List ℤ) (t : List ℕ) → ℕ
 certificateFileQuestions m t =
-    tableQuestions m t
-    then ask (unchanged m (fileTable m t)) 33
-    then ask (not (touching m (fileTable m t))) 34
+    tableFileQuestions m t
+    then certificateQuestions m (fileTable m t)
 
 unfoldable pub hostCheckCall : (s t : List ℕ) → ℕ
 hostCheckCall s t = checkBy (modelFileQuestions s then certificateFileQuestions (modelOf s) t) .code

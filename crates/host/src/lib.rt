@@ -4,6 +4,7 @@ ghost use mathlib.Core.Bool.{true};
 ghost use Prim.Native.Nat.{_≤_};
 ghost use lib.ListN.{length};
 ghost use Rattle.plant.specs.Questions.{modelQuestions};
+ghost use Rattle.plant.specs.Tables.{tableSize};
 ghost use Rattle.plant.specs.Calls as C;
 ghost use Rattle.plant.specs.Calls.{answerReply, checkBy};
 ghost use Rattle.table_files.specs.TableFile.{longestTableFile};
@@ -31,18 +32,37 @@ fn pack_answer(answer: Answer) -> u64
     }
 }
 
-// The answer once all questions are yes, and the file of its table.
+// The answer once all questions are yes, and the file of its table, with words lent for the table and for the passes.
+fn answer_with(
+    model: &[i32],
+    file: &mut [u8],
+    limit: u32,
+    table: &mut [i32],
+    work: &mut [i32],
+) -> u64
+    requires { ⌜ (modelQuestions (now model) ≡ 0) × (longestTableFile (now model) ≤ length (now file)) × (tableSize (now model) ≤ length (now table)) × (tableSize (now model) ≤ length (now work)) ⌝ }
+    ensures { λ r. ⌜ record { number = r; file = now (file .exit) } ≡ decided (now (model .entry)) (C.analysis (now (model .entry)) limit) (now (file .entry)) ⌝ }
+{
+    let answer = analysis::analyse_passed(model, limit, table, work);
+    let size = tables::table_size(model);
+    table_files::put_table(model, &table[..size], file);
+    pack_answer(answer)
+}
+
+// The same with words held. They are cleared at each call: few for a small table.
 fn answer_file(model: &[i32], file: &mut [u8], limit: u32) -> u64
     requires { ⌜ (modelQuestions (now model) ≡ 0) × (longestTableFile (now model) ≤ length (now file)) ⌝ }
     ensures { λ r. ⌜ record { number = r; file = now (file .exit) } ≡ decided (now (model .entry)) (C.analysis (now (model .entry)) limit) (now (file .entry)) ⌝ }
 {
+    if tables::table_size(model) <= 1280 {
+        let mut table = [0i32; 1280];
+        let mut work = [0i32; 1280];
+        return answer_with(model, file, limit, &mut table, &mut work);
+    }
     // The largest table: 64 locations of 156 words.
     let mut table = [0i32; 9984];
     let mut work = [0i32; 9984];
-    let answer = analysis::analyse_passed(model, limit, &mut table, &mut work);
-    let size = tables::table_size(model);
-    table_files::put_table(model, &table[..size], file);
-    pack_answer(answer)
+    answer_with(model, file, limit, &mut table, &mut work)
 }
 
 // The words of a model that passes its questions: 39, then the answer.
@@ -73,17 +93,29 @@ pub extern "C" fn decide(model: &[u8], table: &mut [u8], limit: u32) -> u64
 
 // ---- check
 
-// 33 and 34 of a table that has been read: 100, or a refusal's number.
-fn check_words<'a>(model: &'a [i32], file: &'a [u8]) -> u64
-    requires { ⌜ modelQuestions (now model) ≡ 0 ⌝ }
+// 33 and 34 of a table that has been read, with words lent for it: 100, or a refusal's number.
+fn check_with<'a>(model: &'a [i32], file: &'a [u8], table: &mut [i32]) -> u64
+    requires { ⌜ (modelQuestions (now model) ≡ 0) × (tableSize (now model) ≤ length (now table)) ⌝ }
     ensures { λ r. ⌜ r ≡ checkBy (certificateFileQuestions (now (model .entry)) (now (file .entry))) .code ⌝ }
 {
-    let mut table = [0i32; 9984];
-    let read = table_files::read_faces(model, file, &mut table);
+    let read = table_files::read_faces(model, file, table);
     match read {
         Count::Done(size) => verdict_code(analysis::certificate_questions(model, &table[..size])),
         Count::Refused(q) => q as u64,
     }
+}
+
+// The same with words held: few for a small table.
+fn check_words<'a>(model: &'a [i32], file: &'a [u8]) -> u64
+    requires { ⌜ modelQuestions (now model) ≡ 0 ⌝ }
+    ensures { λ r. ⌜ r ≡ checkBy (certificateFileQuestions (now (model .entry)) (now (file .entry))) .code ⌝ }
+{
+    if tables::table_size(model) <= 1280 {
+        let mut table = [0i32; 1280];
+        return check_with(model, file, &mut table);
+    }
+    let mut table = [0i32; 9984];
+    check_with(model, file, &mut table)
 }
 
 // 100 if all questions are yes, else the number of the first that is not.

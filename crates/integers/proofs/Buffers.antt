@@ -1,13 +1,13 @@
 -- Laws of a buffer that is filled from the front, and of lists that stand one after the other.
 use mathlib.Core.Path.{_≡_, refl, sym, ap, _∙_}
 use mathlib.Core.List.{List, [], _∷_, _++_, append-assoc, append-nil}
-use Prim.Native.Nat.{ℕ, zero, suc, _+_, _-_, _*_, _≤_, _<_}
+use Prim.Native.Nat.{ℕ, zero, suc, _+_, _*_, _≤_, _<_}
 use native.Mathlib.Nat.{suc-mul, zero-mul, le-refl, not-suc-le-zero, le-of-suc-le-suc, eq-or-lt-of-le}
 use mathlib.Core.Logic.{⊎-elim}
 use native.Mathlib.Numerals.{add-one}
 use native.Mathlib.Omega.{arith}
-use lib.ListN.{length, getD, take-append-drop, drop, take, set, replicate, length-append, length-drop, length-replicate, replicate-append-replicate}
-use lib.Seq.{drop-cons, set-append-seam, append-snoc, drop-append-add, drop-drop, take-append-seam, drop-length, length-take-le, take-length, take-add, sets, sets-eq}
+use lib.ListN.{length, getD, take-append-drop, drop, take, set, replicate, length-append, length-drop, replicate-append-replicate}
+use lib.Seq.{drop-cons, set-append-seam, append-snoc, drop-append-add, drop-drop, take-append-seam, drop-length, length-take-le, take-add, take-take, sets, sets-eq}
 use Rattle.integers.specs.Words.{onto}
 use Rattle.integers.specs.Counted.{cat}
 
@@ -28,7 +28,7 @@ module _ {A : Type 0} where
   unfolding onto
   length-onto a d h = simp (length-append, length-drop) (omega arith)
 
-  -- a store at the first place that is not filled yet
+  -- a store at the first place that is not filled yet, and two
   pub onto-set : (a d : List A) (i : ℕ) (v : A) → length a ≡ i → i < length d → set (onto a d) i v ≡ onto (a ++ (v ∷ [])) d
   unfolding onto
   onto-set a d i v e h =
@@ -37,6 +37,12 @@ module _ {A : Type 0} where
       ∙ set-append-seam a (getD d (length a) v) (drop (suc (length a)) d) v
       ∙ sym (append-snoc a v (drop (suc (length a)) d))
       ∙ ap (λ (k : ℕ). (a ++ (v ∷ [])) ++ drop k d) (sym (length-append a (v ∷ []) ∙ add-one (length a))))
+
+  pub onto-two : (a d : List A) (i : ℕ) (v w : A) → length a ≡ i → i + 1 < length d → set (set (onto a d) i v) (i + 1) w ≡ onto (a ++ (v ∷ w ∷ [])) d
+  onto-two a d i v w e h =
+      ap (λ (s : List A). set s (i + 1) w) (onto-set a d i v e (omega arith))
+      ∙ onto-set (a ++ (v ∷ [])) d (i + 1) w (omega (arith, length-append a (v ∷ []))) h
+      ∙ ap (λ (s : List A). onto s d) (append-assoc a (v ∷ []) (w ∷ []))
 
   whole : (a d : List A) → a ++ drop (length a) d ≡ onto a d
   unfolding onto
@@ -68,11 +74,6 @@ module _ {A : Type 0} where
   unfolding cat
   cat-more k g = rw add-one refl
 
-  pub length-cat : (k m : ℕ) (g : ℕ → List A) → ((i : ℕ) → length (g i) ≡ m) → length (cat k g) ≡ k * m
-  unfolding cat
-  length-cat zero m g h = simp zero-mul
-  length-cat (suc k) m g h = length-append (cat k g) (g k) ∙ rw (length-cat k m g h, h k, suc-mul)
-
   pub replicate-more : (k : ℕ) (v : A) → replicate k v ++ (v ∷ []) ≡ replicate (k + 1) v
   replicate-more k v = replicate-append-replicate k 1 v
 
@@ -82,10 +83,10 @@ module _ {A : Type 0} where
   cat-ext zero g h e = refl
   cat-ext (suc k) g h e = rw (cat-ext k g h (λ i l. e i (omega arith)), e k (le-refl (suc k))) refl
 
-  pub length-cat-below : (k m : ℕ) (g : ℕ → List A) → ((i : ℕ) → i < k → length (g i) ≡ m) → length (cat k g) ≡ k * m
+  pub length-cat : (k m : ℕ) (g : ℕ → List A) → ((i : ℕ) → i < k → length (g i) ≡ m) → length (cat k g) ≡ k * m
   unfolding cat
-  length-cat-below zero m g h = simp zero-mul
-  length-cat-below (suc k) m g h = length-append (cat k g) (g k) ∙ rw (length-cat-below k m g (λ i l. h i (omega arith)), h k (le-refl (suc k)), suc-mul)
+  length-cat zero m g h = simp zero-mul
+  length-cat (suc k) m g h = length-append (cat k g) (g k) ∙ rw (length-cat k m g (λ i l. h i (omega arith)), h k (le-refl (suc k)), suc-mul)
 
   -- list i of the lists, with what stands before and after it
   pub cat-at : (g : ℕ → List A) (l i : ℕ) → i < l → (r : List A) × (cat l g ≡ cat i g ++ (g i ++ r))
@@ -122,3 +123,10 @@ module _ {A : Type 0} where
       sets-eq s d i h
       ∙ ap (λ (j : ℕ). (take i d ++ s) ++ drop j d) (sym (length-append (take i d) s ∙ ap (λ (j : ℕ). j + length s) (length-take-le i d (omega arith))))
       ∙ whole (take i d ++ s) d
+
+  -- a part within the first n places
+  pub part-front : (a k n : ℕ) (s : List A) → a + k ≤ n → take k (drop a (take n s)) ≡ take k (drop a s)
+  part-front zero k n s h = take-take k n s (omega arith)
+  part-front (suc a) k zero s h = absurd (omega arith)
+  part-front (suc a) k (suc n) [] h = refl
+  part-front (suc a) k (suc n) (x ∷ s) h = part-front a k n s (omega arith)

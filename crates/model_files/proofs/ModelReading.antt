@@ -36,7 +36,7 @@ run-passed s from count tag w e i l =
 
 pub length-run : (s : List ℕ) (from count w : ℕ) → length (runWords s from count w) ≡ count * w
 unfolding runWords
-length-run s from count w = length-cat count w (λ i. wordsAt s (fieldPlace from w i + 3) w) (λ i. length-words s (fieldPlace from w i + 3) w)
+length-run s from count w = length-cat count w (λ i. wordsAt s (fieldPlace from w i + 3) w) (λ i _. length-words s (fieldPlace from w i + 3) w)
 
 -- the loop that copies a run: before its first turn, and a turn at field i
 pub run-start : (s : List ℕ) (from w to : ℕ) (d : List ℤ) → to ≤ length d → d ≡ onto (take to d ++ runWords s from 0 w) d

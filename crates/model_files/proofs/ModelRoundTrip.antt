@@ -3,7 +3,7 @@
 use mathlib.Core.Path.{_≡_, refl, sym, ap, ap₂, _∙_}
 use mathlib.Core.Bool.{Bool}
 use mathlib.Core.List.{List, [], _++_, append-assoc, append-nil}
-use Prim.Native.Nat.{ℕ, zero, suc, _+_, _*_, _≤_, _<_}
+use Prim.Native.Nat.{ℕ, _+_, _*_, _≤_, _<_}
 use native.Mathlib.Omega.{arith}
 use lib.Dec.{T, leb, eqb, le→leb, eqb-refl}
 use lib.IntN.{ℤ, pos}
@@ -14,7 +14,7 @@ use mir.Val.{SFits}
 use Rattle.integers.specs.Words.{word, onto}
 use Rattle.integers.specs.Counted.{cat}
 use Rattle.integers.proofs.Tests.{and-intro}
-use Rattle.integers.proofs.Buffers.{cat-ext, cat-at, cat-parts, length-cat-below, take-onto}
+use Rattle.integers.proofs.Buffers.{cat-ext, cat-at, cat-parts, length-cat, take-onto}
 use Rattle.wire.specs.Bytes.{wordsAt, wordsBytes, part}
 use Rattle.wire.specs.Fields.{fieldAt, field, fieldPlace, isField}
 use Rattle.wire.specs.declared.Field.{Field}
@@ -27,13 +27,13 @@ use Rattle.plant.specs.Questions.{rangesQuestions, recordsQuestions, modelQuest
 use Rattle.plant.proofs.Asks.{ask-intro, ask-le, asked, then-both, then-intro, then-le, first-intro, first-le}
 use Rattle.plant.proofs.Numbers.{records-le, ranges-le}
 use Rattle.plant.proofs.Passed.{Passed, passed}
-use Rattle.plant.specs.Calls.{ReadOutcome, unlessRefused}
-use Rattle.plant.proofs.Reading.{past}
+use Rattle.plant.specs.Calls.{wordsRead}
+use Rattle.plant.proofs.Reading.{past, done}
 use Rattle.records.specs.Whole as model
 use Rattle.records.proofs.Positions.{head-first, location-within, switch-within, forbidden-within}
 use Rattle.model.proofs.Passing.{whole-passed}
 use Rattle.model_files.specs.ModelFile.{recordField, modelFile, hasTag, fieldQuestions, runQuestions, headWords, sizesQuestions, headQuestions, switchesFrom, forbiddensFrom, fileEnd, bodyQuestions, runWords, fileWords, readModelCall}
-use Rattle.model_files.specs.ModelFilesExact.{wordsRead, IsModelFile, ModelFilesExact}
+use Rattle.model_files.specs.ModelFilesExact.{IsModelFile, ModelFilesExact}
 use Rattle.model_files.proofs.Beginning.{records-yes}
 use Rattle.model_files.proofs.ModelReading.{SameHead, same-size, same-ranges, same-body, same-words, same-allowed, same-file, length-file, length-head, length-run, BodyPassed, body-passed, switches-at, forbiddens-at, words-end, sizes-room}
 
@@ -56,7 +56,7 @@ module _ {A : Type 0} where
       ap (λ (x : List A). p ++ (x ++ q)) (c .1)
       ∙ ap (λ (x : List A). p ++ x) (append-assoc (cat i g) (g i ++ c .0) q ∙ ap (λ (x : List A). cat i g ++ x) (append-assoc (g i) (c .0) q))
       ∙ sym (append-assoc p (cat i g) (g i ++ (c .0 ++ q))) in
-      let before : length (p ++ cat i g) ≡ at + i * w = omega (arith, length-append p (cat i g), length-cat-below i w g (λ j u. lens j (omega arith))) in
+      let before : length (p ++ cat i g) ≡ at + i * w = omega (arith, length-append p (cat i g), length-cat i w g (λ j u. lens j (omega arith))) in
       rw around (ap (take w) (drop-at (p ++ cat i g) (g i ++ (c .0 ++ q)) (at + i * w) before) ∙ take-at (g i) (c .0 ++ q) w (lens i l))
 
 -- ---- a run of fields that is written is read back
@@ -260,11 +260,6 @@ module _ (s : List ℕ) where
       (then-le _ _ 19 (run-le (forbiddensFrom h) (B# h) 4 (1 + 2 * n# h))
       (asks (eqb (length s) (fileEnd h)) 8 (omega arith))))
 
-not-refused : (k : ℕ) (words : List ℤ) (next : ReadOutcome) → k ≤ 19 → unlessRefused k words next .reply .code ≡ 100 → (k ≡ 0) × (unlessRefused k words next ≡ next)
-unfolding unlessRefused
-not-refused zero words next l e = (refl, refl)
-not-refused (suc k) words next l e = absurd (omega arith)
-
 -- ---- bytes that are read are the file of the words that they give
 
 -- the file of the words a, by the head words b
@@ -380,8 +375,8 @@ read-is-file : (s : List ℕ) (words : List ℤ) → ((i : ℕ) → getD s i 0 <
 unfolding readModelCall
 read-is-file s words b e =
     let h : List ℤ = headWords s in
-    let x = not-refused (headQuestions s (length words)) _ _ (head-le s (length words)) e in
-    let y = not-refused (bodyQuestions s h then recordsQuestions (fileWords s h)) _ _ (then-le _ _ 19 (body-le s h) (records-le (fileWords s h))) (rw (x .1) at e) in
+    let x = done (headQuestions s (length words)) _ _ (omega (arith, head-le s (length words))) e in
+    let y = done (bodyQuestions s h then recordsQuestions (fileWords s h)) _ _ (omega (arith, then-le _ _ 19 (body-le s h) (records-le (fileWords s h)))) (rw (x .1) at e) in
     let z : (bodyQuestions s h ≡ 0) × (recordsQuestions (fileWords s h) ≡ 0) = then-both (bodyQuestions s h) (recordsQuestions (fileWords s h)) (y .0) in
     let k = head-passed s (length words) (x .0) in
     rw (x .1 ∙ y .1, take-onto (fileWords s h) words (modelSize h) (length-file s h (length-head s)))

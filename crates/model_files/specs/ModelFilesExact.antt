@@ -9,12 +9,8 @@ use mir.Val.{SFits}
 use Rattle.integers.specs.Words.{word, onto}
 use Rattle.plant.specs.Model.{modelSize}
 use Rattle.plant.specs.Questions.{modelQuestions}
-use Rattle.plant.specs.Calls.{ReadOutcome}
+use Rattle.plant.specs.Calls.{wordsRead}
 use Rattle.model_files.specs.ModelFile.{modelFile, readModelCall}
-
--- the words that a call has read
-abbrev pub wordsRead : ReadOutcome → List ℤ
-wordsRead o = take (o .reply .value) (o .words)
 
 -- the bytes s are the file of the words m, which pass the questions and are a model's and no more
 pub record IsModelFile (s : List ℕ) (m : List ℤ) : Type 0 where

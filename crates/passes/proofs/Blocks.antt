@@ -10,8 +10,8 @@ use lib.Seq.{take-at, drop-at, drop-drop}
 use borrow.Rule.Slice.PartMut.{midOf, putMid, mid-len}
 use Rattle.integers.specs.Words.{onto}
 use Rattle.integers.specs.Counted.{cat}
-use Rattle.integers.proofs.Counted.{split, length-cat, cat-ext}
-use Rattle.integers.proofs.Buffers.{onto-none, onto-all, length-onto, cat-none, cat-more}
+use Rattle.integers.proofs.Counted.{split}
+use Rattle.integers.proofs.Buffers.{onto-none, onto-all, length-onto, cat-none, cat-more, length-cat, cat-ext}
 
 -- a part in a list that is put together
 pub put-between : (p x q z : List ℤ) (at k : ℕ) → length p ≡ at → length x ≡ k → putMid at k (p ++ (x ++ q)) z ≡ p ++ (z ++ q)
@@ -75,6 +75,11 @@ module _ (w : ℕ) (g : ℕ → List ℤ) (sized : (i : ℕ) → length (g i) �
     -- the next one's place is w words
     pub place-length : length (midOf at (end - at) ws) ≡ w
     place-length = mid-len at end ws (omega (arith, put-length i filled (omega arith))) ∙ omega arith
+
+    -- and has still the words of d
+    pub place-rest : midOf at (end - at) ws ≡ midOf at (end - at) d
+    unfolding onto
+    place-rest = rw (filled, at-is) (ap (take (end - i * w)) (drop-at (cat i g) (drop (length (cat i g)) d) (i * w) (filled-length i) ∙ ap (λ (k : ℕ). drop k d) (filled-length i)))
 
     pub one-put : {s : List ℤ} → s ≡ g i → putMid at (end - at) ws s ≡ onto (cat (i + 1) g) d
     one-put e = rw (e, filled) (put-next (cat i g) d (g i) at end (omega (arith, filled-length i)) (omega (arith, sized i)) (omega arith) inside ∙ ap (λ (s : List ℤ). onto s d) (sym (cat-more i g)))

@@ -21,7 +21,7 @@ use Rattle.plant.proofs.Tables.{ends, words-ends}
 use Rattle.tables.proofs.Faces.{join-words}
 use Rattle.passes.specs.Joining.{IsFace, joinedWith}
 
-read-words : (n : ℕ) (g : Face) → faceRead n (faceWords n g) 0 ≡ ends n g
+pub read-words : (n : ℕ) (g : Face) → faceRead n (faceWords n g) 0 ≡ ends n g
 unfolding faceRead faceWords boxAt
 read-words n absent = ap (λ (z : ℤ). cond (eqZ z (pos 1)) (present (take (2 * n) (drop 1 (faceWords n absent)))) absent) (getD-replicate (1 + 2 * n) 0 (pos 0) (pos 0) (omega arith))
 read-words n (present b) = ap present (take-all (2 * n) (boxBy n (low b) (high b)) (omega (arith, length-boxBy n (low b) (high b))))

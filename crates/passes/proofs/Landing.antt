@@ -11,7 +11,7 @@ use lib.ListN.{length, length-append}
 use borrow.Author.Tests.{eq-eqb}
 use borrow.Rule.Slice.PartMut.{midOf, putMid}
 use Rattle.integers.specs.Counted.{cat}
-use Rattle.integers.proofs.Counted.{length-cat, cat-ext}
+use Rattle.integers.proofs.Buffers.{length-cat, cat-ext}
 use Rattle.plant.specs.Box.{Face, absent, faceWords, join, joins}
 use Rattle.plant.specs.Model.{n#, L#, E#, target}
 use Rattle.plant.specs.Tables.{wordsPerLocation, faceSize, faceAt, tableBy, faceOf, targetFace, switchOnto, wallsJoined, newFace, pass}

@@ -2,24 +2,25 @@
 -- invariant.
 use mathlib.Core.Path.{_≡_, refl, sym, ap, ap₂, _∙_, subst}
 use mathlib.Core.Bool.{Bool, cond}
-use mathlib.Core.List.{List, [], _∷_}
-use Prim.Native.Nat.{ℕ, zero, suc, _+_, _*_, _-_, _<_, _≤_}
+use mathlib.Core.Logic.{⊎-elim}
+use mathlib.Core.List.{List, []}
+use Prim.Native.Nat.{ℕ, zero, suc, _+_, _*_, _-_, _/_, _%_, _<_, _≤_}
 use native.Mathlib.Nat.{le-refl}
 use native.Mathlib.Omega.{arith}
 use lib.Dec.{T}
 use lib.IntN.{ℤ, pos}
 use lib.ListN.{length, take, drop, length-drop}
-use lib.Seq.{getD-take, getD-drop, drop-drop, take-take, take-nil, length-take-le}
+use lib.Seq.{getD-take, getD-drop, drop-drop, take-take, length-take-le}
 use Rattle.integers.specs.Words.{word, eqZ}
-use Rattle.integers.proofs.Counted.{eqZ-intro, is-true}
-use Rattle.delays.specs.Ranges.{Levels, Rates}
+use Rattle.integers.proofs.Counted.{eqZ-intro, is-true, split}
+use Rattle.delays.specs.Ranges.{Level, Levels, Rates}
 use Rattle.plant.specs.Box.{low, high, boxAt, absent, present}
 use Rattle.plant.specs.Model.{n#, L#, locationAt, invariant, rate, startFlag, startBox}
 use Rattle.plant.specs.Questions.{modelQuestions}
 use Rattle.plant.specs.Tables.{wordsPerLocation, faceSize, tableSize, faceAt, faceRead, faceOf, tableOk, startPart, partOf}
 use Rattle.plant.proofs.Boxes.{FaceAll, length-boxAt}
 use Rattle.plant.proofs.Passed.{InRange, Passed, LocationPassed, passed}
-use Rattle.plant.proofs.Tables.{filled, face-inside, OkBox, ok-valid}
+use Rattle.plant.proofs.Tables.{take-behind, filled, face-inside, OkBox, ok-valid}
 use Rattle.records.specs.Whole.{Whole}
 use Rattle.records.proofs.Positions.{location-within, length-invariant, length-rate, length-startBox}
 use Rattle.model.proofs.Passing.{whole-passed}
@@ -36,6 +37,14 @@ pub levels-from : (n : ℕ) (b : List ℤ) → length b ≡ 2 * n → InRange (2
 unfolding low high
 levels-from n b e h i l = record { there = omega arith; low-in = h (2 * i) (omega arith); high-in = h (2 * i + 1) (omega arith) }
 
+-- a bound of a box of levels is a level
+pub level-at : (n : ℕ) (b : List ℤ) → Levels n b → (f : ℕ) → f < 2 * n → Level (word b f)
+unfolding low high
+level-at n b h f u = ⊎-elim
+    (λ v. let e : f ≡ 2 * (f / 2) = omega arith in rw e (h (f / 2) (omega arith) .low-in))
+    (λ v. let e : f ≡ 2 * (f / 2) + 1 = omega arith in rw e (h (f / 2) (omega arith) .high-in))
+    (split (f % 2) 1 (omega arith))
+
 rates-from : (n : ℕ) (b : List ℤ) → length b ≡ 2 * n → InRange (2 * n) 1000 b → Rates n b
 unfolding low high
 rates-from n b e h i l = record { there = omega arith; low-in = h (2 * i) (omega arith); high-in = h (2 * i + 1) (omega arith) }
@@ -49,10 +58,6 @@ module _ (m : List ℤ) (ok : Passed m) where
 
 -- ---- the words of a face that stands at a place
 
-behind : (k : ℕ) (s : List ℤ) → take k (drop 1 s) ≡ drop 1 (take (suc k) s)
-behind k [] = take-nil k
-behind k (x ∷ xs) = refl
-
 module _ (n : ℕ) (s : List ℤ) (at : ℕ) where
   flag-there : word (take (faceSize n) (drop at s)) 0 ≡ word s at
   flag-there = getD-take (faceSize n) (drop at s) 0 (pos 0) (omega arith) ∙ getD-drop at s 0 (pos 0) ∙ ap (word s) (omega arith)
@@ -64,11 +69,11 @@ module _ (n : ℕ) (s : List ℤ) (at : ℕ) where
   unfolding boxAt
   box-there =
       ap (λ (k : ℕ). take (2 * n) (drop 1 (take k (drop at s)))) one-more
-      ∙ ap (take (2 * n)) (sym (behind (2 * n) (drop at s)))
+      ∙ ap (take (2 * n)) (sym (take-behind (2 * n) (drop at s)))
       ∙ take-take (2 * n) (2 * n) (drop 1 (drop at s)) (le-refl (2 * n))
       ∙ ap (take (2 * n)) (drop-drop 1 at s)
 
-  face-there : faceRead n (take (faceSize n) (drop at s)) 0 ≡ faceRead n s at
+  pub face-there : faceRead n (take (faceSize n) (drop at s)) 0 ≡ faceRead n s at
   unfolding faceRead
   face-there = ap₂ (λ (z : ℤ) (b : List ℤ). cond (eqZ z (pos 1)) (present b) absent) flag-there box-there
 

@@ -1,13 +1,13 @@
 -- What the code that joins a step to a face asks of the words that it is lent, and the words that it leaves.
 use mathlib.Core.Path.{_≡_}
 use mathlib.Core.List.{List}
-use Prim.Native.Nat.{ℕ, _+_, _*_, _<_, _≤_}
+use Prim.Native.Nat.{ℕ, _*_, _<_, _≤_}
 use lib.IntN.{ℤ, pos}
 use lib.ListN.{length}
 use Rattle.integers.specs.Words.{word}
 use Rattle.integers.specs.Counted.{cat}
 use Rattle.plant.specs.Box.{boxAt, Face, onBox, faceWords, join}
-use Rattle.plant.specs.Model.{n#, source}
+use Rattle.plant.specs.Model.{n#, source, variableOf}
 use Rattle.plant.specs.Steps.{wallStep}
 use Rattle.plant.specs.Tables.{faceSize, tableBy, faceRead, faceOf, sourceFace, switchStepAt, switchOnto}
 use Rattle.delays.specs.Ranges.{Level, Levels, Rates}
@@ -22,14 +22,42 @@ pub record PartOk (n : ℕ) (part : List ℤ) : Type 0 where
 abbrev pub IsFace : ℕ → List ℤ → Type 0
 IsFace n face = faceWords n (faceRead n face 0) ≡ face
 
--- a wall step from a part to the value b of variable d
-pub record WallJoin (n : ℕ) (inv rate part : List ℤ) (d : ℕ) (b : ℤ) (face : List ℤ) : Type 0 where
+-- the words of a location with the faces g
+abbrev pub locationBy : ℕ → (ℕ → Face) → List ℤ
+locationBy n g = cat (2 * n) (λ f. faceWords n (g f))
+
+-- face f of a location's words
+abbrev pub faceIn : ℕ → List ℤ → ℕ → Face
+faceIn n block f = faceRead n block (f * faceSize n)
+
+-- the words are those of a location of n variables
+abbrev pub IsLocation : ℕ → List ℤ → Type 0
+IsLocation n block = locationBy n (faceIn n block) ≡ block
+
+-- a wall step from a box to the value b of variable d
+pub record WallJoin (n : ℕ) (inv rate bounds : List ℤ) (d : ℕ) (b : ℤ) (face : List ℤ) : Type 0 where
+  pub n-small : n ≤ 6
   pub inv-in : Levels n inv
   pub rate-in : Rates n rate
-  pub part-ok : PartOk n part
+  pub bounds-in : Levels n bounds
   pub variable : d < n
   pub wall-in : Level b
   pub is-face : IsFace n face
+
+-- the wall steps from a box to all faces of a location
+pub record WallsJoin (n : ℕ) (inv rate bounds block : List ℤ) : Type 0 where
+  pub n-small : n ≤ 6
+  pub inv-in : Levels n inv
+  pub rate-in : Rates n rate
+  pub bounds-in : Levels n bounds
+  pub is-location : IsLocation n block
+
+-- those from a part
+pub record PartJoin (n : ℕ) (inv rate part block : List ℤ) : Type 0 where
+  pub inv-in : Levels n inv
+  pub rate-in : Rates n rate
+  pub part-ok : PartOk n part
+  pub is-location : IsLocation n block
 
 -- a switch step from the source's face
 pub record SwitchJoin (n : ℕ) (guard reset inv from face : List ℤ) : Type 0 where
@@ -43,13 +71,16 @@ pub record SwitchJoin (n : ℕ) (guard reset inv from face : List ℤ) : Type 0 
 abbrev pub joinedWith : ℕ → List ℤ → Face → List ℤ
 joinedWith n face g = faceWords n (join n (faceRead n face 0) g)
 
--- the wall step from a part
-abbrev pub wallOf : (n : ℕ) (inv rate : List ℤ) (d : ℕ) (b : ℤ) → Face → Face
-wallOf n inv rate d b g = onBox g (λ p. wallStep n inv rate p d b)
+-- the words of a location, each face f joined with the face h f
+abbrev pub joinedAll : ℕ → List ℤ → (ℕ → Face) → List ℤ
+joinedAll n block h = locationBy n (λ f. join n (faceIn n block f) (h f))
 
--- the words of a location with the faces g
-abbrev pub locationBy : ℕ → (ℕ → Face) → List ℤ
-locationBy n g = cat (2 * n) (λ f. faceWords n (g f))
+-- the wall steps from a box, and from a part, to each face f
+abbrev pub wallsOf : (n : ℕ) (inv rate bounds : List ℤ) → ℕ → Face
+wallsOf n inv rate bounds f = wallStep n inv rate bounds (variableOf f) (word inv f)
+
+abbrev pub wallsFrom : (n : ℕ) (inv rate : List ℤ) → Face → ℕ → Face
+wallsFrom n inv rate g f = onBox g (λ b. wallsOf n inv rate b f)
 
 -- the words are those of a table
 abbrev pub IsTable : List ℤ → List ℤ → Type 0

@@ -25,12 +25,3 @@ pub fn part_at<'a>(
         tables::face(table, faces + (p - 1) * (1 + 2 * n), n)
     }
 }
-
-// Part p of location l.
-pub fn part<'a>(model: &'a [i32], table: &'a [i32], l: usize, p: usize) -> &'a [i32]
-    requires { ⌜ TableReady (now model) (now table) × (l < L# (now model)) × (p ≤ 2 * n# (now model)) ⌝ }
-    ensures { λ r. ⌜ now r ≡ partWords (now (model .entry)) (now (table .entry)) l p ⌝ }
-{
-    let faces = tables::face_at(records::variables(model), l, 0);
-    part_at(model, table, l, faces, p)
-}

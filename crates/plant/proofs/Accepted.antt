@@ -1,7 +1,7 @@
 -- The checker and the tables of the passes: an accepted list of words holds every table k, so it touches what they touch;
 -- and a table that repeats and touches nothing is accepted, whatever words follow it.
 use mathlib.Core.Path.{_≡_, refl, sym, ap, _∙_, subst}
-use mathlib.Core.Bool.{Bool, true, false, not}
+use mathlib.Core.Bool.{not}
 use mathlib.Core.List.{List}
 use Prim.Native.Nat.{ℕ, zero, suc, _*_, _<_, _≤_}
 use native.Mathlib.Omega.{arith}
@@ -10,14 +10,15 @@ use lib.IntN.{ℤ}
 use lib.ListN.{length, take}
 use Rattle.integers.specs.Words.{onto}
 use Rattle.integers.proofs.Counted.{same-eq, same-intro}
-use Rattle.plant.specs.Ask.{ask, orElse, _then_}
+use Rattle.plant.specs.Ask.{ask}
 use Rattle.plant.specs.Box.{Face}
 use Rattle.plant.specs.Model.{n#, L#}
 use Rattle.plant.specs.Questions.{modelQuestions}
 use Rattle.plant.specs.Tables.{tableSize, tableOk, faceOf, newFace, pass, tableAfter, touching}
-use Rattle.plant.specs.Calls.{unchanged, checkerQuestions, checkBy, checkCall}
+use Rattle.plant.specs.Calls.{unchanged, certificateQuestions, tableQuestions, checkerQuestions, checkBy, checkCall}
 use Rattle.plant.specs.Demands.{Accepts, Touches, Repeats}
 use Rattle.plant.proofs.Asks.{ask-yes, ask-intro, ask-le, asked, then-both, then-intro, then-le}
+use Rattle.plant.proofs.Numbers.{model-le}
 use Rattle.plant.proofs.Boxes.{FaceIn, face-eq, face-trans, face-antisym}
 use Rattle.plant.proofs.Passed.{Passed, passed}
 use Rattle.plant.proofs.Tables.{filled, Begins, ends, ends-in, in-ends, long-enough, face-read, table-ext, Valid, ok-valid, made-valid, made-ok}
@@ -29,16 +30,24 @@ use Rattle.plant.proofs.Sound.{Closed}
 -- ---- the number of a refusal
 
 -- no refusal of the checker is 100
-checker-le : (q : ℕ) (long ok fixed clear : Bool) → q ≡ 0 → (q then ask long 20 then ask ok 32 then ask fixed 33 then ask clear 34) ≤ 34
-checker-le q long ok fixed clear asks =
-    then-le q _ 34 (omega (arith, asks))
-    (then-le (ask long 20) _ 34 (omega (arith, ask-le long 20))
-    (then-le (ask ok 32) _ 34 (omega (arith, ask-le ok 32))
-    (then-le (ask fixed 33) _ 34 (omega (arith, ask-le fixed 33)) (ask-le clear 34))))
+pub certificate-le : (m t : List ℤ) → certificateQuestions m t ≤ 34
+unfolding certificateQuestions
+certificate-le m t = then-le (ask (unchanged m t) 33) _ 34 (omega (arith, ask-le (unchanged m t) 33)) (ask-le (not (touching m t)) 34)
 
-accepted-code : (q : ℕ) → q ≤ 34 → checkBy q .code ≡ 100 → q ≡ 0
+checker-le : (m t : List ℤ) → checkerQuestions m t ≤ 34
+unfolding checkerQuestions tableQuestions
+checker-le m t =
+    then-le (modelQuestions m) _ 34 (omega (arith, model-le m))
+    (then-le (ask (leb (tableSize m) (length t)) 20) _ 34 (omega (arith, ask-le (leb (tableSize m) (length t)) 20))
+    (then-le (ask (tableOk m t) 32) _ 34 (omega (arith, ask-le (tableOk m t) 32)) (certificate-le m t)))
+
+pub accepted-code : (q : ℕ) → q < 100 → checkBy q .code ≡ 100 → q ≡ 0
 accepted-code zero l e = refl
 accepted-code (suc q) l e = absurd (omega arith)
+
+pub accepts-yes : (m t : List ℤ) → Accepts m t → checkerQuestions m t ≡ 0
+unfolding checkCall
+accepts-yes m t h = accepted-code (checkerQuestions m t) (omega (arith, checker-le m t)) h
 
 -- ---- an accepted list of words
 
@@ -61,9 +70,9 @@ module _ (m : List ℤ) (asks : modelQuestions m ≡ 0) where
   }
 
   pub accepted : (t : List ℤ) → Accepts m t → Accepted m t
-  unfolding checkCall checkerQuestions
+  unfolding checkerQuestions tableQuestions certificateQuestions
   accepted t h =
-      let a : _ × _ = then-both (modelQuestions m) _ (accepted-code (checkerQuestions m t) (checker-le (modelQuestions m) (leb (tableSize m) (length t)) (tableOk m t) (unchanged m t) (not (touching m t)) asks) h) in
+      let a : _ × _ = then-both (modelQuestions m) _ (accepts-yes m t h) in
       let b : _ × _ = asked (leb (tableSize m) (length t)) 20 _ (omega arith) (a .1) in
       let c : T (tableOk m t) × _ = asked (tableOk m t) 32 _ (omega arith) (b .1) in
       let d : T (unchanged m t) × _ = asked (unchanged m t) 33 _ (omega arith) (c .1) in
@@ -105,7 +114,7 @@ module _ (m : List ℤ) (asks : modelQuestions m ≡ 0) where
 
   -- with any words put behind it
   pub repeats-accepted : (k : ℕ) → (Touches m k → ⊥) → Repeats m k → (s : List ℤ) → Accepts m (onto (tableAfter m k) s)
-  unfolding checkCall checkerQuestions unchanged
+  unfolding checkCall checkerQuestions tableQuestions certificateQuestions unchanged
   repeats-accepted k clear repeats s = ap (λ (q : ℕ). checkBy q .code)
       (then-intro asks
       (then-intro (ask-intro (leb (tableSize m) (length t)) 20 (le→leb (tableSize m) (length t) (long-enough m (filled m ok) t (facesAfter m k) begins)))

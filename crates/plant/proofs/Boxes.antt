@@ -16,7 +16,8 @@ use Rattle.integers.specs.Words.{word}
 use Rattle.integers.proofs.Order.{trans, antisym, mul-monoℕ, cancelℕ}
 use Rattle.integers.proofs.Extremes.{max-left, max-right, max-least, min-left, min-right, min-greatest}
 use Rattle.integers.proofs.Tests.{by-test, by-test₂}
-use Rattle.integers.proofs.Counted.{split, all-yes, all-intro, length-cat, cat-at, cat-ext}
+use Rattle.integers.proofs.Counted.{split, all-yes, all-intro, cat-at}
+use Rattle.integers.proofs.Buffers.{length-cat, cat-ext}
 use Rattle.plant.specs.Box.{low, high, boxBy, boxAt, ordered, Ordered, Inside, cut, hull, Face, absent, present, unlessEmpty, onBox, faceWords, join, joins}
 use Rattle.plant.specs.Model.{masked}
 use Rattle.plant.specs.Steps.{setMasked}

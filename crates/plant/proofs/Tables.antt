@@ -15,7 +15,8 @@ use lib.Seq.{getD-take, getD-drop, drop-drop, length-take-le, take-all, take-nil
 use Rattle.integers.specs.Words.{word, eqZ, onto}
 use Rattle.integers.specs.Counted.{cat, allBelow}
 use Rattle.integers.proofs.Tests.{by-test, and-yes, and-intro, or-yes, or-intro}
-use Rattle.integers.proofs.Counted.{all-yes, all-intro, or-right, length-cat, cat-at, cat-ext, eqZ-eq, eqZ-intro}
+use Rattle.integers.proofs.Counted.{all-yes, all-intro, or-right, cat-at, eqZ-eq, eqZ-intro}
+use Rattle.integers.proofs.Buffers.{length-cat, cat-ext}
 use Rattle.plant.specs.Box.{low, high, boxBy, boxAt, Ordered, Inside, Face, absent, present, faceWords}
 use Rattle.plant.specs.Model.{n#, L#, invariant, variableOf, faceWall}
 use Rattle.plant.specs.Questions.{insideOk, zerosOk}
@@ -75,7 +76,7 @@ words-ends n (present b) = ap (λ (s : List ℤ). pos 1 ∷ s) (box-ext n (low (
 abbrev faceFrom : List ℤ → Face
 faceFrom s = cond (eqZ (word s 0) (pos 1)) (present (drop 1 s)) absent
 
-take-behind : (k : ℕ) (s : List ℤ) → take k (drop 1 s) ≡ drop 1 (take (suc k) s)
+pub take-behind : (k : ℕ) (s : List ℤ) → take k (drop 1 s) ≡ drop 1 (take (suc k) s)
 take-behind k [] = take-nil k
 take-behind k (x ∷ xs) = refl
 

@@ -1,6 +1,6 @@
 -- Document 01, "Checker", "Analysis" and the ceiling as calls: the number, the values and every lent word, for every input.
 -- And what the calls on files give.
-use mathlib.Core.Bool.{Bool, true, false, cond, not}
+use mathlib.Core.Bool.{Bool, cond, not}
 use mathlib.Core.List.{List}
 use Prim.Native.Nat.{ℕ, zero, suc}
 use lib.Dec.{leb}
@@ -60,13 +60,23 @@ ceilingCall m = ceilingBy m (modelQuestions m)
 unfoldable pub unchanged : List ℤ → List ℤ → Bool
 unchanged m t = same (pass m t) (take (tableSize m) t)
 
+-- 33 and 34, asked of a table that passes 32
+unfoldable pub certificateQuestions : List ℤ → List ℤ → ℕ
+certificateQuestions m t =
+    ask (unchanged m t) 33
+    then ask (not (touching m t)) 34
+
+-- 32 to 34, asked of a model that passes and of words that are enough for a table
+unfoldable pub tableQuestions : List ℤ → List ℤ → ℕ
+tableQuestions m t =
+    ask (tableOk m t) 32
+    then certificateQuestions m t
+
 unfoldable pub checkerQuestions : List ℤ → List ℤ → ℕ
 checkerQuestions m t =
     modelQuestions m
     then ask (leb (tableSize m) (length t)) 20
-    then ask (tableOk m t) 32
-    then ask (unchanged m t) 33
-    then ask (not (touching m t)) 34
+    then tableQuestions m t
 
 abbrev pub checkBy : ℕ → Reply
 checkBy zero = record { code = 100; value = 0 }
@@ -133,6 +143,10 @@ countReply (count.Refused k) = refused k
 pub record ReadOutcome : Type 0 where
   pub reply : Reply
   pub words : List ℤ
+
+-- the words that a call has read
+abbrev pub wordsRead : ReadOutcome → List ℤ
+wordsRead o = take (o .reply .value) (o .words)
 
 -- refused by k with the buffer as given, or what follows where k is 0
 unfoldable pub unlessRefused : ℕ → List ℤ → ReadOutcome → ReadOutcome

@@ -1,7 +1,6 @@
 -- The mission's demands, as statements about the definitions that the contracts of ceiling, check and analyse cite.
 use mathlib.Core.Path.{_≡_}
 use mathlib.Core.Logic.{_↔_, _⊎_}
-use mathlib.Core.Bool.{Bool, true, false, not}
 use mathlib.Core.List.{List}
 use Prim.Native.Nat.{ℕ, suc, _≤_, _<_}
 use lib.Dec.{T}
@@ -10,7 +9,7 @@ use lib.ListN.{length}
 use Rattle.plant.specs.declared.Answer.{Answer}
 use Rattle.plant.specs.declared.Answer.the-variants.{Safe, Unknown, Unfinished, Refused}
 use Rattle.plant.specs.Tables.{tableSize, tableAfter, touching}
-use Rattle.plant.specs.Calls.{Reply, Analysed, ceilingCall, checkCall, analysis, analyseCall}
+use Rattle.plant.specs.Calls.{ceilingCall, checkCall, analysis, analyseCall}
 use Rattle.plant.specs.Runs.{Configuration, Step, IsRun, IsForbidden, Visits}
 
 -- the checker accepts the list of words t as a table of the model m
@@ -61,13 +60,16 @@ SecondDemand m = (limit : ℕ) → FirstIndex m limit (analysis m limit)
 
 -- ---- the third demand, whole
 
+-- in no run, of any length and with any denominator, does a configuration, the first or one left by a delay or switch, lie in a
+-- forbidden box of its location
+abbrev pub NoRunMeets : List ℤ → Type 0
+NoRunMeets m =
+    (D : ℕ) (c : Configuration) (ss : List Step) → IsRun m D c ss
+    → (x : Configuration) → Visits x c ss → IsForbidden m D x → ⊥
+
 pub record ThirdDemand (m : List ℤ) : Type 0 where
-  -- whatever list of words is accepted: in no run, of any length and with any denominator, does a configuration, the first or
-  -- one left by a delay or switch, lie in a forbidden box of its location
-  pub no-run-meets :
-      (t : List ℤ) → Accepts m t
-      → (D : ℕ) (c : Configuration) (ss : List Step) → IsRun m D c ss
-      → (x : Configuration) → Visits x c ss → IsForbidden m D x → ⊥
+  -- whatever list of words is accepted, no run meets a forbidden box
+  pub no-run-meets : (t : List ℤ) → Accepts m t → NoRunMeets m
   -- safe, under whatever limit: the checker accepts the answer's table
   pub safe-accepted :
       (limit : ℕ) (table work : List ℤ) → answers m limit table work ≡ 100

@@ -203,14 +203,6 @@ pub fn wall(inv: &[i32], d: usize, s: usize) -> i32
     inv[2 * d + s]
 }
 
-// The wall of face f of a location.
-pub fn face_wall(model: &[i32], l: usize, f: usize) -> i32
-    requires { ⌜ Whole (now model) × (l < M.L# (now model)) × (f < 2 * M.n# (now model)) ⌝ }
-    ensures { λ r. ⌜ r ≡ M.faceWall (now (model .entry)) l f ⌝ }
-{
-    wall(invariant(model, l), f / 2, f % 2)
-}
-
 // The wall that a switch leaves.
 pub fn source_wall(model: &[i32], e: usize) -> i32
     requires { ⌜ Placed (now model) e ⌝ }

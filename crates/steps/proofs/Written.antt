@@ -1,27 +1,20 @@
 -- What a loop over the variables has written to the front of the lent words, and tested, at i + 1 from what it has at i.
-use mathlib.Core.Path.{_≡_, refl, sym, ap, ap₂, subst, _∙_}
+use mathlib.Core.Path.{_≡_, refl, sym, ap, ap₂, subst}
 use mathlib.Core.Bool.{Bool, true, false, not, _&&_}
-use mathlib.Core.List.{List, [], _∷_, _++_, append-assoc}
-use Prim.Native.Nat.{ℕ, zero, suc, _+_, _*_, _<_}
+use mathlib.Core.List.{List, [], _∷_}
+use Prim.Native.Nat.{ℕ, _+_, _*_, _<_}
 use native.Mathlib.Numerals.{add-one}
-use native.Mathlib.Omega.{arith}
 use borrow.Author.Tests.{lt-leb}
 use lib.Dec.{T, leb, ltb, ltb→lt, nltb→le, le→leb}
 use lib.IntN.{ℤ, pos, negsuc}
 use lib.Signed.{ltZ, leZ}
-use lib.ListN.{length, set, length-append}
+use lib.ListN.{length, set}
 use Rattle.integers.specs.Words.{onto}
 use Rattle.integers.specs.Counted.{allBelow}
-use Rattle.integers.proofs.Counted.{all-yes, is-true, true-is}
-use Rattle.integers.proofs.Buffers.{onto-none, onto-set, cat-none, cat-more}
+use Rattle.integers.proofs.Counted.{all-yes, is-true, true-is, all-ext}
+use Rattle.integers.proofs.Buffers.{onto-none, onto-two, cat-none, cat-more}
 use Rattle.plant.specs.Box.{low, high, boxBy, ordered}
 use Rattle.plant.proofs.Boxes.{low-boxBy, high-boxBy, length-boxBy}
-
--- two stores at the first places that are not filled yet
-onto-two : (a out : List ℤ) (k : ℕ) (lo hi : ℤ) → length a ≡ k → k + 1 < length out → set (set (onto a out) k lo) (k + 1) hi ≡ onto (a ++ lo ∷ hi ∷ []) out
-onto-two a out k lo hi e h =
-    rw (onto-set a out k lo e (omega arith))
-    (onto-set (a ++ lo ∷ []) out (k + 1) hi (omega (arith, length-append a (lo ∷ []))) h ∙ ap (λ (l : List ℤ). onto l out) (append-assoc a (lo ∷ []) (hi ∷ [])))
 
 module _ (lo hi : ℕ → ℤ) where
   pub none-written : (out : List ℤ) → out ≡ onto (boxBy 0 lo hi) out
@@ -47,12 +40,6 @@ untrue false h = refl
 -- a test that fails once
 pub not-all : (k : ℕ) (f : ℕ → Bool) (i : ℕ) → i < k → f i ≡ false → allBelow k f ≡ false
 not-all k f i l e = untrue (allBelow k f) (λ h. subst T e (all-yes k f h i l))
-
--- the same test of each number below k
-all-ext : (k : ℕ) (f g : ℕ → Bool) → ((i : ℕ) → i < k → f i ≡ g i) → allBelow k f ≡ allBelow k g
-unfolding allBelow
-all-ext zero f g e = refl
-all-ext (suc k) f g e = ap₂ (λ (a b : Bool). a && b) (all-ext k f g (λ i l. e i (omega arith))) (e k (omega arith))
 
 -- a box of ends is ordered if they are
 pub ordered-by : (n : ℕ) (lo hi : ℕ → ℤ) → ordered n (boxBy n lo hi) ≡ allBelow n (λ i. leZ (lo i) (hi i))

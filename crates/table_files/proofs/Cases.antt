@@ -14,7 +14,7 @@ use Rattle.plant.specs.Questions.{boxOk, insideOk, zerosOk, startOk, locationQu
 use Rattle.plant.specs.Tables.{wordsPerLocation, tableSize, faceAt, tableBy, faceRead, faceOf, onWall, absentOk, presentOk, faceOk, tableOk}
 use Rattle.plant.specs.Calls.{unlessRefused}
 use Rattle.plant.specs.Cases.{plantP, P, tableP}
-use Rattle.table_files.specs.TableFile.{presentFaces, faceFields, tableFile, countWord, countQuestion, faceFieldWords, placeOk, faceQuestions, fileFace, fileTable, fieldsQuestions, tableQuestions, roomQuestions, readTableCall, longestTableFile, writeQuestions, writeTableCall}
+use Rattle.table_files.specs.TableFile.{presentFaces, faceFields, tableFile, countWord, countQuestion, faceFieldWords, placeOk, faceQuestions, fileFace, fileTable, fieldsQuestions, tableFileQuestions, roomQuestions, readTableCall, longestTableFile, writeQuestions, writeTableCall}
 
 -- the table has 20 words and two present faces; read into 21 words its file gives it, and the last word is left
 record Table : Type 0 where
@@ -25,7 +25,7 @@ record Table : Type 0 where
   writes : writeTableCall P (tableP 2) (replicate 115 9) .reply ≡ record { code = 100; value = 61 }
 
 table : Table
-unfolding onto cat allBelow sumBelow bitsAt wordAt wordsAt wordBytes wordsBytes fieldAt field orElse first low high boxBy boxAt ordered faceWords locationAt invariant rate startFlag startBox switchAt forbiddenAt forbiddenLocation forbiddenBox modelSize wall faceWall boxOk insideOk zerosOk startOk locationQuestions forbiddenQuestion rangesQuestions recordsQuestions modelQuestions wordsPerLocation tableSize faceAt tableBy faceRead faceOf onWall absentOk presentOk faceOk tableOk plantP P tableP unlessRefused presentFaces faceFields tableFile countWord countQuestion faceFieldWords placeOk faceQuestions fileFace fileTable fieldsQuestions tableQuestions roomQuestions readTableCall longestTableFile writeQuestions writeTableCall
+unfolding onto cat allBelow sumBelow bitsAt wordAt wordsAt wordBytes wordsBytes fieldAt field orElse first low high boxBy boxAt ordered faceWords locationAt invariant rate startFlag startBox switchAt forbiddenAt forbiddenLocation forbiddenBox modelSize wall faceWall boxOk insideOk zerosOk startOk locationQuestions forbiddenQuestion rangesQuestions recordsQuestions modelQuestions wordsPerLocation tableSize faceAt tableBy faceRead faceOf onWall absentOk presentOk faceOk tableOk plantP P tableP unlessRefused presentFaces faceFields tableFile countWord countQuestion faceFieldWords placeOk faceQuestions fileFace fileTable fieldsQuestions tableFileQuestions roomQuestions readTableCall longestTableFile writeQuestions writeTableCall
 table = record {
   file-length = refl;
   reads = refl;

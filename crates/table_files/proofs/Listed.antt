@@ -1,30 +1,30 @@
 -- A table file is a list of fields, one for each present face, by ascending key. What is written so is read back field by
 -- field, and the bytes that are read are those of such a list.
-use mathlib.Core.Path.{_≡_, refl, ap, ap₂, _∙_, subst}
+use mathlib.Core.Path.{_≡_, refl, sym, ap, ap₂, _∙_, subst}
 use mathlib.Core.Bool.{Bool, true, false, not, cond, _&&_}
 use mathlib.Core.Logic.{⊎-elim}
-use mathlib.Core.List.{List, [], _∷_, _++_, append-nil}
+use mathlib.Core.List.{List, [], _∷_, _++_, append-nil, append-assoc}
 use Prim.Native.Nat.{ℕ, zero, suc, _+_, _*_, _/_, _%_, _<_, _≤_}
 use native.Mathlib.Nat.{mul-le-mul-right, div-add-mod'}
 use native.Mathlib.Omega.{arith}
 use borrow.Author.Tests.{eq-eqb}
 use lib.Dec.{T, eqb, eqb→eq}
 use lib.IntN.{ℤ, pos}
-use lib.ListN.{length, length-append}
+use lib.ListN.{length, getD, length-append}
 use Rattle.integers.specs.Words.{num}
 use Rattle.integers.specs.Counted.{cat}
 use Rattle.integers.proofs.Counted.{split}
 use Rattle.integers.proofs.Buffers.{cat-ext}
 use Rattle.integers.proofs.Signed.{fits32}
 use Rattle.wire.specs.Bytes.{wordsAt, wordBytes, wordsBytes}
-use Rattle.wire.specs.Fields.{fieldAt, field}
+use Rattle.wire.specs.Fields.{lengthAt, fieldAt, field}
 use Rattle.wire.specs.declared.Field.the-variants.{Whole}
 use Rattle.wire.proofs.Words.{AreWords, length-word, word-back}
-use Rattle.wire.proofs.Fields.{length-field, field-back, length-fields, fields-back, fields-words-back}
+use Rattle.wire.proofs.Fields.{length-field, field-back, field-lies, length-fields, fields-back, fields-words-back}
 use Rattle.plant.specs.Box.{low, high, boxBy, boxAt, Face, absent, present}
 use Rattle.plant.specs.Model.{n#, L#}
 use Rattle.plant.specs.Tables.{faceOf}
-use Rattle.table_files.specs.TableFile.{faceFieldSize, faceField, presence, presentFaces, faceFields, tableFile, facesFrom, facePlace, countWord, faceFieldWords, faceKey, fileFace}
+use Rattle.table_files.specs.TableFile.{faceFieldSize, faceField, presence, presentFaces, faceFields, tableFile, facesFrom, fileLength, facePlace, countWord, faceFieldWords, faceKey, fileFace}
 use Rattle.table_files.proofs.Keys.{key-location, key-face, cat-keys, sum-keys, Ascending, key-le, along, counted-all}
 
 -- ---- the field of a face
@@ -131,6 +131,25 @@ module _ (n k : ℕ) (e : ℕ → List ℤ) (small : n ≤ 6) (few : k < 2147483
 
   pub file-length : length file ≡ facePlace n k
   file-length = omega (arith, length-append head (cat k (λ i. field 5 (wordsBytes (e i)))), head-length, length-fields head 5 e k (faceFieldSize n) [] facesFrom head-length sized k (omega arith))
+
+  -- its length is told by its own bytes, whatever follows it
+  module _ (rest : List ℕ) where
+    count-told : k < 65536 → getD (file ++ rest) 5 0 * 256 + getD (file ++ rest) 6 0 ≡ k
+    unfolding field wordBytes
+    count-told h = omega arith
+
+    first-told : 0 < k → lengthAt (file ++ rest) facesFrom ≡ 4 * faceFieldSize n
+    first-told h =
+        let at : facesFrom ≡ facePlace n 0 = omega arith in
+        ap₂ lengthAt (append-assoc head (cat k (λ i. field 5 (wordsBytes (e i)))) rest) at
+        ∙ sym (field-lies _ _ _ _ _ _ (fields-back head 5 e k (faceFieldSize n) rest facesFrom head-length sized 0 h (omega arith)) .len-is)
+
+    pub length-told : k < 65536 → fileLength (file ++ rest) ≡ length file
+    length-told h = rw (count-told h) (total k (lengthAt (file ++ rest) facesFrom) first-told ∙ sym file-length)
+      where
+        total : (i l : ℕ) → (0 < i → l ≡ 4 * faceFieldSize n) → facesFrom + i * (3 + l) ≡ facePlace n i
+        total zero l f = omega arith
+        total (suc i) l f = rw (f (omega arith)) refl
 
 -- ---- the faces of a file
 

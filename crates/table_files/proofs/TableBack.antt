@@ -8,7 +8,7 @@ use native.Mathlib.Nat.{mul-le-mul, mul-le-mul-right, div-add-mod'}
 use native.Mathlib.Decide.{decLt}
 use native.Mathlib.Omega.{arith}
 use borrow.Author.Tests.{eq-eqb}
-use lib.Dec.{T, eqb, eqb-refl, leb, le→leb, lt→ltb}
+use lib.Dec.{T, eqb, eqb-refl, leb, le→leb, leb→le, lt→ltb}
 use lib.IntN.{ℤ, pos, negsuc, natAbs}
 use lib.Signed.{_≤ℤ_, leZ}
 use lib.ListN.{length, take, List·getD-eq-default}
@@ -21,7 +21,7 @@ use Rattle.integers.proofs.Parts.{arithZ}
 use Rattle.integers.proofs.Order.{trans}
 use Rattle.integers.proofs.Tests.{and-intro}
 use Rattle.integers.proofs.Counted.{split, is-true}
-use Rattle.integers.proofs.Buffers.{cat-ext}
+use Rattle.integers.proofs.Buffers.{cat-ext, take-onto}
 use Rattle.integers.proofs.Signed.{fits32}
 use Rattle.wire.specs.Bytes.{wordBytes, wordsBytes}
 use Rattle.wire.specs.Fields.{fieldAt, field, isField}
@@ -31,18 +31,19 @@ use Rattle.plant.specs.Box.{low, high, boxBy, boxAt, Face, absent, present, fac
 use Rattle.plant.specs.Model.{n#, L#, invariant}
 use Rattle.plant.specs.Questions.{modelQuestions}
 use Rattle.plant.specs.Tables.{tableSize, tableBy, faceOf, tableOk}
-use Rattle.plant.proofs.Asks.{ask-intro, then-both, then-intro, first-intro, ask-le, then-le, first-le}
+use Rattle.plant.proofs.Asks.{ask-intro, ask-yes, asked, then-both, then-intro, first-intro, ask-le, then-le, first-le}
 use Rattle.plant.proofs.Numbers.{model-le}
 use Rattle.plant.proofs.Boxes.{low-boxBy, high-boxBy, length-boxBy, length-boxAt, box-ends}
 use Rattle.plant.proofs.Passed.{InRange, Passed, passed}
-use Rattle.plant.proofs.Tables.{Filled, filled, ends, words-ends, table-ext, begins-itself, begins-onto, face-read, OkFace, ok-valid, made-ok}
-use Rattle.plant.specs.Calls.{ReadOutcome, unlessRefused, zeroed}
-use Rattle.plant.proofs.Reading.{past}
-use Rattle.table_files.specs.TableFile.{faceFieldSize, tableFile, facePlace, countWord, countQuestion, faceFieldWords, faceKey, afterOk, placeOk, faceQuestions, fileFace, count#, fileTable, fieldsQuestions, tableQuestions, roomQuestions, readFaces, readTableCall}
-use Rattle.table_files.specs.TableBack.{TableBack}
+use Rattle.plant.proofs.Tables.{Filled, filled, ends, words-ends, table-length, table-ext, begins-itself, face-read, OkFace, ok-valid, made-ok}
+use Rattle.plant.specs.Calls.{ReadOutcome, wordsRead, zeroed}
+use Rattle.plant.proofs.Reading.{past, done}
+use Rattle.table_files.specs.TableFile.{faceFieldSize, tableFile, fileLength, facePlace, countWord, countQuestion, faceFieldWords, faceKey, afterOk, placeOk, faceQuestions, fileFace, count#, fileTable, fieldsQuestions, tableFileQuestions, roomQuestions, readFaces, readTableCall, longestTableFile, writeQuestions, WriteOutcome, writeBy, writeTableCall}
+use Rattle.table_files.specs.TableBack.{bytesWritten, TableBack}
 use Rattle.table_files.proofs.Keys.{key-location, key-face, Among, Ascending, Listing, listing, no-longer}
 use Rattle.table_files.proofs.Faces.{key-below, table-again}
-use Rattle.table_files.proofs.Listed.{isPresent, boxOf, entry, listed, atKey, keys, file-listed, head-back, count-back, face-field-back, face-words-back, file-length, fieldWords, InOrder, keyOf, key-l, key-f, face-of-field, in-order}
+use Rattle.table_files.proofs.Listed.{isPresent, boxOf, entry, listed, atKey, keys, file-listed, head-back, count-back, face-field-back, face-words-back, file-length, length-told, fieldWords, InOrder, keyOf, key-l, key-f, face-of-field, in-order}
+use Rattle.table_files.proofs.TableWriting.{room-yes}
 use Rattle.table_files.proofs.TableAsked.{FieldsYes, fields-yes, fields-in-order, file-again}
 
 -- ---- words
@@ -263,24 +264,27 @@ module _ (m t : List ℤ) (asks : modelQuestions m ≡ 0) (long : tableSize m �
   table-asked : T (tableOk m (fileTable m file))
   table-asked = rw (table-is, table-faces) (made-ok m (filled m ok) (tableBy m (faceOf m t)) (faceOf m t) (begins-itself m (filled m ok) (faceOf m t)) (ok-valid m t good .valid))
 
-  questions : tableQuestions m file ≡ 0
-  unfolding tableQuestions
+  questions : tableFileQuestions m file ≡ 0
+  unfolding tableFileQuestions
   questions = then-intro fields-asked (ask-intro (tableOk m (fileTable m file)) 32 table-asked)
 
-  pub written : (buffer : List ℤ) → tableSize m ≤ length buffer
-      → readTableCall m (tableFile m t) buffer ≡ record { reply = record { code = 100; value = tableSize m }; words = onto (take (tableSize m) t) buffer }
-  unfolding readTableCall roomQuestions
-  written buffer room =
-      ap (λ (s : List ℕ). readTableCall m s buffer) is-file
-      ∙ sym (past buffer (then-intro asks (ask-intro (leb (tableSize m) (length buffer)) 20 (le→leb (tableSize m) (length buffer) room))) refl)
-      ∙ sym (past (zeroed buffer) questions refl)
-      ∙ ap (λ (x : List ℤ). record { reply = record { code = 100; value = tableSize m }; words = onto x buffer }) table-is
+  -- the file passes its questions, and its table is the one that was written
+  pub file-asked : tableFileQuestions m (tableFile m t) ≡ 0
+  file-asked = ap (tableFileQuestions m) is-file ∙ questions
+
+  pub file-table : fileTable m (tableFile m t) ≡ take (tableSize m) t
+  file-table = ap (fileTable m) is-file ∙ table-is
+
+  -- its length is told by its own bytes
+  pub file-told : (rest : List ℕ) → fileLength (tableFile m t ++ rest) ≡ length (tableFile m t)
+  unfolding file
+  file-told rest = rw is-file (length-told (n# m) k words (ok .n-small) (omega (arith, few, keys-few)) sized rest (omega (arith, few, keys-few)))
 
 -- ---- read, then written
 
 -- no refusal is 100
-table-le : (m : List ℤ) (s : List ℕ) → tableQuestions m s ≤ 38
-unfolding tableQuestions fieldsQuestions countQuestion faceQuestions
+pub table-le : (m : List ℤ) (s : List ℕ) → tableFileQuestions m s ≤ 38
+unfolding tableFileQuestions fieldsQuestions countQuestion faceQuestions
 table-le m s =
     then-le (fieldsQuestions m s) _ 38
     (then-le (countQuestion m s) _ 38 (then-le (ask (isField (fieldAt s 0) 6 4) 35) _ 38 (omega (arith, ask-le (isField (fieldAt s 0) 6 4) 35)) (omega (arith, ask-le (within (pos 0) (pos (2 * n# m * L# m)) (countWord s)) 35)))
@@ -289,11 +293,6 @@ table-le m s =
     (omega (arith, ask-le (isField (fieldAt s (facePlace (n# m) i)) 5 (4 * faceFieldSize (n# m))) 36)) (omega (arith, ask-le (placeOk m s i) 37))))
     (ask-le (eqb (length s) (facePlace (n# m) (count# s))) 38)))
     (omega (arith, ask-le (tableOk m (fileTable m s)) 32))
-
-refused-code : (k : ℕ) (w : List ℤ) (next : ReadOutcome) → k ≤ 38 → unlessRefused k w next .reply .code ≡ 100 → k ≡ 0
-unfolding unlessRefused
-refused-code zero w next h e = refl
-refused-code (suc k) w next h e = absurd (omega arith)
 
 module _ (m : List ℤ) (ok : Passed m) (s : List ℕ) (y : FieldsYes m s) where
   full : Filled m
@@ -351,22 +350,90 @@ module _ (m : List ℤ) (ok : Passed m) (s : List ℕ) (y : FieldsYes m s) where
       ∙ ap (λ (x : List ℕ). field 6 (wordBytes (pos c)) ++ x) (cat-ext c _ _ (λ i u. ap (λ (w : List ℤ). field 5 (wordsBytes w)) (field-again i u)))
       ∙ sym (file-again m s y b)
 
-read-back : (m : List ℤ) (s : List ℕ) (buffer : List ℤ) → AreBytes s → readTableCall m s buffer .reply .code ≡ 100
-    → tableFile m (take (tableSize m) (readTableCall m s buffer .words)) ≡ s
-unfolding readTableCall roomQuestions tableQuestions fileTable
-read-back m s buffer bytes code =
-    let room : ℕ = roomQuestions m (length buffer) in
-    let few : room ≤ 38 = then-le (modelQuestions m) _ 38 (omega (arith, model-le m)) (omega (arith, ask-le (leb (tableSize m) (length buffer)) 20)) in
-    let r1 : room ≡ 0 = refused-code room buffer (readFaces m s buffer) few code in
-    let e1 : readFaces m s buffer ≡ readTableCall m s buffer = past buffer r1 refl in
-    let r2 : tableQuestions m s ≡ 0 = refused-code (tableQuestions m s) (zeroed buffer) _ (table-le m s) (ap (λ (o : ReadOutcome). o .reply .code) e1 ∙ code) in
-    let e2 : onto (fileTable m s) buffer ≡ readTableCall m s buffer .words = ap (λ (o : ReadOutcome). o .words) (past (zeroed buffer) r2 refl ∙ e1) in
-    let ok : Passed m = passed m (then-both (modelQuestions m) _ r1 .0) in
-    let y : FieldsYes m s = fields-yes m s (ok .n-positive) (ok .L-positive) (then-both (fieldsQuestions m s) _ r2 .0) in
-    ap (λ (w : List ℤ). tableFile m (take (tableSize m) w)) (sym e2) ∙ ap (tableFile m) (begins-onto m (filled m ok) (fileFace m s (count# s)) buffer) ∙ again m ok s y bytes
+-- ---- over the calls
+
+module _ (m : List ℤ) where
+  room-le : (room : ℕ) → roomQuestions m room ≤ 20
+  unfolding roomQuestions
+  room-le room = then-le (modelQuestions m) _ 20 (omega (arith, model-le m)) (ask-le (leb (tableSize m) room) 20)
+
+  room-asked : modelQuestions m ≡ 0 → (room : ℕ) → tableSize m ≤ room → roomQuestions m room ≡ 0
+  unfolding roomQuestions
+  room-asked asks room h = then-intro asks (ask-intro (leb (tableSize m) room) 20 (le→leb (tableSize m) room h))
+
+  -- ---- a read whose questions are all yes, and only such a one, gives the file's table
+
+  abbrev isRead : List ℕ → List ℤ → ReadOutcome
+  isRead s buffer = record { reply = record { code = 100; value = tableSize m }; words = onto (fileTable m s) buffer }
+
+  reads : (s : List ℕ) (buffer : List ℤ) → roomQuestions m (length buffer) ≡ 0 → tableFileQuestions m s ≡ 0 → readTableCall m s buffer ≡ isRead s buffer
+  unfolding readTableCall
+  reads s buffer r q = sym (past buffer r (past (zeroed buffer) q refl))
+
+  read-yes : (s : List ℕ) (buffer : List ℤ) → readTableCall m s buffer .reply .code ≡ 100 → (roomQuestions m (length buffer) ≡ 0) × (tableFileQuestions m s ≡ 0)
+  unfolding readTableCall
+  read-yes s buffer code =
+      let a = done (roomQuestions m (length buffer)) buffer (readFaces m s buffer) (omega (arith, room-le (length buffer))) code in
+      (a .0, done (tableFileQuestions m s) (zeroed buffer) (isRead s buffer) (omega (arith, table-le m s)) (ap (λ (o : ReadOutcome). o .reply .code) (sym (a .1)) ∙ code) .0)
+
+  -- ---- the same of a write, and the table's file
+
+  abbrev isWritten : List ℤ → List ℕ → WriteOutcome
+  isWritten t bytes = record { reply = record { code = 100; value = length (tableFile m t) }; file = onto (tableFile m t) bytes }
+
+  -- the questions of a write, in two parts
+  abbrev AsksWrite : List ℤ → ℕ → Type 0
+  AsksWrite t room = (roomQuestions m (length t) ≡ 0) × T (tableOk m t) × (longestTableFile m ≤ room)
+
+  writes : (t : List ℤ) (bytes : List ℕ) → AsksWrite t (length bytes) → writeTableCall m t bytes ≡ isWritten t bytes
+  unfolding writeTableCall writeQuestions
+  writes t bytes y = ap (λ (q : ℕ). writeBy q m t bytes)
+      (then-intro (y .0)
+      (then-intro (ask-intro (tableOk m t) 32 (y .1)) (ask-intro (leb (longestTableFile m) (length bytes)) 39 (le→leb (longestTableFile m) (length bytes) (y .2)))))
+
+  not-refused : (t : List ℤ) (bytes : List ℕ) (q : ℕ) → q ≤ 39 → writeBy q m t bytes .reply .code ≡ 100 → q ≡ 0
+  not-refused t bytes zero l e = refl
+  not-refused t bytes (suc q) l e = absurd (omega arith)
+
+  write-yes : (t : List ℤ) (bytes : List ℕ) → writeTableCall m t bytes .reply .code ≡ 100 → AsksWrite t (length bytes)
+  unfolding writeTableCall writeQuestions
+  write-yes t bytes code =
+      let few : writeQuestions m t (length bytes) ≤ 39 =
+      then-le (roomQuestions m (length t)) _ 39 (omega (arith, room-le (length t)))
+      (then-le (ask (tableOk m t) 32) _ 39 (omega (arith, ask-le (tableOk m t) 32)) (ask-le (leb (longestTableFile m) (length bytes)) 39)) in
+      let a : (roomQuestions m (length t) ≡ 0) × _ = then-both (roomQuestions m (length t)) _ (not-refused t bytes (writeQuestions m t (length bytes)) few code) in
+      let b : T (tableOk m t) × _ = asked (tableOk m t) 32 _ (omega arith) (a .1) in
+      (a .0, b .0, leb→le (longestTableFile m) (length bytes) (ask-yes (leb (longestTableFile m) (length bytes)) 39 (omega arith) (b .1)))
+
+-- ---- the theorem
+
+written : (m t : List ℤ) (bytes : List ℕ) → modelQuestions m ≡ 0 → tableSize m ≤ length t → T (tableOk m t) → longestTableFile m ≤ length bytes
+    → writeTableCall m t bytes ≡ isWritten m t bytes
+written m t bytes asks long good room = writes m t bytes (room-asked m asks (length t) long, good, room)
+
+written-read : (m t : List ℤ) (bytes : List ℕ) (buffer : List ℤ) → writeTableCall m t bytes .reply .code ≡ 100 → tableSize m ≤ length buffer
+    → readTableCall m (bytesWritten (writeTableCall m t bytes)) buffer ≡ record { reply = record { code = 100; value = tableSize m }; words = onto (take (tableSize m) t) buffer }
+written-read m t bytes buffer code room =
+    let y : AsksWrite m t (length bytes) = write-yes m t bytes code in
+    let p : (modelQuestions m ≡ 0) × (tableSize m ≤ length t) = room-yes m (length t) (y .0) in
+    let f : bytesWritten (writeTableCall m t bytes) ≡ tableFile m t = ap bytesWritten (writes m t bytes y) ∙ take-onto (tableFile m t) bytes (length (tableFile m t)) refl in
+    ap (λ (s : List ℕ). readTableCall m s buffer) f
+    ∙ reads m (tableFile m t) buffer (room-asked m (p .0) (length buffer) room) (file-asked m t (p .0) (p .1) (y .1))
+    ∙ ap (λ (w : List ℤ). record { reply = record { code = 100; value = tableSize m }; words = onto w buffer }) (file-table m t (p .0) (p .1) (y .1))
+
+read-written : (m : List ℤ) (s : List ℕ) (buffer : List ℤ) (bytes : List ℕ) → AreBytes s → readTableCall m s buffer .reply .code ≡ 100 → longestTableFile m ≤ length bytes
+    → writeTableCall m (wordsRead (readTableCall m s buffer)) bytes ≡ record { reply = record { code = 100; value = length s }; file = onto s bytes }
+unfolding tableFileQuestions fileTable
+read-written m s buffer bytes are code room =
+    let r : (roomQuestions m (length buffer) ≡ 0) × (tableFileQuestions m s ≡ 0) = read-yes m s buffer code in
+    let asks : modelQuestions m ≡ 0 = room-yes m (length buffer) (r .0) .0 in
+    let ok : Passed m = passed m asks in
+    let q : (fieldsQuestions m s ≡ 0) × _ = then-both (fieldsQuestions m s) _ (r .1) in
+    let l : length (fileTable m s) ≡ tableSize m = table-length m (filled m ok) (fileFace m s (count# s)) in
+    let w : wordsRead (readTableCall m s buffer) ≡ fileTable m s = ap wordsRead (reads m s buffer (r .0) (r .1)) ∙ take-onto (fileTable m s) buffer (tableSize m) l in
+    ap (λ (t : List ℤ). writeTableCall m t bytes) w
+    ∙ writes m (fileTable m s) bytes (room-asked m asks (length (fileTable m s)) (omega (arith, l)), ask-yes (tableOk m (fileTable m s)) 32 (omega arith) (q .1), room)
+    ∙ ap (λ (x : List ℕ). record { reply = record { code = 100; value = length x }; file = onto x bytes }) (again m ok s (fields-yes m s (ok .n-positive) (ok .L-positive) (q .0)) are)
 
 pub table-back : TableBack
-table-back = record {
-  written-read = λ m t buffer asks long good room. written m t asks long good buffer room;
-  read-written = read-back;
-}
+table-back = record { written = written; written-read = written-read; read-written = read-written }

@@ -39,7 +39,7 @@ use Rattle.plant.proofs.Reading.{refused-at, past}
 use Rattle.records.specs.Whole.{Head}
 use Rattle.records.proofs.Positions.{row-within}
 use Rattle.passes.proofs.Landing.{face-put}
-use Rattle.table_files.specs.TableFile.{faceFieldSize, facePlace, countWord, countQuestion, faceFieldWords, faceKey, afterOk, placeOk, faceQuestions, fileFace, count#, fileTable, fieldsQuestions, tableQuestions, readFaces, roomQuestions, readTableCall}
+use Rattle.table_files.specs.TableFile.{faceFieldSize, facePlace, countWord, countQuestion, faceFieldWords, faceKey, afterOk, placeOk, faceQuestions, fileFace, count#, fileTable, fieldsQuestions, tableFileQuestions, readFaces, roomQuestions, readTableCall}
 use Rattle.table_files.specs.TableRoom.{locationWord, faceWord, KeyAt, keyAt, placeFrom, faceFrom, leastKey}
 use Rattle.table_files.proofs.Keys.{replicate-cat}
 use Rattle.table_files.proofs.Faces.{table-keys}
@@ -360,22 +360,22 @@ face-filled (x ∷ d) y z k e f h = h ∙ onto-all (pos 1 ∷ z) (pos 1 ∷ d) (
 
 module _ (m : List ℤ) (s : List ℕ) (d : List ℤ) where
   pub fields-refused : {q : ℕ} {x : List ℤ} → q ≡ fieldsQuestions m s → (q ≡ 0 → ⊥) → x ≡ zeroed d → record { reply = refused q; words = x } ≡ readFaces m s d
-  unfolding tableQuestions
+  unfolding tableFileQuestions
   fields-refused {q} {x} e h ex =
-      let f : q ≡ tableQuestions m s = halt (ask (tableOk m (fileTable m s)) 32) e h in
+      let f : q ≡ tableFileQuestions m s = halt (ask (tableOk m (fileTable m s)) 32) e h in
       refused-at _ f h ex
 
   pub table-refused : {q : ℕ} {x : List ℤ} → q ≡ fieldsQuestions m s → q ≡ 0 → tableOk m (fileTable m s) ≡ false → x ≡ zeroed d → record { reply = refused 32; words = x } ≡ readFaces m s d
-  unfolding tableQuestions
+  unfolding tableFileQuestions
   table-refused {q} {x} e z b ex =
-      let f : 32 ≡ tableQuestions m s = go e z (rw b refl) in
+      let f : 32 ≡ tableFileQuestions m s = go e z (rw b refl) in
       refused-at _ f (λ k. omega arith) ex
 
   pub table-read : {q k : ℕ} {x : List ℤ} → q ≡ fieldsQuestions m s → q ≡ 0 → tableOk m (fileTable m s) ≡ true → k ≡ tableSize m → x ≡ onto (fileTable m s) d
       → record { reply = record { code = 100; value = k }; words = x } ≡ readFaces m s d
-  unfolding tableQuestions
+  unfolding tableFileQuestions
   table-read {q} {k} {x} e z b ek ex =
-      let f : 0 ≡ tableQuestions m s = go e z (rw b refl) in
+      let f : 0 ≡ tableFileQuestions m s = go e z (rw b refl) in
       past (zeroed d) (sym f) (rw (ek, ex) refl)
 
   pub room-refused : {q : ℕ} → q ≡ roomQuestions m (length d) → (q ≡ 0 → ⊥) → record { reply = refused q; words = d } ≡ readTableCall m s d

@@ -4,11 +4,11 @@ use mathlib.Core.List.{List, [], _∷_, _++_}
 use Prim.Native.Nat.{ℕ, zero, suc, _+_, _-_, _*_}
 use lib.Dec.{eqb, leb, ltb}
 use lib.IntN.{ℤ, pos}
-use lib.ListN.{length}
+use lib.ListN.{length, getD}
 use Rattle.integers.specs.Words.{word, num, within, onto}
 use Rattle.integers.specs.Counted.{cat, sumBelow}
 use Rattle.wire.specs.Bytes.{wordAt, wordsAt, wordBytes, wordsBytes}
-use Rattle.wire.specs.Fields.{fieldAt, field, fieldPlace, isField}
+use Rattle.wire.specs.Fields.{lengthAt, fieldAt, field, fieldPlace, isField}
 use Rattle.plant.specs.Ask.{ask, _then_, first}
 use Rattle.plant.specs.Box.{low, high, boxBy, boxAt, Face, absent, present}
 use Rattle.plant.specs.Model.{n#, L#}
@@ -39,12 +39,17 @@ faceFields m t = cat (L# m) (λ l. cat (2 * n# m) (λ f. faceField (n# m) l f (f
 unfoldable pub tableFile : (m t : List ℤ) → List ℕ
 tableFile m t = field 6 (wordBytes (pos (presentFaces m t))) ++ faceFields m t
 
--- ---- the questions of a table file
-
--- where the faces' fields begin, and field i of them
+-- where the faces' fields begin
 abbrev pub facesFrom : ℕ
 facesFrom = fieldPlace 0 1 1
 
+-- the length of the table file that bytes begin with, by the last two bytes of its count and the payload's length of its first face
+abbrev pub fileLength : List ℕ → ℕ
+fileLength s = facesFrom + (getD s 5 0 * 256 + getD s 6 0) * (3 + lengthAt s facesFrom)
+
+-- ---- the questions of a table file
+
+-- where face field i begins
 abbrev pub facePlace : (n i : ℕ) → ℕ
 facePlace n i = fieldPlace facesFrom (faceFieldSize n) i
 
@@ -107,8 +112,8 @@ fieldsQuestions m s =
     then ask (eqb (length s) (facePlace (n# m) (count# s))) 38
 
 -- then 32 of the outcome
-unfoldable pub tableQuestions : (m : List ℤ) (s : List ℕ) → ℕ
-tableQuestions m s = fieldsQuestions m s then ask (tableOk m (fileTable m s)) 32
+unfoldable pub tableFileQuestions : (m : List ℤ) (s : List ℕ) → ℕ
+tableFileQuestions m s = fieldsQuestions m s then ask (tableOk m (fileTable m s)) 32
 
 -- ---- reading a table file: the model's questions and 20 change nothing, 35 to 38 and 32 zero the whole table buffer
 
@@ -119,7 +124,7 @@ roomQuestions m room = modelQuestions m then ask (leb (tableSize m) room) 20
 -- once these are yes
 abbrev pub readFaces : (m : List ℤ) (s : List ℕ) (table : List ℤ) → ReadOutcome
 readFaces m s table =
-    unlessRefused (tableQuestions m s) (zeroed table)
+    unlessRefused (tableFileQuestions m s) (zeroed table)
     (record { reply = record { code = 100; value = tableSize m }; words = onto (fileTable m s) table })
 
 unfoldable pub readTableCall : (m : List ℤ) (s : List ℕ) (table : List ℤ) → ReadOutcome

@@ -2,18 +2,18 @@
 -- read back from give the face again, so that joins follow each other on the same words.
 use mathlib.Core.Path.{_≡_, refl, sym, ap, ap₂, _∙_}
 use mathlib.Core.Bool.{true, false, cond}
-use mathlib.Core.List.{List, [], _∷_, _++_, append-assoc}
+use mathlib.Core.List.{List, [], _∷_, _++_}
 use Prim.Native.Nat.{ℕ, _+_, _*_, _-_, _<_, _≤_}
 use native.Mathlib.Nat.{mul-le-mul}
 use native.Mathlib.Numerals.{add-one}
 use native.Mathlib.Omega.{arith}
 use lib.IntN.{ℤ, pos}
-use lib.ListN.{length, drop, take, set, getD-replicate, length-append}
+use lib.ListN.{length, drop, take, set, getD-replicate}
 use lib.Seq.{getD-append-add, getD-drop, take-suc, take-all, length-take-le, lt-length-set, getD-set-same}
 use Rattle.integers.specs.Words.{word, eqZ, onto}
 use Rattle.integers.specs.Counted.{cat}
 use Rattle.integers.specs.Rounding.{maxZ, minZ}
-use Rattle.integers.proofs.Buffers.{onto-set, onto-all, cat-more}
+use Rattle.integers.proofs.Buffers.{onto-set, onto-two, onto-all, cat-more}
 use Rattle.plant.specs.Box.{low, high, boxBy, boxAt, hull, Face, absent, present, faceWords, join}
 use Rattle.plant.specs.Model.{n#, L#}
 use Rattle.plant.specs.Tables.{wordsPerLocation, faceSize, tableSize, faceRead}
@@ -31,13 +31,6 @@ word-onto a d j h =
   where
     split : j ≡ length a + (j - length a)
     split = omega arith
-
--- two more words
-onto-two : (a d : List ℤ) (j : ℕ) (x y : ℤ) → length a ≡ j → j + 1 < length d → set (set (onto a d) j x) (j + 1) y ≡ onto (a ++ (x ∷ y ∷ [])) d
-onto-two a d j x y e h =
-    ap (λ (s : List ℤ). set s (j + 1) y) (onto-set a d j x e (omega arith))
-    ∙ onto-set (a ++ (x ∷ [])) d (j + 1) y (omega (arith, length-append a (x ∷ []))) h
-    ∙ ap (λ (s : List ℤ). onto s d) (simp append-assoc)
 
 -- ---- the box at the front of some words
 

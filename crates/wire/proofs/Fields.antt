@@ -10,15 +10,13 @@ use lib.Dec.{T, eqb, eqb→eq, leb}
 use lib.IntN.{ℤ}
 use lib.ListN.{length, getD, take, drop, length-append, length-drop, take-append-drop}
 use lib.Seq.{getD-at, getD-drop, getD-append-add, drop-at, take-at, drop-drop, length-take-le}
-use Rattle.integers.specs.Words.{onto}
 use Rattle.integers.specs.Counted.{cat}
 use Rattle.integers.proofs.Tests.{and-yes}
-use Rattle.integers.proofs.Buffers.{length-cat-below, cat-ext, cat-at, cat-parts}
+use Rattle.integers.proofs.Buffers.{length-cat, cat-ext, cat-at, cat-parts}
 use Rattle.wire.specs.Bytes.{wordsAt, wordsBytes, part}
 use Rattle.wire.specs.Fields.{lengthAt, fieldAt, isField, fieldPlace, header, field}
 use Rattle.wire.specs.declared.Field.{Field}
 use Rattle.wire.specs.declared.Field.the-variants.{Whole, Cut, Short}
-use Rattle.wire.proofs.Buffers.{onto-then}
 use Rattle.wire.proofs.Words.{AreBytes, AreWords, length-bytes, length-part, words-back, all-bytes-back}
 
 -- ---- by the tests
@@ -41,11 +39,6 @@ module _ (s : List ℕ) (at : ℕ) where
 pub length-field : (tag : ℕ) (payload : List ℕ) → length (field tag payload) ≡ 3 + length payload
 unfolding field
 length-field tag payload = omega arith
-
--- the buffer x holds the header, then y the payload behind it
-pub field-put : (d x y payload : List ℕ) (to tag m : ℕ) → x ≡ onto (take to d ++ header tag m) d → y ≡ onto (take (to + 3) x ++ payload) x → to ≤ length d → length payload ≡ m → y ≡ onto (take to d ++ field tag payload) d
-unfolding field
-field-put d x y payload to tag m ex ey h em = rw em (ey ∙ onto-then (header tag m) payload d x to (to + 3) ex h (omega arith))
 
 module _ (p : List ℕ) (tag : ℕ) (payload q : List ℕ) (at m : ℕ) (ep : length p ≡ at) (em : length payload ≡ m) where
   abbrev s : List ℕ
@@ -172,7 +165,7 @@ module _ (p : List ℕ) (tag : ℕ) (zs : ℕ → List ℤ) (k w : ℕ) (q : Lis
   length-payload i l = length-bytes (zs i) ∙ ap (λ (j : ℕ). 4 * j) (ew i l)
 
   pub length-fields : (i : ℕ) → i ≤ k → length (cat i one) ≡ i * (3 + 4 * w)
-  length-fields i h = length-cat-below i (3 + 4 * w) one (λ j l. length-field tag (wordsBytes (zs j)) ∙ ap (λ (x : ℕ). 3 + x) (length-payload j (omega arith)))
+  length-fields i h = length-cat i (3 + 4 * w) one (λ j l. length-field tag (wordsBytes (zs j)) ∙ ap (λ (x : ℕ). 3 + x) (length-payload j (omega arith)))
 
   -- what stands before field i, and after it
   split-at : (i : ℕ) → i < k → (r : List ℕ) × (p ++ (cat k one ++ q) ≡ (p ++ cat i one) ++ (one i ++ r))

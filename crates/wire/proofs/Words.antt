@@ -75,7 +75,7 @@ word-fits s at b = sfits-toZ {n = bitsAt s at} (record { fits = omega (arith, b 
 
 pub length-words : (s : List ℕ) (at k : ℕ) → length (wordsAt s at k) ≡ k
 unfolding wordsAt
-length-words s at k = length-cat k 1 (oneWordAt s at) (λ i. refl) ∙ mul-one k
+length-words s at k = length-cat k 1 (oneWordAt s at) (λ i _. refl) ∙ mul-one k
 
 pub words-none : (s : List ℕ) (at : ℕ) → wordsAt s at 0 ≡ []
 unfolding wordsAt

@@ -7,7 +7,7 @@ ghost use mir.Syntax.{w32};
 ghost use mir.Val.{toZ, ofZ};
 ghost use Rattle.integers.specs.Words.{onto};
 ghost use Rattle.wire.specs.Bytes.{bitsAt, wordAt, wordsAt, bitsBytes, wordBytes, wordsBytes, part};
-ghost use Rattle.wire.specs.Fields.{lengthAt, fieldAt, isField, header, field};
+ghost use Rattle.wire.specs.Fields.{lengthAt, fieldAt, isField, header};
 
 // ---- from bytes to words
 
@@ -175,15 +175,6 @@ pub fn put_header(out: &mut [u8], to: usize, tag: u8, len: usize)
     out[to] = tag;
     out[to + 1] = (len / 256) as u8;
     out[to + 2] = (len % 256) as u8;
-}
-
-// Writes a field whose payload is `count` words, from a place of the list on.
-pub fn put_field(tag: u8, words: &[i32], from: usize, count: usize, out: &mut [u8], to: usize)
-    requires { ⌜ (4 * count < 65536) × (from + count ≤ length (now words)) × (to + 3 + 4 * count ≤ length (now out)) ⌝ }
-    ensures { λ _. ⌜ now (out .exit) ≡ onto (take to (now (out .entry)) ++ field tag (wordsBytes (part (now (words .entry)) from count))) (now (out .entry)) ⌝ }
-{
-    put_header(out, to, tag, 4 * count);
-    put_words(words, from, count, out, to + 3)
 }
 
 // ---- the cursor

@@ -7,8 +7,8 @@ use lib.ListN.{length, take}
 use lib.Seq.{length-take-le}
 use Rattle.plant.specs.Questions.{modelQuestions}
 use Rattle.plant.specs.Tables.{tableSize}
+use Rattle.plant.specs.Calls.{tableQuestions}
 use Rattle.model.proofs.Passing.{head-ready}
-use Rattle.analysis.specs.Questions.{tableQuestions}
 use Rattle.analysis.proofs.Front.{front}
 use Rattle.analysis.proofs.Calls.{check-model, check-short, check-table, check-accepted}
 use Rattle.analysis.proofs.check.Statement.{statement}

@@ -1,5 +1,5 @@
 -- The loop keeps a Window: no cut so far is empty, and the window is what the delays so far share. A variable whose cut is
--- empty, or that has no delay, settles the answer.
+-- empty, or that has no delay, settles the answer, and the comparisons before the loop find most of these.
 use mathlib.Core.Path.{_≡_, sym, _∙_}
 use Prim.Native.Nat.{_-_, _<_}
 use native.Mathlib.Omega.{arith}
@@ -20,34 +20,42 @@ abbrev μ-loop : tie.MeasureT-loop
 μ-loop n inv rate part forbidden window₀ i₀ window i = n - i
 
 -- the range of the variable's cut
-low-is : (c : tie.After-cut-high Inv-loop μ-loop) → let a = c .before .before .before .before .args in toZ w64 (ofZ w64 (c .before .cut-low .result)) ≡ lowest (a .inv .now) (a .forbidden .now) (c .before .before .before .loop .i)
+low-is : (c : tie.After-cut-high Inv-loop μ-loop) → let a = c .before .before .before .before .before .before .args in toZ w64 (ofZ w64 (c .before .cut-low .result)) ≡ lowest (a .inv .now) (a .forbidden .now) (c .before .before .before .loop .i)
 low-is c = got64 (c .before .cut-low .result) (c .before .cut-low .ok) ∙ c .before .cut-low .ensures
 
-high-is : (c : tie.After-cut-high Inv-loop μ-loop) → let a = c .before .before .before .before .args in toZ w64 (ofZ w64 (c .cut-high .result)) ≡ highest (a .inv .now) (a .forbidden .now) (c .before .before .before .loop .i)
+high-is : (c : tie.After-cut-high Inv-loop μ-loop) → let a = c .before .before .before .before .before .before .args in toZ w64 (ofZ w64 (c .cut-high .result)) ≡ highest (a .inv .now) (a .forbidden .now) (c .before .before .before .loop .i)
 high-is c = got64 (c .cut-high .result) (c .cut-high .ok) ∙ c .cut-high .ensures
 
 -- the delays into it
-delays-are : (c : tie.After-variable-delays Inv-loop μ-loop) → let h = c .before .before in let a = h .before .before .before .before .args in c .variable-delays .result ≡ delaysAt (a .inv .now) (a .rate .now) (a .part .now) (a .forbidden .now) (h .before .before .before .loop .i)
+delays-are : (c : tie.After-variable-delays Inv-loop μ-loop) → let h = c .before .before in let a = h .before .before .before .before .before .before .args in c .variable-delays .result ≡ delaysAt (a .inv .now) (a .rate .now) (a .part .now) (a .forbidden .now) (h .before .before .before .loop .i)
 delays-are c = simp (low-is (c .before .before), high-is (c .before .before)) at (c .variable-delays .ensures)
 
 -- where an interval was found
-found : (c : tie.After-known-told Inv-loop μ-loop) → let h = c .before .before .before .before .before in let a = h .before .before .before .before .args in delaysAt (a .inv .now) (a .rate .now) (a .part .now) (a .forbidden .now) (h .before .before .before .loop .i) ≡ Between (c .before .t .given .0 .0)
+found : (c : tie.After-known-told Inv-loop μ-loop) → let h = c .before .before .before .before .before in let a = h .before .before .before .before .before .before .args in delaysAt (a .inv .now) (a .rate .now) (a .part .now) (a .forbidden .now) (h .before .before .before .loop .i) ≡ Between (c .before .t .given .0 .0)
 found c = sym (delays-are (c .before .before .before)) ∙ c .before .t .given .1
 
 small : (c : tie.After-known-told Inv-loop μ-loop) → SmallInterval (c .before .t .given .0 .0)
 small c =
     let h = c .before .before .before .before .before in
-    let s = h .before .before .before .before in
+    let s = h .before .before .before .before .before .before in
     let i = h .before .before .before .loop .i in
     let l : i < s .args .n = omega arith in
     found-small (s .pre .0 i l) (s .pre .3 i l) (s .pre .1 i l) (s .pre .2 i l) (found c)
 
+ruled-out-requires : tie.Need-ruled-out-requires Inv-loop μ-loop
+ruled-out-requires c κs = c .pre
+
+returns : tie.Need-returns Inv-loop μ-loop
+returns c = sym (c .before .ruled-out .ensures (c .if1 .taken))
+
 loop-holds : tie.Need-loop-holds Inv-loop μ-loop
-loop-holds c = window-start (c .args .n) (c .args .inv .now) (c .args .rate .now) (c .args .part .now) (c .args .forbidden .now)
+loop-holds c =
+    let a = c .before .before .args in
+    window-start (a .n) (a .inv .now) (a .rate .now) (a .part .now) (a .forbidden .now)
 
 cut-low-requires : tie.Need-cut-low-requires Inv-loop μ-loop
 cut-low-requires c κs =
-    let s = c .before .before in
+    let s = c .before .before .before .before in
     let i = c .before .loop .i in
     let l : i < s .args .n = omega arith in
     let b = s .pre .3 i l in
@@ -56,24 +64,24 @@ cut-low-requires c κs =
 
 cut-high-requires : tie.Need-cut-high-requires Inv-loop μ-loop
 cut-high-requires c κs =
-    let s = c .before .before .before in
+    let s = c .before .before .before .before .before in
     let i = c .before .before .loop .i in
     let l : i < s .args .n = omega arith in
     let b = s .pre .3 i l in
     let v = s .pre .0 i l in
     search needs
 
-returns : tie.Need-returns Inv-loop μ-loop
-returns c =
+returns-2 : tie.Need-returns-2 Inv-loop μ-loop
+returns-2 c =
     let h = c .before in
-    let s = h .before .before .before .before in
+    let s = h .before .before .before .before .before .before in
     let i = h .before .before .before .loop .i in
     let a = s .args in
-    sym (empty-cut (a .n) (a .inv .now) (a .rate .now) (a .part .now) (a .forbidden .now) i (omega arith) (simp (low-is h, high-is h) at (c .if1 .taken)))
+    sym (empty-cut (a .n) (a .inv .now) (a .rate .now) (a .part .now) (a .forbidden .now) i (omega arith) (simp (low-is h, high-is h) at (c .if2 .taken)))
 
 variable-delays-requires : tie.Need-variable-delays-requires Inv-loop μ-loop
 variable-delays-requires c κs =
-    let s = c .before .before .before .before .before in
+    let s = c .before .before .before .before .before .before .before in
     let i = c .before .before .before .before .loop .i in
     let l : i < s .args .n = omega arith in
     simp (low-is (c .before), high-is (c .before))
@@ -85,10 +93,10 @@ enum-known-t c = search needs
 enum-told : tie.Need-enum-told Inv-loop μ-loop
 enum-told c = search needs
 
-returns-2 : tie.Need-returns-2 Inv-loop μ-loop
-returns-2 c =
+returns-3 : tie.Need-returns-3 Inv-loop μ-loop
+returns-3 c =
     let d = c .before .before in
-    let s = d .before .before .before .before .before .before in
+    let s = d .before .before .before .before .before .before .before .before in
     let i = d .before .before .before .before .before .loop .i in
     let a = s .args in
     sym (no-delay (a .n) (a .inv .now) (a .rate .now) (a .part .now) (a .forbidden .now) i (omega arith) (sym (delays-are d) ∙ c .enum-told .given .1))
@@ -109,20 +117,20 @@ loop-again : tie.Need-loop-again Inv-loop μ-loop
 loop-again c =
     let k = c .before in
     let d = k .before .before .before in
-    let s = d .before .before .before .before .before .before in
+    let s = d .before .before .before .before .before .before .before .before in
     let i = d .before .before .before .before .before .loop in
     let a = s .args in
     rw (c .both .ensures)
     (window-more (a .n) (a .inv .now) (a .rate .now) (a .part .now) (a .forbidden .now) (i .inv) (omega arith)
-    (simp (low-is (d .before .before), high-is (d .before .before)) at (d .before .if1 .left)) (found k) (small k))
+    (simp (low-is (d .before .before), high-is (d .before .before)) at (d .before .if2 .left)) (found k) (small k))
 
 has-delay-requires : tie.Need-has-delay-requires Inv-loop μ-loop
 has-delay-requires c κs = c .before .loop .inv .small
 
-returns-3 : tie.Need-returns-3 Inv-loop μ-loop
-returns-3 c =
+returns-4 : tie.Need-returns-4 Inv-loop μ-loop
+returns-4 c =
     let l = c .before .before .loop in
-    let a = c .before .before .before .args in
+    let a = c .before .before .before .before .before .args in
     c .has-delay .ensures ∙ window-end (a .n) (a .inv .now) (a .rate .now) (a .part .now) (a .forbidden .now) (l .inv) (omega arith)
 
 pub touches-spec : {M : Type 1} → statement M
@@ -131,17 +139,19 @@ touches-spec =
     (tie.spec
     Inv-loop
     μ-loop
+    ruled-out-requires
+    returns
     loop-holds
     cut-low-requires
     cut-high-requires
-    returns
+    returns-2
     variable-delays-requires
     enum-known-t
     enum-told
-    returns-2
+    returns-3
     both-requires
     add-i
     loop-less
     loop-again
     has-delay-requires
-    returns-3)
+    returns-4)

@@ -17,35 +17,35 @@ Inv-loop model locations sum₀ l₀ sum l = (l ≤ L# model) × (sum ≡ sumBel
 abbrev μ-loop : tie.MeasureT-loop
 μ-loop model locations sum₀ l₀ sum l = L# model - l
 
-number-requires : tie.Need-number-requires Inv-loop μ-loop
-number-requires c κs = let m = c .args .model .now in (omega (arith, whole m (c .pre) .head .there), passed m (c .pre) .head 1 (omega arith))
+locations-requires : tie.Need-locations-requires Inv-loop μ-loop
+locations-requires c κs = whole (c .args .model .now) (c .pre) .head
 
 loop-holds : tie.Need-loop-holds Inv-loop μ-loop
 loop-holds c = (omega arith, sym (sum-none (locationCeiling (c .before .args .model .now))))
 
 location-ceiling-requires : tie.Need-location-ceiling-requires Inv-loop μ-loop
-location-ceiling-requires c κs = (c .before .before .before .pre, omega (arith, c .before .before .number .ensures))
+location-ceiling-requires c κs = (c .before .before .before .pre, omega (arith, c .before .before .locations .ensures))
 
 add-sum : tie.Need-add-sum Inv-loop μ-loop
 add-sum c =
     let m = c .before .before .before .before .args .model .now in
     let ok : Passed m = passed m (c .before .before .before .before .pre) in
     let l = c .before .before .loop .l in
-    record { fits = omega (arith, c .location-ceiling .ensures, location-small m ok l (omega (arith, c .before .before .before .number .ensures)), locations-small m ok l (omega arith), ok .L-small) }
+    record { fits = omega (arith, c .location-ceiling .ensures, location-small m ok l (omega (arith, c .before .before .before .locations .ensures)), locations-small m ok l (omega arith), ok .L-small) }
 
 add-l : tie.Need-add-l Inv-loop μ-loop
 add-l c = omega arith
 
 loop-less : tie.Need-loop-less Inv-loop μ-loop
-loop-less c = omega (arith, c .before .before .before .number .ensures)
+loop-less c = omega (arith, c .before .before .before .locations .ensures)
 
 loop-again : tie.Need-loop-again Inv-loop μ-loop
-loop-again c = (omega (arith, c .before .before .before .number .ensures), omega (arith, c .location-ceiling .ensures, sum-more (locationCeiling (c .before .before .before .before .args .model .now)) (c .before .before .loop .l)))
+loop-again c = (omega (arith, c .before .before .before .locations .ensures), omega (arith, c .location-ceiling .ensures, sum-more (locationCeiling (c .before .before .before .before .args .model .now)) (c .before .before .loop .l)))
 
 returns : tie.Need-returns Inv-loop μ-loop
 returns c =
     let m = c .before .before .before .args .model .now in
-    let e : c .before .loop .l ≡ L# m = omega (arith, c .before .before .number .ensures) in
+    let e : c .before .loop .l ≡ L# m = omega (arith, c .before .before .locations .ensures) in
     rw e at (c .before .loop .inv .1) ∙ ceiling-is m
 
 pub ceiling-of-spec : {M : Type 1} → statement M
@@ -54,7 +54,7 @@ ceiling-of-spec =
     (tie.spec
     Inv-loop
     μ-loop
-    number-requires
+    locations-requires
     loop-holds
     location-ceiling-requires
     add-sum

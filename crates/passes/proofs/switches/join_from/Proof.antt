@@ -1,14 +1,14 @@
 -- What was read of switch e makes its step from the source's face.
 use mathlib.Core.List.{List}
 use lib.IntN.{ℤ}
-use mathlib.Core.Path.{_≡_, ap, _∙_}
+use mathlib.Core.Path.{_≡_, refl, ap, _∙_}
 use native.Mathlib.Omega.{arith}
 use Prim.Native.Nat.{ℕ, _+_, _*_}
 use Rattle.plant.specs.Model.{invariant, source, wallVariable, sourceSide}
 use Rattle.plant.specs.Tables.{sourceFace}
 use Rattle.passes.specs.Parts.{partWords}
 use Rattle.records.specs.Whole.{Whole, Placed}
-use Rattle.passes.proofs.Reading.{whole, placed, source-place, switch-join, step-joined}
+use Rattle.passes.proofs.Reading.{whole, placed, source-place, source-at, table-within, table-small, switch-join, step-joined}
 use borrow.Author.Needs.{needs}
 use Rattle.passes.proofs.switches.join_from.Statement.{statement}
 use Rattle.passes.proofs.switches.join_from.Tie as tie
@@ -44,8 +44,19 @@ add-f c =
 source-requires : tie.Need-source-requires
 source-requires c κs = placed-at (c .before .before .before) .numbered
 
-add-part : tie.Need-add-part
-add-part c =
+mul-part-at : tie.Need-mul-part-at
+mul-part-at c =
+    let s = c .before .before .before .before in
+    let a = s .args in
+    let m = a .model .now in
+    let t = a .table .now in
+    let ok = s .pre .0 in
+    let l = s .pre .1 in
+    let q = source-place m t ok (a .e) l (c .source .ensures) (c .before .before .wall-variable .ensures) (c .before .source-side .ensures) in
+    omega (arith, source-at m t ok (c .source .result) (s .pre .3), table-within m t ok (c .source .result) (omega (arith, q .0)) refl, table-small m t ok)
+
+add-part-at : tie.Need-add-part-at
+add-part-at c =
     let s = c .before .before .before .before in
     let a = s .args in
     let m = a .model .now in
@@ -54,8 +65,8 @@ add-part c =
     let l = s .pre .1 in
     omega (arith, source-place m t ok (a .e) l (c .source .ensures) (c .before .before .wall-variable .ensures) (c .before .source-side .ensures), whole-at s .head .n-small)
 
-part-requires : tie.Need-part-requires
-part-requires c κs =
+part-at-requires : tie.Need-part-at-requires
+part-at-requires c κs =
     let s = c .before .before .before .before in
     let a = s .args in
     let m = a .model .now in
@@ -63,7 +74,7 @@ part-requires c κs =
     let ok = s .pre .0 in
     let l = s .pre .1 in
     let q = source-place m t ok (a .e) l (c .source .ensures) (c .before .before .wall-variable .ensures) (c .before .source-side .ensures) in
-    (ok .ready, q .0, q .1)
+    (ok .ready, q .0, source-at m t ok (c .source .result) (s .pre .3), q .1)
 
 target-requires : tie.Need-target-requires
 target-requires c κs = placed-at (c .before .before .before .before .before) .numbered
@@ -90,7 +101,7 @@ join-switch-requires c κs =
     let t = a .table .now in
     let ok = s .pre .0 in
     let l = s .pre .1 in
-    let from : c .before .before .before .before .before .before .part .result .now ≡ partWords m t (source m (a .e)) (sourceFace m (a .e) + 1) = c .before .before .before .before .before .before .part .ensures ∙ from-is m t (a .e) (c .before .before .before .before .before .before .before .source .ensures) (c .before .before .before .before .before .before .before .before .before .wall-variable .ensures) (c .before .before .before .before .before .before .before .before .source-side .ensures) in
+    let from : c .before .before .before .before .before .before .part-at .result .now ≡ partWords m t (source m (a .e)) (sourceFace m (a .e) + 1) = c .before .before .before .before .before .before .part-at .ensures ∙ from-is m t (a .e) (c .before .before .before .before .before .before .before .source .ensures) (c .before .before .before .before .before .before .before .before .before .wall-variable .ensures) (c .before .before .before .before .before .before .before .before .source-side .ensures) in
     switch-join m t ok (a .e) (c .before .before .before .before .before .before .before .before .before .before .variables .ensures) (c .before .before .guard .ensures) (c .before .reset .ensures) (c .before .before .before .before .invariant .ensures ∙ ap (invariant m) (c .before .before .before .before .before .target .ensures)) from l (s .pre .2)
 
 same-length : tie.Need-same-length
@@ -103,7 +114,7 @@ returns c =
     let m = a .model .now in
     let t = a .table .now in
     let ok = s .pre .0 in
-    let from : c .before .before .before .before .before .before .before .before .part .result .now ≡ partWords m t (source m (a .e)) (sourceFace m (a .e) + 1) = c .before .before .before .before .before .before .before .before .part .ensures ∙ from-is m t (a .e) (c .before .before .before .before .before .before .before .before .before .source .ensures) (c .before .before .before .before .before .before .before .before .before .before .before .wall-variable .ensures) (c .before .before .before .before .before .before .before .before .before .before .source-side .ensures) in
+    let from : c .before .before .before .before .before .before .before .before .part-at .result .now ≡ partWords m t (source m (a .e)) (sourceFace m (a .e) + 1) = c .before .before .before .before .before .before .before .before .part-at .ensures ∙ from-is m t (a .e) (c .before .before .before .before .before .before .before .before .before .source .ensures) (c .before .before .before .before .before .before .before .before .before .before .before .wall-variable .ensures) (c .before .before .before .before .before .before .before .before .before .before .source-side .ensures) in
     step-joined m t ok (a .e) (c .before .before .before .before .before .before .before .before .before .before .before .before .variables .ensures) (c .before .before .before .before .guard .ensures) (c .before .before .before .reset .ensures) (c .before .before .before .before .before .before .invariant .ensures ∙ ap (invariant m) (c .before .before .before .before .before .before .before .target .ensures)) from (c .before .before .before .before .before .reset-mask .ensures) (a .face .now) (c .before .join-switch .ensures)
 
 pub join-from-spec : {M : Type 1} → statement M
@@ -116,8 +127,9 @@ join-from-spec =
     source-side-requires
     add-f
     source-requires
-    add-part
-    part-requires
+    mul-part-at
+    add-part-at
+    part-at-requires
     target-requires
     invariant-requires
     reset-mask-requires

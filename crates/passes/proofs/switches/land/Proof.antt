@@ -1,11 +1,11 @@
 -- The face on which switch e lands is joined with its step, and no other face changes.
 use mathlib.Core.Path.{_≡_}
 use native.Mathlib.Omega.{arith}
-use Prim.Native.Nat.{_+_, _-_, _*_}
+use Prim.Native.Nat.{ℕ, _+_, _-_, _*_, _≤_}
 use Rattle.plant.specs.Model.{target}
-use Rattle.plant.specs.Tables.{faceAt, targetFace}
+use Rattle.plant.specs.Tables.{faceSize, faceAt, targetFace}
 use Rattle.records.specs.Whole.{Whole, Placed}
-use Rattle.passes.proofs.Reading.{whole, table-filled, placed, target-face, target-place, target-at, face-small}
+use Rattle.passes.proofs.Reading.{whole, table-filled, placed, target-face, target-at, face-small}
 use Rattle.passes.proofs.Landing.{lands-inside, target-is-face, landed}
 use borrow.Author.Needs.{needs}
 use Rattle.passes.proofs.switches.land.Statement.{statement}
@@ -18,10 +18,22 @@ placed-at : (c : tie.Start) → Placed (c .args .model .now) (c .args .e)
 placed-at c = placed (c .args .model .now) (c .args .table .now) (c .pre .0) (c .args .e) (c .pre .1)
 
 -- where the face stands on which the switch lands
-at-is : (c : tie.After-face-at) → let s = c .before .before .before .before .before in let m = s .args .model .now in c .face-at .result ≡ faceAt m (target m (s .args .e)) (targetFace m (s .args .e))
-at-is c =
-    let s = c .before .before .before .before .before in
-    target-at (s .args .model .now) (s .args .table .now) (s .pre .0) (s .args .e) (c .before .before .before .before .variables .ensures) (c .before .target .ensures) (c .before .before .before .wall-variable .ensures) (c .before .before .target-side .ensures) (c .face-at .ensures)
+module _ (c : tie.After-target) where
+  at : ℕ
+  at = c .target .result * c .before .before .before .before .args .size + (2 * c .before .before .wall-variable .result + c .before .target-side .result) * (1 + 2 * c .before .before .before .variables .result)
+
+  at-is : let a = c .before .before .before .before .args in at ≡ faceAt (a .model .now) (target (a .model .now) (a .e)) (targetFace (a .model .now) (a .e))
+  unfolding at
+  at-is =
+      let s = c .before .before .before .before in
+      target-at (s .args .model .now) (s .args .table .now) (s .pre .0) (s .args .e) (c .before .before .before .variables .ensures) (s .pre .3) (c .target .ensures) (c .before .before .wall-variable .ensures) (c .before .target-side .ensures)
+
+  at-small : at + faceSize (c .before .before .before .variables .result) ≤ 9984
+  at-small =
+      let s = c .before .before .before .before in
+      let m = s .args .model .now in
+      let t = s .args .table .now in
+      omega (arith, at-is, c .before .before .before .variables .ensures, face-small m t (s .pre .0) (target m (s .args .e)) (targetFace m (s .args .e)) (placed-at s .target-is) (target-face m t (s .pre .0) (s .args .e) (s .pre .1)))
 
 variables-requires : tie.Need-variables-requires
 variables-requires c κs = whole-at c .head
@@ -44,43 +56,41 @@ add-f c =
 target-requires : tie.Need-target-requires
 target-requires c κs = placed-at (c .before .before .before) .numbered
 
-face-at-requires : tie.Need-face-at-requires
-face-at-requires c κs =
-    let s = c .before .before .before .before in
-    let a = s .args in
-    let m = a .model .now in
-    let t = a .table .now in
-    let ok = s .pre .0 in
-    let l = s .pre .1 in
-    target-place m t ok (a .e) l (c .before .before .before .variables .ensures) (c .target .ensures) (c .before .before .wall-variable .ensures) (c .before .target-side .ensures)
+mul-at : tie.Need-mul-at
+unfolding at
+mul-at c = omega (arith, at-small c)
+
+mul-at-2 : tie.Need-mul-at-2
+unfolding at
+mul-at-2 c = omega (arith, at-small c)
+
+add-at : tie.Need-add-at
+unfolding at
+add-at c = omega (arith, at-small c)
+
+mul-at-3 : tie.Need-mul-at-3
+unfolding at
+mul-at-3 c = omega (arith, at-small c)
+
+add-at-2 : tie.Need-add-at-2
+unfolding at
+add-at-2 c = omega (arith, at-small c)
 
 mul-end : tie.Need-mul-end
-mul-end c = omega (arith, c .before .before .before .before .variables .ensures, whole-at (c .before .before .before .before .before) .head .n-small)
+unfolding at
+mul-end c = omega (arith, at-small c)
 
 add-end : tie.Need-add-end
-add-end c = omega (arith, c .before .before .before .before .variables .ensures, whole-at (c .before .before .before .before .before) .head .n-small)
+unfolding at
+add-end c = omega (arith, at-small c)
 
 add-end-2 : tie.Need-add-end-2
-add-end-2 c =
-    let s = c .before .before .before .before .before in
-    let a = s .args in
-    let m = a .model .now in
-    let t = a .table .now in
-    let ok = s .pre .0 in
-    let l = s .pre .1 in
-    let at = at-is c in
-    omega (arith, c .before .before .before .before .variables .ensures, at, face-small m t ok (target m (a .e)) (targetFace m (a .e)) (placed-at s .target-is) (target-face m t ok (a .e) l))
+unfolding at
+add-end-2 c = omega (arith, at-small c)
 
 mul-join-from : tie.Need-mul-join-from
-mul-join-from c =
-    let s = c .before .before .before .before .before in
-    let a = s .args in
-    let m = a .model .now in
-    let t = a .table .now in
-    let ok = s .pre .0 in
-    let l = s .pre .1 in
-    let at = at-is c in
-    omega (arith, at, face-small m t ok (target m (a .e)) (targetFace m (a .e)) (placed-at s .target-is) (target-face m t ok (a .e) l))
+unfolding at
+mul-join-from c = omega (arith, at-small c)
 
 sub-join-from : tie.Need-sub-join-from
 sub-join-from c = search needs
@@ -89,40 +99,42 @@ part-join-from-start : tie.Need-part-join-from-start
 part-join-from-start c = search needs
 
 part-join-from-end : tie.Need-part-join-from-end
+unfolding at
 part-join-from-end c =
+    let s = c .before .before .before .before in
+    let a = s .args in
+    let m = a .model .now in
+    let t = a .table .now in
+    let ok = s .pre .0 in
+    let l = s .pre .1 in
+    omega (arith, c .before .before .before .variables .ensures, at-is c, lands-inside m t (table-filled m t ok) (a .e) (placed-at s .target-is) (target-face m t ok (a .e) l) (a .out .now) (s .pre .2))
+
+join-from-requires : tie.Need-join-from-requires
+unfolding at
+join-from-requires c κs =
     let s = c .before .before .before .before .before in
     let a = s .args in
     let m = a .model .now in
     let t = a .table .now in
     let ok = s .pre .0 in
     let l = s .pre .1 in
-    let at = at-is c in
-    omega (arith, c .before .before .before .before .variables .ensures, at, lands-inside m t (table-filled m t ok) (a .e) (placed-at s .target-is) (target-face m t ok (a .e) l) (a .out .now) (s .pre .2))
-
-join-from-requires : tie.Need-join-from-requires
-join-from-requires c κs =
-    let s = c .before .before .before .before .before .before in
-    let a = s .args in
-    let m = a .model .now in
-    let t = a .table .now in
-    let ok = s .pre .0 in
-    let l = s .pre .1 in
-    let at = at-is (c .before) in
-    (ok, l, target-is-face m t (table-filled m t ok) (a .e) (placed-at s .target-is) (target-face m t ok (a .e) l) (a .out .now) (s .pre .2) {k = (c .before .face-at .result + (1 + 2 * c .before .before .before .before .before .variables .result)) - c .before .face-at .result} at (omega (arith, c .before .before .before .before .before .variables .ensures)))
+    let n = c .before .before .before .before .variables in
+    (ok, l, target-is-face m t (table-filled m t ok) (a .e) (placed-at s .target-is) (target-face m t ok (a .e) l) (a .out .now) (s .pre .2) {k = (at (c .before) + (1 + 2 * n .result)) - at (c .before)} (at-is (c .before)) (omega (arith, n .ensures)), s .pre .3)
 
 same-length : tie.Need-same-length
 same-length c = search needs
 
 returns : tie.Need-returns
+unfolding at
 returns c =
-    let s = c .before .before .before .before .before .before .before .before in
+    let s = c .before .before .before .before .before .before .before in
     let a = s .args in
     let m = a .model .now in
     let t = a .table .now in
     let ok = s .pre .0 in
     let l = s .pre .1 in
-    let at = at-is (c .before .before .before) in
-    landed m t (table-filled m t ok) (a .e) (placed-at s .target-is) (target-face m t ok (a .e) l) (a .out .now) (s .pre .2) {k = (c .before .before .before .face-at .result + (1 + 2 * c .before .before .before .before .before .before .before .variables .result)) - c .before .before .before .face-at .result} at (omega (arith, c .before .before .before .before .before .before .before .variables .ensures)) (c .before .join-from .ensures)
+    let n = c .before .before .before .before .before .before .variables in
+    landed m t (table-filled m t ok) (a .e) (placed-at s .target-is) (target-face m t ok (a .e) l) (a .out .now) (s .pre .2) {k = (at (c .before .before .before) + (1 + 2 * n .result)) - at (c .before .before .before)} (at-is (c .before .before .before)) (omega (arith, n .ensures)) (c .before .join-from .ensures)
 
 pub land-spec : {M : Type 1} → statement M
 land-spec =
@@ -134,7 +146,11 @@ land-spec =
     target-side-requires
     add-f
     target-requires
-    face-at-requires
+    mul-at
+    mul-at-2
+    add-at
+    mul-at-3
+    add-at-2
     mul-end
     add-end
     add-end-2

@@ -1,0 +1,104 @@
+-- What every call at the desk keeps to: it is the analysis where the counters can take the limit, an answer moves them and a refusal
+-- does not, its passes are within the limit, and 22 keeps the counters from running over.
+use mathlib.Core.Path.{_≡_, refl, sym}
+use mathlib.Core.Bool.{Bool, true, false, cond}
+use mathlib.Core.List.{List, [], _∷_}
+use Prim.Native.Nat.{ℕ, zero, suc, _+_, _≤_}
+use native.Mathlib.Nat.{le-trans}
+use native.Mathlib.Omega.{arith}
+use borrow.Author.Tests.{le-leb, lt-leb}
+use lib.Dec.{T, leb}
+use lib.IntN.{ℤ}
+use lib.ListN.{length}
+use Rattle.integers.proofs.Counted.{is-true}
+use Rattle.plant.specs.Ask.{ask, orElse, _then_}
+use Rattle.plant.specs.Tables.{tableSize}
+use Rattle.plant.specs.Calls.{refused, answerReply, analysis, analysisQuestions, analyseBy, analyseCall}
+use Rattle.plant.proofs.Asks.{ask-le, ask-yes, or-right, then-le}
+use Rattle.plant.proofs.Numbers.{model-le}
+use Rattle.plant.proofs.Search as search
+use Rattle.desk.specs.declared.Desk.{Desk}
+use Rattle.desk.specs.Desks.{countersOk, deskQuestions, deskBy, deskCall, Holds, isAnswer, DeskAnswers, Call, serve, deskAfter}
+use Rattle.desk.proofs.Serving.{jobs-fit, limit-fits, desk-full}
+
+-- no refusal of the desk is taken for an answer
+questions-le : (d : Desk) (m : List ℤ) (limit : ℕ) (table work : List ℤ) → deskQuestions d m limit table work ≤ 22
+unfolding deskQuestions analysisQuestions
+questions-le d m limit table work =
+    then-le _ _ 22
+    (then-le _ _ 22 (le-trans (model-le m) (omega arith))
+    (then-le _ _ 22 (le-trans (ask-le (leb (tableSize m) (length table)) 20) (omega arith)) (le-trans (ask-le (leb (tableSize m) (length work)) 21) (omega arith))))
+    (ask-le (countersOk d limit) 22)
+
+module _ (d : Desk) (m : List ℤ) (limit : ℕ) (table work : List ℤ) where
+  same-by : (q : ℕ) (room : Bool) → T room → deskBy (q then ask room 22) d m limit table work .analysed ≡ analyseBy q m limit table work
+  unfolding orElse
+  same-by zero true h = refl
+  same-by (suc q) true h = refl
+  same-by q false h = absurd h
+
+  is-analysis : T (countersOk d limit) → deskCall d m limit table work .analysed ≡ analyseCall m limit table work
+  unfolding deskCall deskQuestions analyseCall
+  is-analysis h = same-by (analysisQuestions m table work) (countersOk d limit) h
+
+  full : (T (countersOk d limit) → ⊥) → analysisQuestions m table work ≡ 0
+      → deskCall d m limit table work ≡ record { desk = d; analysed = record { reply = refused 22; table = table; work = work } }
+  full h asks = sym (desk-full d m limit table work asks (by (countersOk d limit) h))
+    where
+      by : (b : Bool) → (T b → ⊥) → b ≡ false
+      by true n = absurd (n tt)
+      by false n = refl
+
+  -- what the call adds to the counters
+  moves-by : (q : ℕ) → q ≤ 22 → let s = deskBy q d m limit table work in
+      (s .desk .passes ≡ d .passes + cond (isAnswer (s .analysed .reply)) (s .analysed .reply .value) 0)
+      × (s .desk .jobs ≡ d .jobs + cond (isAnswer (s .analysed .reply)) 1 0)
+  moves-by zero h =
+      let e : isAnswer (answerReply (analysis m limit)) ≡ true = le-leb 100 (answerReply (analysis m limit) .code) (search.answer-code m limit) in
+      (rw e refl, rw e refl)
+  moves-by (suc q) h =
+      let e : leb 100 (suc q) ≡ false = lt-leb 100 (suc q) (omega arith) in
+      (rw e (omega arith), rw e (omega arith))
+
+  moves : let s = deskCall d m limit table work in
+      (s .desk .passes ≡ d .passes + cond (isAnswer (s .analysed .reply)) (s .analysed .reply .value) 0)
+      × (s .desk .jobs ≡ d .jobs + cond (isAnswer (s .analysed .reply)) 1 0)
+  unfolding deskCall
+  moves = moves-by (deskQuestions d m limit table work) (questions-le d m limit table work)
+
+  within-by : (q : ℕ) → deskBy q d m limit table work .desk .passes ≤ d .passes + limit
+  within-by zero = omega (arith, search.within-limit m limit)
+  within-by (suc q) = omega arith
+
+  within-limit : deskCall d m limit table work .desk .passes ≤ d .passes + limit
+  unfolding deskCall
+  within-limit = within-by (deskQuestions d m limit table work)
+
+  -- the counters can take the limit where all questions are yes
+  room : deskQuestions d m limit table work ≡ 0 → countersOk d limit ≡ true
+  unfolding deskQuestions
+  room e = is-true (ask-yes (countersOk d limit) 22 (omega arith) (or-right (analysisQuestions m table work) _ e))
+
+  stays-by : (q : ℕ) → (q ≡ 0 → countersOk d limit ≡ true) → Holds d → Holds (deskBy q d m limit table work .desk)
+  stays-by zero r h = record { jobs-most = jobs-fit d limit (r refl); passes-most = omega (arith, within-by zero, limit-fits d limit (r refl)) }
+  stays-by (suc q) r h = h
+
+  pub stays : Holds d → Holds (deskCall d m limit table work .desk)
+  unfolding deskCall
+  stays = stays-by (deskQuestions d m limit table work) room
+
+-- after every list of calls
+pub still-holds : (d : Desk) (cs : List Call) → Holds d → Holds (deskAfter d cs)
+unfolding deskAfter
+still-holds d [] h = h
+still-holds d (c ∷ cs) h = still-holds (serve d c .desk) cs (stays d (c .model) (c .limit) (c .table) (c .work) h)
+
+pub desk-answers : (d : Desk) (m : List ℤ) (limit : ℕ) (table work : List ℤ) → DeskAnswers d m limit table work
+desk-answers d m limit table work = record {
+  is-analysis = is-analysis d m limit table work;
+  full = full d m limit table work;
+  passes-moved = moves d m limit table work .0;
+  jobs-moved = moves d m limit table work .1;
+  within-limit = within-limit d m limit table work;
+  stays = stays d m limit table work;
+}
