@@ -60,7 +60,8 @@ extern "C" {
  * passes (qii_table_len gives its length); the rest of the buffer is as it was. After a refusal
  * the whole buffer is as it was.
  *
- * decide can refuse by these numbers, asked in this order: 1 to 4, 6 to 8, 11 to 19, 39.
+ * decide can refuse by these numbers, asked in this order: 1 to 4; 6 and 7 of each field in turn,
+ * 8; 11 to 13 of each location, 14 to 18 of each switch, 19 of each forbidden box; 39.
  */
 uint64_t decide(const uint8_t *model, size_t model_len, uint8_t *table, size_t table_len,
                 uint32_t limit);
@@ -73,8 +74,9 @@ uint64_t decide(const uint8_t *model, size_t model_len, uint8_t *table, size_t t
  *
  * Gives QII_ACCEPTED, or a number of enum qii_refusal. It writes nothing.
  *
- * check can refuse by these numbers, asked in this order: 1 to 4, 6 to 8, 11 to 19, 35, then 36
- * and 37 of each face in turn, 38, 32, 33, 34.
+ * check can refuse by these numbers, asked in this order: 1 to 4; 6 and 7 of each field in turn,
+ * 8; 11 to 13 of each location, 14 to 18 of each switch, 19 of each forbidden box; 35, then 36 and
+ * 37 of each face in turn, 38, 32, 33, 34.
  */
 uint64_t check(const uint8_t *model, size_t model_len, const uint8_t *table, size_t table_len);
 
@@ -136,7 +138,9 @@ enum qii_refusal {
        no level. */
     QII_FORBIDDEN = 19,
 
-    /* check: a face is not ordered, not inside its location's invariant, or not on its wall. */
+    /* check: a present face is not ordered, not inside its location's invariant, or not on its
+       wall. (Of words also: a flag is not 0 or 1, or an absent face is not all zeros; no file has
+       such a face.) */
     QII_TABLE_FACE = 32,
     /* check: a pass changes the table. */
     QII_TABLE_GROWS = 33,
@@ -156,8 +160,8 @@ enum qii_refusal {
     QII_TABLE_ROOM = 39
 
     /* Only the library's Rattle calls refuse by 5 (a list or buffer too short for the model's
-       words), 20 (for the table's words), 21 (the work buffer too short) and 22 (a counter of the
-       desk would run over). The numbers 9, 10 and 23 to 31 are not in use. */
+       words), 20 (for the table's words), 21 (the work buffer too short) and 22 (jobs + 1 or
+       passes + limit is above 4,294,967,295). The numbers 9, 10 and 23 to 31 are not in use. */
 };
 
 /* The counts of the largest plant. */

@@ -11,10 +11,13 @@ use lib.Seq.{take-all}
 use borrow.Author.Tests.{lt-leb}
 use Rattle.integers.specs.Words.{same, onto}
 use Rattle.plant.specs.declared.Answer.{Answer}
+use Rattle.plant.specs.declared.Answer.the-variants.{Refused}
+use Rattle.plant.specs.declared.Verdict.the-variants.{Accepted}
+use Rattle.plant.specs.declared.Verdict.the-variants as verdict
 use Rattle.plant.specs.Ask.{ask, orElse, _then_}
 use Rattle.plant.specs.Questions.{modelQuestions}
 use Rattle.plant.specs.Tables.{tableSize, tableOk, pass, touching, ceilingOf}
-use Rattle.plant.specs.Calls.{Reply, refused, answerReply, ceilingBy, ceilingCall, unchanged, certificateQuestions, tableQuestions, checkerQuestions, checkBy, checkCall, analysis, answerTable, passesOf, analysisQuestions, Analysed, answered, analyseBy, analyseCall}
+use Rattle.plant.specs.Calls.{Reply, refused, ceilingBy, ceilingCall, unchanged, certificateQuestions, tableQuestions, checkerQuestions, verdictBy, analysis, answerTable, passesOf, analysisQuestions, Analysed, answered, analyseBy, analyseCall}
 use Rattle.plant.proofs.Asks.{go, halt, ask-intro, ask-yes, then-intro, then-both}
 use Rattle.plant.proofs.Passed.{passed}
 use Rattle.plant.proofs.Keeps.{after-length}
@@ -76,21 +79,20 @@ module _ (m t : List ℤ) where
 -- ---- the checker
 
 module _ (m t : List ℤ) where
-  refused-by : (q : ℕ) → (q ≡ 0 → ⊥) → refused q ≡ checkBy q
+  refused-by : (q : ℕ) → (q ≡ 0 → ⊥) → verdict.Refused q ≡ verdictBy q
   refused-by zero n = absurd (n refl)
   refused-by (suc q) n = refl
 
   -- a number that the chain of questions comes to
-  check-number : (q : ℕ) → q ≡ checkerQuestions m t → (q ≡ 0 → ⊥) → refused q ≡ checkCall m t
-  unfolding checkCall
-  check-number q e n = refused-by q n ∙ ap checkBy e
+  check-number : (q : ℕ) → q ≡ checkerQuestions m t → (q ≡ 0 → ⊥) → verdict.Refused q ≡ verdictBy (checkerQuestions m t)
+  check-number q e n = refused-by q n ∙ ap verdictBy e
 
-  pub check-model : (q : ℕ) → q ≡ modelQuestions m → (q ≡ 0 → ⊥) → refused q ≡ checkCall m t
+  pub check-model : (q : ℕ) → q ≡ modelQuestions m → (q ≡ 0 → ⊥) → verdict.Refused q ≡ verdictBy (checkerQuestions m t)
   unfolding checkerQuestions
   check-model q e n = check-number q (halt _ e n) n
 
   module _ (asks : modelQuestions m ≡ 0) where
-    pub check-short : length t < tableSize m → refused 20 ≡ checkCall m t
+    pub check-short : length t < tableSize m → verdict.Refused 20 ≡ verdictBy (checkerQuestions m t)
     unfolding checkerQuestions
     check-short h = check-number 20 (go refl asks (halt _ (short m t 20 h) (λ e. omega arith))) (λ e. omega arith)
 
@@ -99,12 +101,11 @@ module _ (m t : List ℤ) where
       unfolding checkerQuestions
       chain = go refl asks (go refl (long m t 20 room) (e ∙ questions-front m (passed m asks) t))
 
-      pub check-table : (q ≡ 0 → ⊥) → refused q ≡ checkCall m t
+      pub check-table : (q ≡ 0 → ⊥) → verdict.Refused q ≡ verdictBy (checkerQuestions m t)
       check-table n = check-number q chain n
 
-      pub check-accepted : q ≡ 0 → _≡_ {A = Reply} (record { code = 100; value = 0 }) (checkCall m t)
-      unfolding checkCall
-      check-accepted z = ap checkBy (sym z ∙ chain)
+      pub check-accepted : q ≡ 0 → Accepted ≡ verdictBy (checkerQuestions m t)
+      check-accepted z = ap verdictBy (sym z ∙ chain)
 
 -- ---- the questions of an analysis
 
@@ -145,13 +146,13 @@ module _ (m table work : List ℤ) where
 -- ---- the analysis
 
 module _ (m : List ℤ) (limit : ℕ) (table work : List ℤ) where
-  unmoved-by : (q : ℕ) → (q ≡ 0 → ⊥) → _≡_ {A = Analysed} (record { reply = refused q; table = table; work = work }) (analyseBy q m limit table work)
+  unmoved-by : (q : ℕ) → (q ≡ 0 → ⊥) → _≡_ {A = Analysed} (record { answer = Refused q; table = table; work = work }) (analyseBy q m limit table work)
   unmoved-by zero n = absurd (n refl)
   unmoved-by (suc q) n = refl
 
   module _ (q : ℕ) (e : q ≡ analysisQuestions m table work) where
     -- a refusal changes nothing
-    pub analyse-refused : (q ≡ 0 → ⊥) → _≡_ {A = Analysed} (record { reply = refused q; table = table; work = work }) (analyseCall m limit table work)
+    pub analyse-refused : (q ≡ 0 → ⊥) → _≡_ {A = Analysed} (record { answer = Refused q; table = table; work = work }) (analyseCall m limit table work)
     unfolding analyseCall
     analyse-refused n = unmoved-by q n ∙ ap (λ (x : ℕ). analyseBy x m limit table work) e
 
@@ -169,7 +170,7 @@ module _ (m : List ℤ) (limit : ℕ) (table work : List ℤ) where
     unfolding onto
     begins = ap₂ (λ (x : List ℤ) (k : ℕ). x ++ drop k table) is-table length-is
 
-    pub is-answered : _≡_ {A = Analysed} (record { reply = answerReply a; table = t ++ drop size table; work = w }) (answered m (analysis m limit) table work)
+    pub is-answered : _≡_ {A = Analysed} (record { answer = a; table = t ++ drop size table; work = w }) (answered m (analysis m limit) table work)
     is-answered =
-        ap₂ (λ (x y : List ℤ). record { reply = answerReply a; table = x; work = y }) begins is-clear
+        ap₂ (λ (x y : List ℤ). record { answer = a; table = x; work = y }) begins is-clear
         ∙ ap (λ (x : Answer). answered m x table work) is-analysis

@@ -4,7 +4,7 @@ ghost use mathlib.Core.Bool.{true};
 ghost use Rattle.integers.specs.Words.{same};
 ghost use Rattle.plant.specs.Tables.{tableOk, pass};
 ghost use Rattle.plant.specs.Calls as C;
-ghost use Rattle.plant.specs.Calls.{Analysed, answerReply, verdictReply, ceilingReply, ceilingCall, certificateQuestions, tableQuestions, checkCall, answerTable, analysisQuestions, answered, analyseCall};
+ghost use Rattle.plant.specs.Calls.{Analysed, ceilingReply, ceilingCall, certificateQuestions, tableQuestions, checkerQuestions, verdictBy, answerTable, analysisQuestions, answered, analyseCall};
 ghost use Rattle.analysis.specs.Ready.{Sized};
 use plant::Answer;
 use plant::Ceiling;
@@ -76,7 +76,7 @@ fn table_questions<'a>(model: &'a [i32], table: &'a [i32]) -> u32
 
 // Accepts exactly if the model's questions, 20 and 32 to 34 are all yes.
 pub fn check<'a>(model: &'a [i32], table: &'a [i32]) -> Verdict
-    ensures { λ r. ⌜ verdictReply r ≡ checkCall (now (model .entry)) (now (table .entry)) ⌝ }
+    ensures { λ r. ⌜ r ≡ verdictBy (checkerQuestions (now (model .entry)) (now (table .entry))) ⌝ }
 {
     let q = model::questions(model);
     if q != 0 {
@@ -139,7 +139,7 @@ pub fn questions<'a>(model: &'a [i32], table: &'a [i32], work: &'a [i32]) -> u32
 // The answer after its questions. The table buffer then begins with the answer's table, and the work buffer is all zero.
 pub fn analyse_passed(model: &[i32], limit: u32, table: &mut [i32], work: &mut [i32]) -> Answer
     requires { ⌜ analysisQuestions (now model) (now table) (now work) ≡ 0 ⌝ }
-    ensures { λ r. ⌜ record { reply = answerReply r; table = now (table .exit); work = now (work .exit) } ≡ answered (now (model .entry)) (C.analysis (now (model .entry)) limit) (now (table .entry)) (now (work .entry)) ⌝ }
+    ensures { λ r. ⌜ record { answer = r; table = now (table .exit); work = now (work .exit) } ≡ answered (now (model .entry)) (C.analysis (now (model .entry)) limit) (now (table .entry)) (now (work .entry)) ⌝ }
 {
     let size = tables::table_size(model);
     let answer = counted_passes(model, limit, &mut table[..size], &mut work[..size]);
@@ -149,7 +149,7 @@ pub fn analyse_passed(model: &[i32], limit: u32, table: &mut [i32], work: &mut [
 
 // The questions, and then the answer; a refusal changes nothing.
 pub fn analyse(model: &[i32], limit: u32, table: &mut [i32], work: &mut [i32]) -> Answer
-    ensures { λ r. ⌜ record { reply = answerReply r; table = now (table .exit); work = now (work .exit) } ≡ analyseCall (now (model .entry)) limit (now (table .entry)) (now (work .entry)) ⌝ }
+    ensures { λ r. ⌜ record { answer = r; table = now (table .exit); work = now (work .exit) } ≡ analyseCall (now (model .entry)) limit (now (table .entry)) (now (work .entry)) ⌝ }
 {
     let q = questions(model, table, work);
     if q != 0 {

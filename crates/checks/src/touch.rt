@@ -40,7 +40,7 @@ fn link(model: &[i32], last: &mut [usize; 64], before: &mut [usize; 64])
     }
 }
 
-// A part of a location touches a forbidden box of it: the search stops at the first such part.
+// A part of a location touches a forbidden box of it: the search stops at the first touch.
 pub fn touching<'a>(model: &'a [i32], table: &'a [i32]) -> bool
     requires { ⌜ TableReady (now model) (now table) × (tableOk (now model) (now table) ≡ true) ⌝ }
     ensures { λ r. ⌜ r ≡ T.touching (now (model .entry)) (now (table .entry)) ⌝ }

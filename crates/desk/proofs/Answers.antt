@@ -13,7 +13,8 @@ use lib.ListN.{length}
 use Rattle.integers.proofs.Counted.{is-true}
 use Rattle.plant.specs.Ask.{ask, orElse, _then_}
 use Rattle.plant.specs.Tables.{tableSize}
-use Rattle.plant.specs.Calls.{refused, answerReply, analysis, analysisQuestions, analyseBy, analyseCall}
+use Rattle.plant.specs.declared.Answer.the-variants.{Refused}
+use Rattle.plant.specs.Calls.{answerReply, replyOf, analysis, analysisQuestions, analyseBy, analyseCall}
 use Rattle.plant.proofs.Asks.{ask-le, ask-yes, or-right, then-le}
 use Rattle.plant.proofs.Numbers.{model-le}
 use Rattle.plant.proofs.Search as search
@@ -42,7 +43,7 @@ module _ (d : Desk) (m : List ℤ) (limit : ℕ) (table work : List ℤ) where
   is-analysis h = same-by (analysisQuestions m table work) (countersOk d limit) h
 
   full : (T (countersOk d limit) → ⊥) → analysisQuestions m table work ≡ 0
-      → deskCall d m limit table work ≡ record { desk = d; analysed = record { reply = refused 22; table = table; work = work } }
+      → deskCall d m limit table work ≡ record { desk = d; analysed = record { answer = Refused 22; table = table; work = work } }
   full h asks = sym (desk-full d m limit table work asks (by (countersOk d limit) h))
     where
       by : (b : Bool) → (T b → ⊥) → b ≡ false
@@ -51,8 +52,8 @@ module _ (d : Desk) (m : List ℤ) (limit : ℕ) (table work : List ℤ) where
 
   -- what the call adds to the counters
   moves-by : (q : ℕ) → q ≤ 22 → let s = deskBy q d m limit table work in
-      (s .desk .passes ≡ d .passes + cond (isAnswer (s .analysed .reply)) (s .analysed .reply .value) 0)
-      × (s .desk .jobs ≡ d .jobs + cond (isAnswer (s .analysed .reply)) 1 0)
+      (s .desk .passes ≡ d .passes + cond (isAnswer (replyOf (s .analysed))) (replyOf (s .analysed) .value) 0)
+      × (s .desk .jobs ≡ d .jobs + cond (isAnswer (replyOf (s .analysed))) 1 0)
   moves-by zero h =
       let e : isAnswer (answerReply (analysis m limit)) ≡ true = le-leb 100 (answerReply (analysis m limit) .code) (search.answer-code m limit) in
       (rw e refl, rw e refl)
@@ -61,8 +62,8 @@ module _ (d : Desk) (m : List ℤ) (limit : ℕ) (table work : List ℤ) where
       (rw e (omega arith), rw e (omega arith))
 
   moves : let s = deskCall d m limit table work in
-      (s .desk .passes ≡ d .passes + cond (isAnswer (s .analysed .reply)) (s .analysed .reply .value) 0)
-      × (s .desk .jobs ≡ d .jobs + cond (isAnswer (s .analysed .reply)) 1 0)
+      (s .desk .passes ≡ d .passes + cond (isAnswer (replyOf (s .analysed))) (replyOf (s .analysed) .value) 0)
+      × (s .desk .jobs ≡ d .jobs + cond (isAnswer (replyOf (s .analysed))) 1 0)
   unfolding deskCall
   moves = moves-by (deskQuestions d m limit table work) (questions-le d m limit table work)
 

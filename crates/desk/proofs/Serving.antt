@@ -9,7 +9,8 @@ use lib.Dec.{T, leb, ltb}
 use lib.IntN.{ℤ}
 use Rattle.plant.specs.Ask.{ask}
 use Rattle.plant.specs.declared.Answer.{Answer}
-use Rattle.plant.specs.Calls.{refused, answerReply, Analysed, analysis, passesOf, analysisQuestions, answered}
+use Rattle.plant.specs.declared.Answer.the-variants.{Refused}
+use Rattle.plant.specs.Calls.{Analysed, replyOf, analysis, passesOf, analysisQuestions, answered}
 use Rattle.plant.proofs.Asks.{go, halt, ask-intro, then-intro}
 use Rattle.plant.proofs.Search.{within-limit}
 use Rattle.desk.specs.declared.Desk.{Desk}
@@ -48,7 +49,7 @@ module _ (d : Desk) (limit : ℕ) where
 module _ (d : Desk) (m : List ℤ) (limit : ℕ) (table work : List ℤ) where
   -- a refusal moves nothing and changes nothing lent
   abbrev unmoved : ℕ → Served
-  unmoved q = record { desk = d; analysed = record { reply = refused q; table = table; work = work } }
+  unmoved q = record { desk = d; analysed = record { answer = Refused q; table = table; work = work } }
 
   unmoved-by : (q : ℕ) → (q ≡ 0 → ⊥) → unmoved q ≡ deskBy q d m limit table work
   unmoved-by zero n = absurd (n refl)
@@ -68,19 +69,19 @@ module _ (d : Desk) (m : List ℤ) (limit : ℕ) (table work : List ℤ) where
     desk-full h = refused-with 22 (go refl yes (ap (λ (b : Bool). ask b 22) (sym h))) (λ e. omega arith)
 
     -- an answer a of the analysis, with k passes made
-    module _ (room : countersOk d limit ≡ true) (a : Answer) (t w : List ℤ) (is : _≡_ {A = Analysed} (record { reply = answerReply a; table = t; work = w }) (answered m (analysis m limit) table work)) (k : ℕ) (made : k ≡ passesOf a) where
+    module _ (room : countersOk d limit ≡ true) (a : Answer) (t w : List ℤ) (is : _≡_ {A = Analysed} (record { answer = a; table = t; work = w }) (answered m (analysis m limit) table work)) (k : ℕ) (made : k ≡ passesOf a) where
       pub k-within : k ≤ limit
       k-within =
-          let e : passesOf a ≡ passesOf (analysis m limit) = ap (λ (x : Analysed). x .reply .value) is in
+          let e : passesOf a ≡ passesOf (analysis m limit) = ap (λ (x : Analysed). replyOf x .value) is in
           omega (arith, made, e, within-limit m limit)
 
       all-yes : 0 ≡ deskQuestions d m limit table work
       unfolding deskQuestions
       all-yes = sym (then-intro yes (ask-intro (countersOk d limit) 22 (subst T (sym room) tt)))
 
-      pub desk-answered : _≡_ {A = Served} (record { desk = record { jobs = d .jobs + 1; passes = d .passes + k }; analysed = record { reply = answerReply a; table = t; work = w } }) (deskCall d m limit table work)
+      pub desk-answered : _≡_ {A = Served} (record { desk = record { jobs = d .jobs + 1; passes = d .passes + k }; analysed = record { answer = a; table = t; work = w } }) (deskCall d m limit table work)
       unfolding deskCall
       desk-answered =
-          ap (λ (x : ℕ). record { desk = record { jobs = d .jobs + 1; passes = d .passes + x }; analysed = record { reply = answerReply a; table = t; work = w } }) made
+          ap (λ (x : ℕ). record { desk = record { jobs = d .jobs + 1; passes = d .passes + x }; analysed = record { answer = a; table = t; work = w } }) made
           ∙ ap (counted d) is
           ∙ ap (λ (x : ℕ). deskBy x d m limit table work) all-yes

@@ -6,7 +6,8 @@ use Prim.Native.Nat.{ℕ, zero, suc, _+_, _≤_}
 use lib.Dec.{T, leb}
 use lib.IntN.{ℤ}
 use Rattle.plant.specs.Ask.{ask, _then_}
-use Rattle.plant.specs.Calls.{Reply, refused, Analysed, analysis, analysisQuestions, answered, analyseCall}
+use Rattle.plant.specs.declared.Answer.the-variants.{Refused}
+use Rattle.plant.specs.Calls.{Reply, Analysed, replyOf, analysis, analysisQuestions, answered, analyseCall}
 use Rattle.desk.specs.declared.Desk.{Desk}
 
 -- a counter's largest number
@@ -31,11 +32,11 @@ pub record Served : Type 0 where
 
 -- an answered call moves jobs by 1 and passes by k; a refusal moves nothing and changes nothing lent
 abbrev pub counted : Desk → Analysed → Served
-counted d a = record { desk = record { jobs = d .jobs + 1; passes = d .passes + a .reply .value }; analysed = a }
+counted d a = record { desk = record { jobs = d .jobs + 1; passes = d .passes + replyOf a .value }; analysed = a }
 
 abbrev pub deskBy : ℕ → (d : Desk) (m : List ℤ) (limit : ℕ) (table work : List ℤ) → Served
 deskBy zero d m limit table work = counted d (answered m (analysis m limit) table work)
-deskBy (suc k) d m limit table work = record { desk = d; analysed = record { reply = refused (suc k); table = table; work = work } }
+deskBy (suc k) d m limit table work = record { desk = d; analysed = record { answer = Refused (suc k); table = table; work = work } }
 
 unfoldable pub deskCall : (d : Desk) (m : List ℤ) (limit : ℕ) (table work : List ℤ) → Served
 deskCall d m limit table work = deskBy (deskQuestions d m limit table work) d m limit table work
@@ -56,10 +57,10 @@ pub record DeskAnswers (d : Desk) (m : List ℤ) (limit : ℕ) (table work : Lis
   pub is-analysis : T (countersOk d limit) → deskCall d m limit table work .analysed ≡ analyseCall m limit table work
   -- where they cannot, an analysis that would be answered is refused by 22, and nothing changes
   pub full : (T (countersOk d limit) → ⊥) → analysisQuestions m table work ≡ 0
-      → deskCall d m limit table work ≡ record { desk = d; analysed = record { reply = refused 22; table = table; work = work } }
+      → deskCall d m limit table work ≡ record { desk = d; analysed = record { answer = Refused 22; table = table; work = work } }
   -- an answered call moves passes by the passes answered and jobs by 1, a refused one neither
-  pub passes-moved : let s = deskCall d m limit table work in s .desk .passes ≡ d .passes + cond (isAnswer (s .analysed .reply)) (s .analysed .reply .value) 0
-  pub jobs-moved : let s = deskCall d m limit table work in s .desk .jobs ≡ d .jobs + cond (isAnswer (s .analysed .reply)) 1 0
+  pub passes-moved : let s = deskCall d m limit table work in s .desk .passes ≡ d .passes + cond (isAnswer (replyOf (s .analysed))) (replyOf (s .analysed) .value) 0
+  pub jobs-moved : let s = deskCall d m limit table work in s .desk .jobs ≡ d .jobs + cond (isAnswer (replyOf (s .analysed))) 1 0
   -- no call is charged more passes than its limit
   pub within-limit : deskCall d m limit table work .desk .passes ≤ d .passes + limit
   -- no counter runs over
@@ -84,7 +85,7 @@ deskAfter d (c ∷ cs) = deskAfter (serve d c .desk) cs
 -- the replies, in order
 unfoldable pub replies : Desk → List Call → List Reply
 replies d [] = []
-replies d (c ∷ cs) = serve d c .analysed .reply ∷ replies (serve d c .desk) cs
+replies d (c ∷ cs) = replyOf (serve d c .analysed) ∷ replies (serve d c .desk) cs
 
 -- how many answers there are among replies, and the sum of the passes answered
 unfoldable pub answersOf : List Reply → ℕ

@@ -1,6 +1,6 @@
 // The order desk: two counters, and an analysis that moves them (document 01, "Desk and host").
 ghost use mathlib.Core.Path.{_≡_};
-ghost use Rattle.plant.specs.Calls.{answerReply, passesOf};
+ghost use Rattle.plant.specs.Calls.{passesOf};
 ghost use Rattle.desk.specs.Desks.{countersOk, Served, deskCall};
 use plant::Answer;
 
@@ -38,7 +38,7 @@ fn passes_of(answer: Answer) -> u32
 // The desk call with the desk by value: the questions of an analysis, then 22, then the analysis. A refusal moves no counter and
 // changes nothing lent.
 pub fn serve(desk: Desk, model: &[i32], limit: u32, table: &mut [i32], work: &mut [i32]) -> Receipt
-    ensures { λ r. ⌜ record { desk = r .desk; analysed = record { reply = answerReply (r .answer); table = now (table .exit); work = now (work .exit) } } ≡ deskCall desk (now (model .entry)) limit (now (table .entry)) (now (work .entry)) ⌝ }
+    ensures { λ r. ⌜ record { desk = r .desk; analysed = record { answer = r .answer; table = now (table .exit); work = now (work .exit) } } ≡ deskCall desk (now (model .entry)) limit (now (table .entry)) (now (work .entry)) ⌝ }
 {
     let q = analysis::questions(model, table, work);
     if q != 0 {
@@ -69,7 +69,7 @@ pub fn desk_call(
     table: &mut [i32],
     work: &mut [i32],
 ) -> Answer
-    ensures { λ r. ⌜ record { desk = now (desk .exit); analysed = record { reply = answerReply r; table = now (table .exit); work = now (work .exit) } } ≡ deskCall (now (desk .entry)) (now (model .entry)) limit (now (table .entry)) (now (work .entry)) ⌝ }
+    ensures { λ r. ⌜ record { desk = now (desk .exit); analysed = record { answer = r; table = now (table .exit); work = now (work .exit) } } ≡ deskCall (now (desk .entry)) (now (model .entry)) limit (now (table .entry)) (now (work .entry)) ⌝ }
 {
     let receipt = serve(*desk, model, limit, table, work);
     *desk = receipt.desk;

@@ -12,7 +12,7 @@ use Rattle.plant.specs.declared.Answer.{Answer}
 use Rattle.plant.specs.Ask.{orElse, _then_}
 use Rattle.plant.specs.Questions.{modelQuestions}
 use Rattle.plant.specs.Tables.{tableSize}
-use Rattle.plant.specs.Calls.{Reply, refused, answerReply, Analysed, analysis, answerTable, answered, passesOf}
+use Rattle.plant.specs.Calls.{refused, answerReply, Analysed, replyOf, analysis, answerTable, answered, passesOf}
 use Rattle.plant.proofs.Asks.{ask-intro}
 use Rattle.plant.proofs.Passed.{passed}
 use Rattle.plant.proofs.Keeps.{after-length}
@@ -37,15 +37,15 @@ module _ (m : List ℤ) (asks : modelQuestions m ≡ 0) (limit : ℕ) where
   length-answer = after-length m (passed m asks) (passesOf a)
 
   -- with words lent for the table
-  module _ (table work : List ℤ) (fits : tableSize m ≤ length table) {q : Reply} {t w : List ℤ} (e : _≡_ {A = Analysed} (record { reply = q; table = t; work = w }) (answered m a table work)) where
-    same-reply : packed q ≡ packed (answerReply a)
-    same-reply = ap (λ (x : Analysed). packed (x .reply)) e
+  module _ (table work : List ℤ) (fits : tableSize m ≤ length table) {q : Answer} {t w : List ℤ} (e : _≡_ {A = Analysed} (record { answer = q; table = t; work = w }) (answered m a table work)) where
+    same-reply : packed (answerReply q) ≡ packed (answerReply a)
+    same-reply = ap (λ (x : Analysed). packed (replyOf x)) e
 
     -- the words of the table are lent to the writer
     pub answer-front : {size : ℕ} → size ≡ tableSize m → Front t size (answerTable m a)
     answer-front is-size = front table (ap (λ (x : Analysed). x .table) e) (length-answer ∙ sym is-size) (omega (arith, is-size, fits))
 
-    pub is-decided : {size number : ℕ} (file : List ℕ) {after : List ℕ} → size ≡ tableSize m → number ≡ packed q → after ≡ onto (tableFile m (take size t)) file
+    pub is-decided : {size number : ℕ} (file : List ℕ) {after : List ℕ} → size ≡ tableSize m → number ≡ packed (answerReply q) → after ≡ onto (tableFile m (take size t)) file
         → _≡_ {A = Decided} (record { number = number; file = after }) (decided m a file)
     is-decided {size} {number} file {after} is-size n f = rw (n, f, same-reply, answer-front is-size .are) refl
 

@@ -14,7 +14,7 @@ use Rattle.plant.specs.declared.Answer.{Answer}
 use Rattle.plant.specs.Ask.{_then_}
 use Rattle.plant.specs.Questions.{modelQuestions}
 use Rattle.plant.specs.Tables.{tableSize, tableOk, tableAfter}
-use Rattle.plant.specs.Calls.{answerReply, ceilingCall, certificateQuestions, tableQuestions, checkerQuestions, checkBy, checkCall, analysis, answerTable, passesOf, Analysed, answered, analyseCall}
+use Rattle.plant.specs.Calls.{answerReply, ceilingCall, certificateQuestions, tableQuestions, checkerQuestions, checkBy, checkCall, analysis, answerTable, passesOf, Analysed, replyOf, answered, analyseCall}
 use Rattle.plant.specs.Demands.{Accepts, answers, NoRunMeets, ThirdDemand}
 use Rattle.plant.proofs.Asks.{ask-intro, ask-le, ask-yes, asked, then-both, then-intro, then-le}
 use Rattle.plant.proofs.Passed.{passed}
@@ -170,7 +170,7 @@ module _ (s : List ℕ) where
       analysed = sym (analyse-answered m limit t t 0 (all-yes m t t asks long long) (answered m a t t) refl refl)
 
       answers-are : answers m limit t t ≡ code s file limit
-      answers-are = ap (λ (x : Analysed). x .reply .code) analysed ∙ sym code-is
+      answers-are = ap (λ (x : Analysed). replyOf x .code) analysed ∙ sym code-is
 
       table-is : analyseCall m limit t t .table ≡ t
       table-is = ap (λ (x : Analysed). x .table) analysed ∙ onto-all t t refl
@@ -179,7 +179,7 @@ module _ (s : List ℕ) where
       demand = third-demand m asks
 
       three : (code s file limit ≡ 100) ⊎ ((code s file limit ≡ 101) ⊎ (code s file limit ≡ 102))
-      three = subst (λ (c : ℕ). (c ≡ 100) ⊎ ((c ≡ 101) ⊎ (c ≡ 102))) answers-are (first-demand m asks limit t t (record { table-room = long; work-room = long }))
+      three = subst (λ (c : ℕ). (c ≡ 100) ⊎ ((c ≡ 101) ⊎ (c ≡ 102))) answers-are (first-demand m .is-answered asks limit t t (record { table-room = long; work-room = long }))
 
       safe-accepts : code s file limit ≡ 100 → Accepts m t
       safe-accepts h = subst (Accepts m) table-is (demand .safe-accepted limit t t (answers-are ∙ h))
@@ -199,6 +199,17 @@ module _ (s : List ℕ) where
           by : (code s file limit ≡ 100) ⊎ ((code s file limit ≡ 101) ⊎ (code s file limit ≡ 102)) → code s file limit ≡ 100
           by (inl h) = h
           by (inr (inl h)) = absurd (unknown-refused h (x .table) (x .accepts))
+          by (inr (inr h)) = absurd (never-unfinished u h)
+
+      safe-acceptable : code s file limit ≡ 100 → AcceptableFile s
+      safe-acceptable h = record { table = answerFile s file limit; accepts = safe-accepted h }
+
+      none-unknown : ceilingCall m .value ≤ limit → (AcceptableFile s → ⊥) → code s file limit ≡ 101
+      none-unknown u none = by three
+        where
+          by : (code s file limit ≡ 100) ⊎ ((code s file limit ≡ 101) ⊎ (code s file limit ≡ 102)) → code s file limit ≡ 101
+          by (inl h) = absurd (none (safe-acceptable h))
+          by (inr (inl h)) = h
           by (inr (inr h)) = absurd (never-unfinished u h)
 
     -- a model file that passes, with room for its longest table file
@@ -223,9 +234,10 @@ module _ (s : List ℕ) where
       safe-accepted = λ h. safe-accepted (answer-yes (omega arith)) h;
       unknown-refused = λ h. unknown-refused (answer-yes (omega arith)) h;
       never-unfinished = λ u h. never-unfinished (answer-yes (omega arith)) u h;
-      safe-exactly = λ u yes room. (
-        λ h. record { table = answerFile s file limit; accepts = safe-accepted (with-room yes room) h },
-        accepted-safe (with-room yes room) u,
+      safe-exactly = λ u yes room. (safe-acceptable (with-room yes room), accepted-safe (with-room yes room) u);
+      otherwise-unknown = λ u yes room. (
+        λ h x. unknown-refused (with-room yes room) h (x .table) (x .accepts),
+        none-unknown (with-room yes room) u,
       );
     }
 

@@ -61,6 +61,10 @@ module _ (s file : List ℕ) (limit : ℕ) where
     pub safe-exactly :
         ceilingCall (modelOf s) .value ≤ limit → modelFileQuestions s ≡ 0 → longestTableFile (modelOf s) ≤ length file
         → (code ≡ 100) ↔ AcceptableFile s
+    -- and otherwise unknown
+    pub otherwise-unknown :
+        ceilingCall (modelOf s) .value ≤ limit → modelFileQuestions s ≡ 0 → longestTableFile (modelOf s) ≤ length file
+        → (code ≡ 101) ↔ (AcceptableFile s → ⊥)
 
 -- ---- both calls, for all bytes
 

@@ -43,7 +43,6 @@ use denote.Triple.Table.{entered, cited}
 use denote.Triple.Walked.{says, Stays, stay-ref, stay-none, stay-none-slice, gave-slice, walkOf, AllGo, goes-none, goes-none-slice, goes-gave-slice, goes-ref, Walks, ends-at, walked, walk-meets}
 use denote.Triple.Clauses.{ensured, lasts}
 use denote.Exit.{yes}
-use Rattle.plant.specs.Calls.{answerReply}
 use Rattle.plant.proofs.Answer as E
 use Rattle.plant.proofs.Answer.Laws as E′
 use Rattle.desk.specs.Desks.{Served, deskCall}
@@ -133,7 +132,7 @@ module _ {M : Type 1} (𝓤 : URA M) (H : Heap 𝓤) (A : Atoms 𝓤) (W : Given
   last-work zs = zs .1 .1 .1 .1 .0
 
   abbrev Said : Receipt → Lists → Type 0
-  Said r zs = _≡_ {A = Served} (record { desk = r .desk; analysed = record { reply = answerReply (r .answer); table = last-table zs; work = last-work zs } }) (deskCall h (m .now) n (t .now) (w .now))
+  Said r zs = _≡_ {A = Served} (record { desk = r .desk; analysed = record { answer = r .answer; table = last-table zs; work = last-work zs } }) (deskCall h (m .now) n (t .now) (w .now))
 
   -- the facts of the desk within what came back: what closing the borrow asks
   made : (r : Receipt) (u : Val) → Is S.the-row r (u ∷ []) → Is T.the-row (r .desk) (T′.lowered (r .desk) ∷ [])
