@@ -18,7 +18,7 @@ use Rattle.plant.specs.Steps.{switchStep}
 use Rattle.plant.specs.Tables.{faceSize, wordsPerLocation, tableSize, faceAt, tableBy, faceRead, faceOf, faceOk, tableOk, partOf, wallStepAt, wallFrom, wallsJoined, switchStepAt, sourceFace, targetFace}
 use Rattle.plant.proofs.Passed.{SwitchPassed, Passed, passed}
 use Rattle.plant.proofs.Tables.{Filled, filled, face-inside}
-use Rattle.tables.proofs.Faces.{words-small, table-most}
+use Rattle.tables.proofs.Faces.{table-most}
 use Rattle.records.specs.Whole.{Whole, Placed}
 use Rattle.records.proofs.Positions.{length-guard, length-reset}
 use Rattle.records.proofs.Walls.{wall-at}
@@ -163,9 +163,6 @@ pub next-location : (l : ℕ) {at w size : ℕ} → at ≡ l * w → size ≡ w 
 next-location l e h = rw (e, h) (omega arith)
 
 module _ (m t : List ℤ) (ok : Checked m t) where
-  pub block-small : wordsPerLocation (n# m) ≤ 156
-  block-small = words-small (n# m) (model-passed m t ok .n-positive) (model-passed m t ok .n-small)
-
   pub locations-sized : (l : ℕ) → length (locationsOf m t l) ≡ wordsPerLocation (n# m)
   locations-sized l = location-length (n# m) (wallsJoined m t l) ∙ sym (table-filled m t ok)
 

@@ -8,8 +8,8 @@ use native.Mathlib.Omega.{arith}
 use lib.Dec.{eqb}
 use lib.IntN.{ℤ, pos, negsuc, natAbs}
 use lib.Signed.{leZ, _≤ℤ_, ≤ℤ-refl}
-use lib.ListN.{length, take, drop, length-take, take-append-drop}
-use lib.Seq.{length-take-le, getD-take, drop-append-add, drop-drop}
+use lib.ListN.{length, take, drop, take-append-drop}
+use lib.Seq.{length-take-le, drop-append-add, drop-drop}
 use Rattle.integers.specs.Words.{onto}
 use Rattle.integers.specs.Counted.{allBelow}
 use Rattle.integers.proofs.Parts.{⁺, ⁻, arithZ}
@@ -22,7 +22,7 @@ use Rattle.plant.specs.declared.Delays.the-variants.{Between, Never}
 use Rattle.plant.specs.Box.{low, high, boxBy, ordered, Ordered, Inside, cut, Face, absent, present, unlessEmpty, onBox}
 use Rattle.plant.specs.Steps.{Bound, unbounded, bound, lowBound, highBound, cutLow, cutHigh, lowAfter, highAfter, boxAfter, faceAfter, wallDelays, wallStep, setMasked, guarded, landed, switchStep}
 use Rattle.plant.proofs.Boxes.{low-boxBy, high-boxBy, length-boxBy, length-cut, cut-right, FaceAll, unless-all, onBox-all}
-use Rattle.delays.specs.Ranges.{LevelAt, Levels}
+use Rattle.delays.specs.Ranges.{Levels}
 use Rattle.steps.specs.Handing.{Handed}
 use Rattle.steps.proofs.Written.{not-all, ordered-by}
 use Rattle.steps.proofs.Landing.{landedBox}
@@ -111,15 +111,6 @@ module _ (n mask : ℕ) (guard reset inv from : List ℤ) where
   switch-handed {r} {exit} {out} o e =
       rw e (box-handed n (landedBox n mask guard reset inv from) out r _ length-landed (switch-is ∙ ap (λ (x : Bool). cond x (present (landedBox n mask guard reset inv from)) absent) (sym o)))
 
--- the ends of the box at the front
-pub front-low : (n : ℕ) (s : List ℤ) (i : ℕ) → i < n → low (take (2 * n) s) i ≡ low s i
-unfolding low
-front-low n s i l = getD-take (2 * n) s (2 * i) (pos 0) (omega arith)
-
-pub front-high : (n : ℕ) (s : List ℤ) (i : ℕ) → i < n → high (take (2 * n) s) i ≡ high s i
-unfolding high
-front-high n s i l = getD-take (2 * n) s (2 * i + 1) (pos 0) (omega arith)
-
 -- ---- its range
 
 -- a box of n variables, ordered and inside the invariant
@@ -179,14 +170,3 @@ in-levels {n} {inv} {b} v h i l = record {
   low-in = between (low b i) (h .inside .lower i l) (trans (h .is-ordered i l) (h .inside .higher i l)) (v i l .low-in) (v i l .high-in);
   high-in = between (high b i) (trans (h .inside .lower i l) (h .is-ordered i l)) (h .inside .higher i l) (v i l .low-in) (v i l .high-in);
 }
-
--- of a face that was handed over, those in the lent words too
-pub handed-levels : {n : ℕ} {r : Bool} {exit out inv : List ℤ} {face : Face} → Levels n inv → Handed n r exit out face → FaceAll (InInvariant n inv) face → r ≡ true → Levels n exit
-handed-levels {n} {r} {exit} {out} {inv} {face} v h p e i l =
-    let is-in : InInvariant n inv (take (2 * n) exit) = subst (FaceAll (InInvariant n inv)) (h .is-face ∙ ap (λ (x : Bool). cond x (present (take (2 * n) exit)) absent) e) p in
-    let at : LevelAt (take (2 * n) exit) i = in-levels v is-in i l in
-    record {
-      there = omega (arith, h .sized, length-take (2 * n) exit);
-      low-in = rw (← (front-low n exit i l)) (at .low-in);
-      high-in = rw (← (front-high n exit i l)) (at .high-in);
-    }

@@ -62,10 +62,6 @@ module _ (p : List ℕ) (tag : ℕ) (payload q : List ℕ) (at m : ℕ) (ep : le
   before : length (p ++ header tag (length payload)) ≡ at + 3
   before = omega (arith, length-append p (header tag (length payload)))
 
-  -- and so is its payload
-  pub payload-back : part s (at + 3) m ≡ payload
-  payload-back = rw around (ap (take m) (drop-at (p ++ header tag (length payload)) (payload ++ q) (at + 3) before) ∙ take-at payload q m em)
-
 -- the words of a field that is written
 pub field-words-back : (p : List ℕ) (tag : ℕ) (zs : List ℤ) (q : List ℕ) (at k : ℕ) → length p ≡ at → length zs ≡ k → AreWords zs → wordsAt (p ++ (field tag (wordsBytes zs) ++ q)) (at + 3) k ≡ zs
 field-words-back p tag zs q at k ep ek f =
