@@ -6,7 +6,7 @@ use native.Mathlib.Nat.{mul-le-mul, mul-le-mul-right}
 use native.Mathlib.Omega.{arith}
 use lib.IntN.{ℤ}
 use lib.ListN.{length}
-use Rattle.plant.specs.Model.{n#, L#, E#, B#, locationAt, invariant, rate, startBox, switchAt, guard, reset, forbiddenAt, forbiddenBox, modelSize}
+use Rattle.plant.specs.Model.{n#, L#, E#, B#, headSize, locationSize, switchSize, forbiddenSize, locationAt, invariant, rate, startBox, switchAt, guard, reset, forbiddenAt, forbiddenBox, modelSize}
 use Rattle.plant.proofs.Boxes.{length-boxAt}
 use Rattle.records.specs.Whole.{Head, Whole}
 
@@ -16,13 +16,13 @@ row-within {i} {rows} w h = omega (arith, mul-le-mul-right w h)
 
 -- ---- small places, where n is the number of variables
 
-pub locations-small : (n l : ℕ) → l ≤ 64 → n ≤ 6 → l * (6 * n + 1) ≤ 2368
+pub locations-small : (n l : ℕ) → l ≤ 64 → n ≤ 6 → l * locationSize n ≤ 2368
 locations-small n l h k = let f : 6 * n + 1 ≤ 37 = omega arith in let g : l * (6 * n + 1) ≤ 64 * 37 = mul-le-mul h f in omega arith
 
-pub switches-small : (n e : ℕ) → e ≤ 128 → n ≤ 6 → e * (6 + 4 * n) ≤ 3840
+pub switches-small : (n e : ℕ) → e ≤ 128 → n ≤ 6 → e * switchSize n ≤ 3840
 switches-small n e h k = let f : 6 + 4 * n ≤ 30 = omega arith in let g : e * (6 + 4 * n) ≤ 128 * 30 = mul-le-mul h f in omega arith
 
-pub forbiddens-small : (n b : ℕ) → b ≤ 64 → n ≤ 6 → b * (1 + 2 * n) ≤ 832
+pub forbiddens-small : (n b : ℕ) → b ≤ 64 → n ≤ 6 → b * forbiddenSize n ≤ 832
 forbiddens-small n b h k = let f : 1 + 2 * n ≤ 13 = omega arith in let g : b * (1 + 2 * n) ≤ 64 * 13 = mul-le-mul h f in omega arith
 
 module _ (m : List ℤ) (h : Head m) where
@@ -37,22 +37,22 @@ module _ (m : List ℤ) (h : Head m) where
 -- ---- the records lie within the words
 
 -- after the head
-pub head-first : (m : List ℤ) → 4 ≤ modelSize m
+pub head-first : (m : List ℤ) → headSize ≤ modelSize m
 unfolding modelSize forbiddenAt switchAt locationAt
 head-first m = omega arith
 
 module _ (m : List ℤ) (w : Whole m) where
-  pub forbidden-within : (b : ℕ) → b < B# m → forbiddenAt m b + (1 + 2 * n# m) ≤ length m
+  pub forbidden-within : (b : ℕ) → b < B# m → forbiddenAt m b + forbiddenSize (n# m) ≤ length m
   unfolding forbiddenAt modelSize
-  forbidden-within b l = omega (arith, w .long, row-within (1 + 2 * n# m) l)
+  forbidden-within b l = omega (arith, w .long, row-within (forbiddenSize (n# m)) l)
 
-  pub switch-within : (e : ℕ) → e < E# m → switchAt m e + (6 + 4 * n# m) ≤ length m
+  pub switch-within : (e : ℕ) → e < E# m → switchAt m e + switchSize (n# m) ≤ length m
   unfolding switchAt forbiddenAt modelSize
-  switch-within e l = omega (arith, w .long, row-within (6 + 4 * n# m) l)
+  switch-within e l = omega (arith, w .long, row-within (switchSize (n# m)) l)
 
-  pub location-within : (l : ℕ) → l < L# m → locationAt m l + (6 * n# m + 1) ≤ length m
+  pub location-within : (l : ℕ) → l < L# m → locationAt m l + locationSize (n# m) ≤ length m
   unfolding locationAt switchAt forbiddenAt modelSize
-  location-within l k = omega (arith, w .long, row-within (6 * n# m + 1) k)
+  location-within l k = omega (arith, w .long, row-within (locationSize (n# m)) k)
 
   -- and so do their boxes
   pub length-invariant : (l : ℕ) → l < L# m → length (invariant m l) ≡ 2 * n# m

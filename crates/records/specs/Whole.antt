@@ -7,12 +7,12 @@ use lib.IntN.{ℤ}
 use lib.Signed.{nonNeg}
 use lib.ListN.{length}
 use Rattle.integers.specs.Words.{word}
-use Rattle.plant.specs.Model.{n#, L#, E#, B#, switchAt, source, target, wallVariable, sourceSide, targetSide, modelSize}
+use Rattle.plant.specs.Model.{n#, L#, E#, B#, headSize, switchAt, source, target, wallVariable, sourceSide, targetSide, modelSize}
 
 -- n, L, E and B are there and allowed
 pub record Head (m : List ℤ) : Type 0 where
-  pub there : 4 ≤ length m
-  pub not-negative : (j : ℕ) → j < 4 → T (nonNeg (word m j))
+  pub there : headSize ≤ length m
+  pub not-negative : (j : ℕ) → j < headSize → T (nonNeg (word m j))
   pub n-positive : 1 ≤ n# m
   pub n-small : n# m ≤ 6
   pub L-positive : 1 ≤ L# m

@@ -40,27 +40,52 @@ pub fn forbidden_boxes(model: &[i32]) -> usize
     integers::number(model, 3)
 }
 
+// ---- how many words the head has, and each record of n variables
+
+pub const HEAD_SIZE: usize = 4;
+
+pub fn location_size(n: usize) -> usize
+    requires { ⌜ n ≤ 6 ⌝ }
+    ensures { λ r. ⌜ r ≡ M.locationSize n ⌝ }
+{
+    6 * n + 1
+}
+
+pub fn switch_size(n: usize) -> usize
+    requires { ⌜ n ≤ 6 ⌝ }
+    ensures { λ r. ⌜ r ≡ M.switchSize n ⌝ }
+{
+    6 + 4 * n
+}
+
+pub fn forbidden_size(n: usize) -> usize
+    requires { ⌜ n ≤ 6 ⌝ }
+    ensures { λ r. ⌜ r ≡ M.forbiddenSize n ⌝ }
+{
+    1 + 2 * n
+}
+
 // ---- where the records stand
 
 pub fn location_at(model: &[i32], l: usize) -> usize
     requires { ⌜ Head (now model) × (l ≤ 64) ⌝ }
     ensures { λ r. ⌜ r ≡ M.locationAt (now (model .entry)) l ⌝ }
 {
-    4 + l * (6 * variables(model) + 1)
+    HEAD_SIZE + l * location_size(variables(model))
 }
 
 pub fn switch_at(model: &[i32], e: usize) -> usize
     requires { ⌜ Head (now model) × (e ≤ 128) ⌝ }
     ensures { λ r. ⌜ r ≡ M.switchAt (now (model .entry)) e ⌝ }
 {
-    location_at(model, locations(model)) + e * (6 + 4 * variables(model))
+    location_at(model, locations(model)) + e * switch_size(variables(model))
 }
 
 pub fn forbidden_at(model: &[i32], b: usize) -> usize
     requires { ⌜ Head (now model) × (b ≤ 64) ⌝ }
     ensures { λ r. ⌜ r ≡ M.forbiddenAt (now (model .entry)) b ⌝ }
 {
-    switch_at(model, switches(model)) + b * (1 + 2 * variables(model))
+    switch_at(model, switches(model)) + b * forbidden_size(variables(model))
 }
 
 // How many words the model has.

@@ -15,19 +15,16 @@ switch-at-requires c κs = search needs
 variables-requires : tie.Need-variables-requires
 variables-requires c κs = search needs
 
+forbidden-size-requires : tie.Need-forbidden-size-requires
+forbidden-size-requires c κs = search needs
+
 mul-result : tie.Need-mul-result
-mul-result c = search needs
+mul-result c = rw (c .forbidden-size .ensures) (record { fits = omega (arith, forbiddens-small (c .before .variables .result) (c .before .before .before .before .args .b) (omega arith) (omega arith)) })
 
 add-result : tie.Need-add-result
-add-result c = search needs
-
-mul-result-2 : tie.Need-mul-result-2
-mul-result-2 c = omega (arith, forbiddens-small (c .variables .result) (c .before .before .before .args .b) (omega arith) (omega arith))
-
-add-result-2 : tie.Need-add-result-2
-add-result-2 c =
-    let s = c .before .before .before in
-    omega (arith, forbiddens-small (c .variables .result) (s .args .b) (omega arith) (omega arith), switch-small (s .args .model .now) (s .pre .0) (c .before .before .switches .result) (omega arith))
+add-result c =
+    let s = c .before .before .before .before in
+    rw (c .forbidden-size .ensures) (record { fits = omega (arith, forbiddens-small (c .before .variables .result) (s .args .b) (omega arith) (omega arith), switch-small (s .args .model .now) (s .pre .0) (c .before .before .before .switches .result) (omega arith)) })
 
 returns : tie.Need-returns
 unfolding forbiddenAt
@@ -40,8 +37,7 @@ forbidden-at-spec =
     switches-requires
     switch-at-requires
     variables-requires
+    forbidden-size-requires
     mul-result
     add-result
-    mul-result-2
-    add-result-2
     returns)

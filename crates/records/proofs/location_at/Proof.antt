@@ -9,17 +9,14 @@ use Rattle.records.proofs.location_at.Tie as tie
 variables-requires : tie.Need-variables-requires
 variables-requires c κs = search needs
 
+location-size-requires : tie.Need-location-size-requires
+location-size-requires c κs = search needs
+
 mul-result : tie.Need-mul-result
-mul-result c = search needs
+mul-result c = rw (c .location-size .ensures) (record { fits = omega (arith, locations-small (c .before .variables .result) (c .before .before .args .l) (omega arith) (omega arith)) })
 
 add-result : tie.Need-add-result
-add-result c = search needs
-
-mul-result-2 : tie.Need-mul-result-2
-mul-result-2 c = omega (arith, locations-small (c .variables .result) (c .before .args .l) (omega arith) (omega arith))
-
-add-result-2 : tie.Need-add-result-2
-add-result-2 c = omega (arith, locations-small (c .variables .result) (c .before .args .l) (omega arith) (omega arith))
+add-result c = rw (c .location-size .ensures) (record { fits = omega (arith, locations-small (c .before .variables .result) (c .before .before .args .l) (omega arith) (omega arith)) })
 
 returns : tie.Need-returns
 unfolding locationAt
@@ -27,4 +24,4 @@ returns c = cc
 
 pub location-at-spec : {M : Type 1} → statement M
 location-at-spec =
-    tie.close (tie.spec variables-requires mul-result add-result mul-result-2 add-result-2 returns)
+    tie.close (tie.spec variables-requires location-size-requires mul-result add-result returns)

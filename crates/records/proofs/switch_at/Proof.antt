@@ -15,19 +15,16 @@ location-at-requires c κs = search needs
 variables-requires : tie.Need-variables-requires
 variables-requires c κs = search needs
 
+switch-size-requires : tie.Need-switch-size-requires
+switch-size-requires c κs = search needs
+
 mul-result : tie.Need-mul-result
-mul-result c = search needs
+mul-result c = rw (c .switch-size .ensures) (record { fits = omega (arith, switches-small (c .before .variables .result) (c .before .before .before .before .args .e) (omega arith) (omega arith)) })
 
 add-result : tie.Need-add-result
-add-result c = search needs
-
-mul-result-2 : tie.Need-mul-result-2
-mul-result-2 c = omega (arith, switches-small (c .variables .result) (c .before .before .before .args .e) (omega arith) (omega arith))
-
-add-result-2 : tie.Need-add-result-2
-add-result-2 c =
-    let s = c .before .before .before in
-    omega (arith, switches-small (c .variables .result) (s .args .e) (omega arith) (omega arith), location-small (s .args .model .now) (s .pre .0) (c .before .before .locations .result) (omega arith))
+add-result c =
+    let s = c .before .before .before .before in
+    rw (c .switch-size .ensures) (record { fits = omega (arith, switches-small (c .before .variables .result) (s .args .e) (omega arith) (omega arith), location-small (s .args .model .now) (s .pre .0) (c .before .before .before .locations .result) (omega arith)) })
 
 returns : tie.Need-returns
 unfolding switchAt
@@ -40,8 +37,7 @@ switch-at-spec =
     locations-requires
     location-at-requires
     variables-requires
+    switch-size-requires
     mul-result
     add-result
-    mul-result-2
-    add-result-2
     returns)
