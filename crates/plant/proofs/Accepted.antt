@@ -11,7 +11,7 @@ use lib.ListN.{length, take}
 use Rattle.integers.specs.Words.{onto}
 use Rattle.integers.proofs.Counted.{same-eq, same-intro}
 use Rattle.plant.specs.Ask.{ask}
-use Rattle.plant.specs.Box.{Face}
+use Rattle.plant.specs.Box.{Face, FaceIn}
 use Rattle.plant.specs.Model.{n#, L#}
 use Rattle.plant.specs.Questions.{modelQuestions}
 use Rattle.plant.specs.Tables.{tableSize, tableOk, faceOf, newFace, pass, tableAfter, touching}
@@ -19,7 +19,7 @@ use Rattle.plant.specs.Calls.{unchanged, certificateQuestions, tableQues
 use Rattle.plant.specs.Demands.{Accepts, Touches, Repeats}
 use Rattle.plant.proofs.Asks.{ask-yes, ask-intro, ask-le, asked, then-both, then-intro, then-le}
 use Rattle.plant.proofs.Numbers.{model-le}
-use Rattle.plant.proofs.Boxes.{FaceIn, face-eq, face-trans, face-antisym}
+use Rattle.plant.proofs.Boxes.{face-eq, face-trans, face-antisym}
 use Rattle.plant.proofs.Passed.{Passed, passed}
 use Rattle.plant.proofs.Tables.{filled, Begins, ends, ends-in, in-ends, long-enough, face-read, table-ext, Valid, ok-valid, made-valid, made-ok}
 use Rattle.plant.proofs.Growth.{TableIn, narrower-refl, new-mono}

@@ -12,10 +12,10 @@ use Rattle.integers.specs.Counted.{sumBelow}
 use Rattle.integers.proofs.Parts.{arithZ, #_, _⊟_}
 use Rattle.integers.proofs.Tests.{by-test₂}
 use Rattle.integers.proofs.Counted.{sum-le, sum-back, is-false}
-use Rattle.plant.specs.Box.{low, high, Ordered, Inside, Face, absent, present, faceWords}
+use Rattle.plant.specs.Box.{low, high, Ordered, Inside, Face, absent, present, faceWords, FaceIn}
 use Rattle.plant.specs.Model.{n#, L#, invariant, variableOf}
 use Rattle.plant.specs.Tables.{faceOf, newFace, pass, tableAfter, widths, ceilingOf}
-use Rattle.plant.proofs.Boxes.{FaceIn, box-ext, face-trans}
+use Rattle.plant.proofs.Boxes.{box-ext, face-trans}
 use Rattle.plant.proofs.Passed.{Passed}
 use Rattle.plant.proofs.Tables.{filled, OkFace, Valid, ends, in-ends, begins-itself, face-read, table-ext}
 use Rattle.plant.proofs.Growth.{TableIn, grows}

@@ -17,11 +17,11 @@ use Rattle.integers.specs.Counted.{cat, allBelow}
 use Rattle.integers.proofs.Tests.{by-test, and-yes, and-intro, or-yes, or-intro}
 use Rattle.integers.proofs.Counted.{all-yes, all-intro, or-right, cat-at, eqZ-eq, eqZ-intro}
 use Rattle.integers.proofs.Buffers.{length-cat, cat-ext}
-use Rattle.plant.specs.Box.{low, high, boxBy, boxAt, Ordered, Inside, Face, absent, present, faceWords}
+use Rattle.plant.specs.Box.{low, high, boxBy, boxAt, Ordered, Inside, Face, absent, present, faceWords, FaceIn}
 use Rattle.plant.specs.Model.{n#, L#, invariant, variableOf, faceWall}
 use Rattle.plant.specs.Questions.{insideOk, zerosOk}
 use Rattle.plant.specs.Tables.{wordsPerLocation, faceSize, tableSize, faceAt, tableBy, faceRead, faceOf, onWall, absentOk, presentOk, faceOk, tableOk}
-use Rattle.plant.proofs.Boxes.{low-boxBy, high-boxBy, box-ext, length-face, FaceIn, FaceAll, inside-ends, ends-inside}
+use Rattle.plant.proofs.Boxes.{low-boxBy, high-boxBy, box-ext, length-face, FaceAll, inside-ends, ends-inside}
 use Rattle.plant.proofs.Passed.{Passed, inside-ordered, inside-is}
 use Rattle.plant.proofs.WallStep.{OnWall}
 

@@ -6,13 +6,13 @@ use mathlib.Core.List.{List, [], _++_}
 use Prim.Native.Nat.{ℕ, _+_, _*_, _-_, _≤_, _<_}
 use native.Mathlib.Omega.{arith}
 use lib.Dec.{eqb}
-use lib.IntN.{ℤ, pos, negsuc, natAbs}
+use lib.IntN.{ℤ, pos}
 use lib.Signed.{leZ, _≤ℤ_, ≤ℤ-refl}
 use lib.ListN.{length, take, drop, take-append-drop}
 use lib.Seq.{length-take-le, drop-append-add, drop-drop}
 use Rattle.integers.specs.Words.{onto}
 use Rattle.integers.specs.Counted.{allBelow}
-use Rattle.integers.proofs.Parts.{⁺, ⁻, arithZ}
+use Rattle.integers.proofs.Signed.{between}
 use Rattle.integers.proofs.Order.{trans}
 use Rattle.integers.proofs.Extremes.{max-right, min-right}
 use Rattle.integers.proofs.Buffers.{take-onto, length-onto, onto-none}
@@ -154,14 +154,6 @@ switch-in n mask guard reset inv g =
     onBox-all (InInvariant n inv) (landed n mask reset inv)
     (λ b. let a = cut n (setMasked n mask reset b) reset in in-unless n inv (cut n a inv) (length-cut n a inv) (cut-right n a inv))
     (onBox g (guarded n guard))
-
-abs-parts : (z : ℤ) → natAbs z ≡ ⁺ z + ⁻ z
-abs-parts (pos a) = omega arith
-abs-parts (negsuc a) = omega arith
-
-between : {k : ℕ} {v w : ℤ} (z : ℤ) → v ≤ℤ z → z ≤ℤ w → natAbs v ≤ k → natAbs w ≤ k → natAbs z ≤ k
-between {v = v} {w} (pos a) g h p q = omega (arithZ, abs-parts w)
-between {v = v} {w} (negsuc a) g h p q = omega (arithZ, abs-parts v)
 
 -- its words are levels
 pub in-levels : {n : ℕ} {inv b : List ℤ} → Levels n inv → InInvariant n inv b → Levels n b
