@@ -5,20 +5,20 @@ use mathlib.Core.Bool.{Bool, true, false}
 use mathlib.Core.List.{List}
 use Prim.Native.Nat.{ℕ, _<_, _≤_}
 use native.Mathlib.Omega.{arith}
-use lib.Dec.{leb, le→leb, leb→le}
+use lib.Dec.{T, leb, le→leb, leb→le}
 use lib.IntN.{ℤ}
 use lib.ListN.{length}
 use Rattle.integers.specs.Words.{word}
 use Rattle.integers.proofs.Counted.{within-abs, within-one}
 use Rattle.plant.specs.Ask.{ask}
-use Rattle.plant.specs.Model.{E#}
-use Rattle.plant.specs.Questions.{placesQuestion, rangesQuestions, modelQuestions}
+use Rattle.plant.specs.Model.{E#, headSize}
+use Rattle.plant.specs.Questions.{placesOk, rangesQuestions, modelQuestions}
 use Rattle.plant.proofs.Asks.{ask-intro}
 use Rattle.plant.proofs.Passed.{one-abs, head-nonneg, RangesPassed, ranges-passed, PlacesPassed, places-passed, SwitchPassed, Passed, passed}
 use Rattle.records.specs.Whole.{Head, Whole, Placed}
 use Rattle.records.proofs.Positions.{head-first}
 
-pub head-passed : (m : List ℤ) → 4 ≤ length m → rangesQuestions m ≡ 0 → Head m
+pub head-passed : (m : List ℤ) → headSize ≤ length m → rangesQuestions m ≡ 0 → Head m
 head-passed m h e =
     let r : RangesPassed m = ranges-passed m e in
     record {
@@ -32,7 +32,7 @@ head-passed m h e =
       B-small = within-abs (word m 3) 64 (r .B-within);
     }
 
-pub placed : (m : List ℤ) (e : ℕ) → Whole m → e < E# m → placesQuestion m e ≡ 0 → Placed m e
+pub placed : (m : List ℤ) (e : ℕ) → Whole m → e < E# m → T (placesOk m e) → Placed m e
 placed m e w l h =
     let p : PlacesPassed m e = places-passed m e (w .head .n-positive) (w .head .L-positive) h in
     record {

@@ -15,7 +15,6 @@ use Rattle.integers.specs.Counted.{allBelow}
 use Rattle.integers.proofs.Signed.{abs-neg, fits64, as-signed, zero-minus}
 use Rattle.plant.specs.Box.{low, high}
 use Rattle.plant.specs.Model.{masked}
-use Rattle.model.specs.Switch.{singleBox}
 use Rattle.plant.specs.Questions.{boxOk, insideOk, zerosOk, belowOk}
 
 all-none : (f : ℕ → Bool) → true ≡ allBelow 0 f
@@ -50,13 +49,19 @@ pub zeros-more : (s : List ℤ) (i : ℕ) {ok t : Bool} → ok ≡ zerosOk i s �
 unfolding zerosOk
 zeros-more s i e h = all-more (λ i. eqZ (word s i) (pos 0)) i e h
 
-pub single-none : (mask : ℕ) (b : List ℤ) → true ≡ singleBox 0 mask b
-unfolding singleBox
-single-none mask b = all-none (λ i. not (masked mask i) || eqZ (low b i) (high b i))
+-- the masked ranges of the first k variables of a reset box are single
+abbrev singleAt : (mask : ℕ) (b : List ℤ) → ℕ → Bool
+singleAt mask b i = not (masked mask i) || eqZ (low b i) (high b i)
 
-pub single-more : (mask : ℕ) (b : List ℤ) (i : ℕ) {ok t : Bool} → ok ≡ singleBox i mask b → t ≡ (not (masked mask i) || eqZ (word b (2 * i)) (word b (2 * i + 1))) → (ok && t) ≡ singleBox (i + 1) mask b
-unfolding singleBox low high
-single-more mask b i e h = all-more (λ i. not (masked mask i) || eqZ (low b i) (high b i)) i e h
+abbrev pub singleBelow : (k mask : ℕ) (b : List ℤ) → Bool
+singleBelow k mask b = allBelow k (singleAt mask b)
+
+pub single-none : (mask : ℕ) (b : List ℤ) → true ≡ singleBelow 0 mask b
+single-none mask b = all-none (singleAt mask b)
+
+pub single-more : (mask : ℕ) (b : List ℤ) (i : ℕ) {ok t : Bool} → ok ≡ singleBelow i mask b → t ≡ (not (masked mask i) || eqZ (word b (2 * i)) (word b (2 * i + 1))) → (ok && t) ≡ singleBelow (i + 1) mask b
+unfolding low high
+single-more mask b i e h = all-more (singleAt mask b) i e h
 
 -- ---- limits, as code holds them
 

@@ -8,8 +8,12 @@ ghost use Rattle.integers.specs.Words as W;
 ghost use Rattle.plant.specs.Ask as S;
 ghost use Rattle.plant.specs.Model as M;
 ghost use Rattle.plant.specs.Questions as Q;
-ghost use Rattle.records.specs.Whole.{Whole, Placed};
-ghost use Rattle.model.specs.Switch.{boxesQuestion, singleBox, wallsQuestions, landingOf};
+ghost use Rattle.records.specs.Whole.{Whole, Numbered, Placed};
+
+// Levels lie in -1,000,000..1,000,000, rates in -1,000..1,000.
+const LEVEL_LIMIT: u32 = 1000000;
+
+const RATE_LIMIT: u32 = 1000;
 
 // ---- answers: 0 for yes, else the number of the refusal
 
@@ -102,70 +106,57 @@ fn location_questions(model: &[i32], l: usize) -> u32
     ensures { λ r. ⌜ r ≡ Q.locationQuestions (now (model .entry)) l ⌝ }
 {
     let n = records::variables(model);
-    let q11 = ask(box_ok(records::invariant(model, l), n, 1000000), 11);
-    let q12 = ask(box_ok(records::rate(model, l), n, 1000), 12);
+    let q11 = ask(box_ok(records::invariant(model, l), n, LEVEL_LIMIT), 11);
+    let q12 = ask(box_ok(records::rate(model, l), n, RATE_LIMIT), 12);
     let q13 = ask(start_ok(model, l), 13);
     or_else(q11, or_else(q12, q13))
 }
 
 // ---- the questions of a switch
 
-// A word in lo..hi.
-fn within(s: &[i32], at: usize, lo: i64, hi: i64) -> bool
-    requires { ⌜ at < length (now s) ⌝ }
-    ensures { λ r. ⌜ r ≡ W.within lo hi (W.word (now (s .entry)) at) ⌝ }
-{
-    let z = integers::word(s, at);
-    (lo <= z) & (z <= hi)
-}
-
 // A word that is a number below k.
 fn below_ok(s: &[i32], at: usize, k: usize) -> bool
     requires { ⌜ (at < length (now s)) × (1 ≤ k) × (k ≤ 1000) ⌝ }
     ensures { λ r. ⌜ r ≡ Q.belowOk (now (s .entry)) at k ⌝ }
 {
-    within(s, at, 0, (k - 1) as i64)
+    integers::within(integers::word(s, at), 0, (k - 1) as i64)
 }
 
-// Is word j of a switch a number below k?
-fn number_question(model: &[i32], e: usize, j: usize, k: usize) -> u32
-    requires { ⌜ Whole (now model) × (e < M.E# (now model)) × (j < 6) × (1 ≤ k) × (k ≤ 1000) ⌝ }
-    ensures { λ r. ⌜ r ≡ S.ask (Q.belowOk (now (model .entry)) (M.switchAt (now (model .entry)) e + j) k) 14 ⌝ }
-{
-    ask(below_ok(model, records::switch_at(model, e) + j, k), 14)
-}
-
-// Locations, d and sides exist, mask 0 to 2^n - 1?
-fn places_question(model: &[i32], e: usize) -> u32
+// Locations, d and sides exist, mask 0 to 2^n - 1.
+fn places_ok(model: &[i32], e: usize) -> bool
     requires { ⌜ Whole (now model) × (e < M.E# (now model)) ⌝ }
-    ensures { λ r. ⌜ r ≡ Q.placesQuestion (now (model .entry)) e ⌝ }
+    ensures { λ r. ⌜ r ≡ Q.placesOk (now (model .entry)) e ⌝ }
 {
     let n = records::variables(model);
     let l = records::locations(model);
-    let from = number_question(model, e, 0, l);
-    let to = number_question(model, e, 1, l);
-    let d = number_question(model, e, 2, n);
-    let s = number_question(model, e, 3, 2);
-    let t = number_question(model, e, 4, 2);
-    let mask = number_question(model, e, 5, 1 << n);
-    or_else(from, or_else(to, or_else(d, or_else(s, or_else(t, mask)))))
+    let at = records::switch_at(model, e);
+    let source = below_ok(model, at, l);
+    let target = below_ok(model, at + 1, l);
+    let d = below_ok(model, at + 2, n);
+    let source_side = below_ok(model, at + 3, 2);
+    let target_side = below_ok(model, at + 4, 2);
+    let mask = below_ok(model, at + 5, 1 << n);
+    source & (target & (d & (source_side & (target_side & mask))))
 }
 
-// Guard and reset box ordered, in range?
-fn boxes_question(model: &[i32], e: usize) -> u32
+// Guard and reset box ordered, in range.
+fn boxes_ok(model: &[i32], e: usize) -> bool
     requires { ⌜ Whole (now model) × (e < M.E# (now model)) ⌝ }
-    ensures { λ r. ⌜ r ≡ boxesQuestion (now (model .entry)) e ⌝ }
+    ensures { λ r. ⌜ r ≡ Q.boxesOk (now (model .entry)) e ⌝ }
 {
     let n = records::variables(model);
-    let guarded = box_ok(records::guard(model, e), n, 1000000);
-    ask(guarded & box_ok(records::reset(model, e), n, 1000000), 15)
+    let guarded = box_ok(records::guard(model, e), n, LEVEL_LIMIT);
+    guarded & box_ok(records::reset(model, e), n, LEVEL_LIMIT)
 }
 
-// The masked ranges of a box are single.
-fn single_ok(b: &[i32], n: usize, mask: usize) -> bool
-    requires { ⌜ (2 * n ≤ length (now b)) × (n ≤ 6) ⌝ }
-    ensures { λ r. ⌜ r ≡ singleBox n mask (now (b .entry)) ⌝ }
+// Masked reset ranges single.
+fn single_ok(model: &[i32], e: usize) -> bool
+    requires { ⌜ Numbered (now model) e ⌝ }
+    ensures { λ r. ⌜ r ≡ Q.singleOk (now (model .entry)) e ⌝ }
 {
+    let n = records::variables(model);
+    let mask = records::reset_mask(model, e);
+    let b = records::reset(model, e);
     let mut ok = true;
     let mut i: usize = 0;
     while i < n {
@@ -188,9 +179,9 @@ fn guard_ok(model: &[i32], e: usize) -> bool
 }
 
 // The level of d after the switch: its reset value, or the source wall if d is unmasked.
-fn landing(model: &[i32], e: usize) -> i32
+fn level_after(model: &[i32], e: usize) -> i32
     requires { ⌜ Placed (now model) e ⌝ }
-    ensures { λ r. ⌜ r ≡ landingOf (now (model .entry)) e ⌝ }
+    ensures { λ r. ⌜ r ≡ Q.levelAfter (now (model .entry)) e ⌝ }
 {
     let d = records::wall_variable(model, e);
     if records::masked(records::reset_mask(model, e), d) {
@@ -200,34 +191,26 @@ fn landing(model: &[i32], e: usize) -> i32
     }
 }
 
-// Reset ranges single, guard and target wall as they are due?
-fn walls_questions(model: &[i32], e: usize) -> u32
+// Target wall equal to it.
+fn lands_ok(model: &[i32], e: usize) -> bool
     requires { ⌜ Placed (now model) e ⌝ }
-    ensures { λ r. ⌜ r ≡ wallsQuestions (now (model .entry)) e ⌝ }
+    ensures { λ r. ⌜ r ≡ Q.landsOk (now (model .entry)) e ⌝ }
 {
-    let single = single_ok(
-        records::reset(model, e),
-        records::variables(model),
-        records::reset_mask(model, e),
-    );
-    let q16 = ask(single, 16);
-    let q17 = ask(guard_ok(model, e), 17);
-    let q18 = ask(
-        integers::same(records::target_wall(model, e), landing(model, e)),
-        18,
-    );
-    or_else(q16, or_else(q17, q18))
+    integers::same(records::target_wall(model, e), level_after(model, e))
 }
 
 fn switch_questions(model: &[i32], e: usize) -> u32
     requires { ⌜ Whole (now model) × (e < M.E# (now model)) ⌝ }
     ensures { λ r. ⌜ r ≡ Q.switchQuestions (now (model .entry)) e ⌝ }
 {
-    let q14 = places_question(model, e);
-    if q14 != 0 {
-        return q14;
+    if !places_ok(model, e) {
+        return 14;
     }
-    or_else(boxes_question(model, e), walls_questions(model, e))
+    let q15 = ask(boxes_ok(model, e), 15);
+    let q16 = ask(single_ok(model, e), 16);
+    let q17 = ask(guard_ok(model, e), 17);
+    let q18 = ask(lands_ok(model, e), 18);
+    or_else(q15, or_else(q16, or_else(q17, q18)))
 }
 
 // ---- the question of a forbidden box
@@ -244,7 +227,7 @@ fn forbidden_question(model: &[i32], b: usize) -> u32
         records::locations(model),
     );
     ask(
-        exists & box_ok(records::forbidden_box(model, b), n, 1000000),
+        exists & box_ok(records::forbidden_box(model, b), n, LEVEL_LIMIT),
         19,
     )
 }
@@ -253,12 +236,19 @@ fn forbidden_question(model: &[i32], b: usize) -> u32
 
 // n, L, E and B allowed?
 pub fn ranges_questions(model: &[i32]) -> u32
-    requires { ⌜ 4 ≤ length (now model) ⌝ }
+    requires { ⌜ M.headSize ≤ length (now model) ⌝ }
     ensures { λ r. ⌜ r ≡ Q.rangesQuestions (now (model .entry)) ⌝ }
 {
-    let q2 = ask(within(model, 0, 1, 6), 2);
-    let q3 = ask(within(model, 1, 1, 64), 3);
-    let q4 = ask(within(model, 2, 0, 128) & within(model, 3, 0, 64), 4);
+    let n = integers::word(model, 0);
+    let locations = integers::word(model, 1);
+    let switches = integers::word(model, 2);
+    let boxes = integers::word(model, 3);
+    let q2 = ask(integers::within(n, 1, 6), 2);
+    let q3 = ask(integers::within(locations, 1, 64), 3);
+    let q4 = ask(
+        integers::within(switches, 0, 128) & integers::within(boxes, 0, 64),
+        4,
+    );
     or_else(q2, or_else(q3, q4))
 }
 
@@ -324,7 +314,7 @@ pub fn records_questions(model: &[i32]) -> u32
 pub fn questions(model: &[i32]) -> u32
     ensures { λ r. ⌜ r ≡ Q.modelQuestions (now (model .entry)) ⌝ }
 {
-    if model.len() < 4 {
+    if model.len() < records::HEAD_SIZE {
         return 5;
     }
     let q = ranges_questions(model);

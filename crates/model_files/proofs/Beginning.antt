@@ -1,9 +1,10 @@
 -- Words that follow a model's are no part of it: where the questions of the records of a list that begins with a model's
 -- words are all yes, those of the model's words are.
-use mathlib.Core.Path.{_≡_, refl, sym, ap, _∙_}
+use mathlib.Core.Path.{_≡_, refl, sym, ap, _∙_, subst}
 use mathlib.Core.List.{List, _++_}
 use Prim.Native.Nat.{ℕ, _+_, _*_, _<_, _≤_}
 use native.Mathlib.Omega.{arith}
+use lib.Dec.{T}
 use lib.IntN.{ℤ, pos, natAbs}
 use lib.ListN.{length, take, drop, length-drop, List·getD-append}
 use lib.Seq.{take-append-le, drop-append-le}
@@ -11,8 +12,8 @@ use Rattle.integers.specs.Words.{word, num}
 use Rattle.plant.specs.Ask.{first}
 use Rattle.plant.specs.Box.{boxAt}
 use Rattle.plant.specs.Model.{n#, L#, E#, B#, locationAt, invariant, rate, startFlag, startBox, switchAt, source, target, wallVariable, sourceSide, targetSide, resetMask, guard, reset, forbiddenAt, forbiddenBox}
-use Rattle.plant.specs.Questions.{startOk, locationQuestions, placesQuestion, singleOk, sourceWall, targetWall, guardOk, landsOk, switchQuestions, forbiddenQuestion, recordsQuestions}
-use Rattle.plant.proofs.Asks.{then-both, then-intro, first-each, first-intro}
+use Rattle.plant.specs.Questions.{startOk, locationQuestions, placesOk, boxesOk, singleOk, sourceWall, targetWall, guardOk, levelAfter, landsOk, switchQuestions, forbiddenQuestion, recordsQuestions}
+use Rattle.plant.proofs.Asks.{asked, then-both, then-intro, first-each, first-intro}
 use Rattle.plant.proofs.Passed.{PlacesPassed, places-passed}
 use Rattle.records.specs.Whole.{Whole}
 use Rattle.records.proofs.Positions.{location-within, switch-within, forbidden-within}
@@ -116,10 +117,14 @@ module _ (a r : List ℤ) (w : Whole a) where
     unfolding reset
     reset-same = rw (n-same, switch-same e) (box-same (switchAt a e + (6 + 2 * n# a)) (omega (arith, switch-within a w e u)))
 
-    places-same : placesQuestion m e ≡ placesQuestion a e
-    unfolding placesQuestion
+    places-same : placesOk m e ≡ placesOk a e
+    unfolding placesOk
     places-same =
         rw (n-same, L-same, switch-same e, first-same, at-same 1 (omega arith), at-same 2 (omega arith), at-same 3 (omega arith), at-same 4 (omega arith), at-same 5 (omega arith)) refl
+
+    boxes-same : boxesOk m e ≡ boxesOk a e
+    unfolding boxesOk
+    boxes-same = rw (n-same, guard-same, reset-same) refl
 
     single-same : singleOk m e ≡ singleOk a e
     unfolding singleOk
@@ -140,17 +145,17 @@ module _ (a r : List ℤ) (w : Whole a) where
       guard-ok-same = rw (guard-same, variable-same, source-wall-same) refl
 
       lands-same : landsOk m e ≡ landsOk a e
-      unfolding landsOk
+      unfolding landsOk levelAfter
       lands-same = rw (target-wall-same, mask-same, variable-same, reset-same, source-wall-same) refl
 
       switch-questions-same : switchQuestions m e ≡ switchQuestions a e
       unfolding switchQuestions
-      switch-questions-same = rw (places-same, n-same, guard-same, reset-same, single-same, guard-ok-same, lands-same) refl
+      switch-questions-same = rw (places-same, boxes-same, single-same, guard-ok-same, lands-same) refl
 
     switch-yes : switchQuestions m e ≡ 0 → switchQuestions a e ≡ 0
     unfolding switchQuestions
     switch-yes h =
-        let p : placesQuestion a e ≡ 0 = sym places-same ∙ then-both (placesQuestion m e) _ h .0 in
+        let p : T (placesOk a e) = subst T places-same (asked (placesOk m e) 14 _ (omega arith) h .0) in
         sym (switch-questions-same (places-passed a e (w .head .n-positive) (w .head .L-positive) p)) ∙ h
 
   -- ---- forbidden boxes

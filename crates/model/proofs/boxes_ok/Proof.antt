@@ -3,9 +3,10 @@ use mathlib.Core.Path.{ap}
 use native.Mathlib.Omega.{arith}
 use lib.ListN.{length}
 use borrow.Author.Needs.{needs}
+use Rattle.plant.specs.Questions.{boxesOk}
 use Rattle.records.proofs.Positions as at
-use Rattle.model.proofs.boxes_question.Statement.{statement}
-use Rattle.model.proofs.boxes_question.Tie as tie
+use Rattle.model.proofs.boxes_ok.Statement.{statement}
+use Rattle.model.proofs.boxes_ok.Tie as tie
 
 variables-requires : tie.Need-variables-requires
 variables-requires c κs = search needs
@@ -26,14 +27,12 @@ box-ok-requires-2 c κs =
     let s = c .before .before .before .before in
     omega (arith, ap length (c .reset .ensures), at.length-reset (s .args .model .now) (s .pre .0) (s .args .e) (s .pre .1))
 
-ask-requires : tie.Need-ask-requires
-ask-requires c κs = search needs
-
 returns : tie.Need-returns
+unfolding boxesOk
 returns c = cc
 
-pub boxes-question-spec : {M : Type 1} → statement M
-boxes-question-spec =
+pub boxes-ok-spec : {M : Type 1} → statement M
+boxes-ok-spec =
     tie.close
     (tie.spec
     variables-requires
@@ -41,5 +40,4 @@ boxes-question-spec =
     box-ok-requires
     reset-requires
     box-ok-requires-2
-    ask-requires
     returns)

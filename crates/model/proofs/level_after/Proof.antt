@@ -4,10 +4,10 @@ use native.Mathlib.Omega.{arith}
 use lib.ListN.{length}
 use borrow.Author.Needs.{needs}
 use Rattle.integers.proofs.Signed.{got32}
-use Rattle.model.proofs.Switch.{landing-set, landing-kept}
+use Rattle.model.proofs.Switch.{after-set, after-kept}
 use Rattle.records.proofs.Positions as at
-use Rattle.model.proofs.landing.Statement.{statement}
-use Rattle.model.proofs.landing.Tie as tie
+use Rattle.model.proofs.level_after.Statement.{statement}
+use Rattle.model.proofs.level_after.Tie as tie
 
 wall-variable-requires : tie.Need-wall-variable-requires
 wall-variable-requires c κs = search needs
@@ -38,15 +38,15 @@ source-wall-requires c κs = search needs
 returns : tie.Need-returns
 returns c =
     let s = c .before .before .before .before .before .before in
-    got32 _ (c .result .given) ∙ landing-set (s .args .model .now) (s .args .e) (c .before .before .before .before .before .wall-variable .ensures) (c .before .before .before .before .reset-mask .ensures) (c .before .before .before .masked .ensures) (c .before .before .if1 .taken) (c .before .reset .ensures)
+    got32 _ (c .result .given) ∙ after-set (s .args .model .now) (s .args .e) (c .before .before .before .before .before .wall-variable .ensures) (c .before .before .before .before .reset-mask .ensures) (c .before .before .before .masked .ensures) (c .before .before .if1 .taken) (c .before .reset .ensures)
 
 returns-2 : tie.Need-returns-2
 returns-2 c =
     let s = c .before .before .before .before .before in
-    got32 _ (c .source-wall .ok) ∙ landing-kept (s .args .model .now) (s .args .e) (c .before .before .before .before .wall-variable .ensures) (c .before .before .before .reset-mask .ensures) (c .before .before .masked .ensures) (c .before .if1 .left) (c .source-wall .ensures)
+    got32 _ (c .source-wall .ok) ∙ after-kept (s .args .model .now) (s .args .e) (c .before .before .before .before .wall-variable .ensures) (c .before .before .before .reset-mask .ensures) (c .before .before .masked .ensures) (c .before .if1 .left) (c .source-wall .ensures)
 
-pub landing-spec : {M : Type 1} → statement M
-landing-spec =
+pub level-after-spec : {M : Type 1} → statement M
+level-after-spec =
     tie.close
     (tie.spec
     wall-variable-requires
