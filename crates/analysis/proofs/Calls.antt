@@ -14,10 +14,12 @@ use Rattle.plant.specs.declared.Answer.{Answer}
 use Rattle.plant.specs.declared.Answer.the-variants.{Refused}
 use Rattle.plant.specs.declared.Verdict.the-variants.{Accepted}
 use Rattle.plant.specs.declared.Verdict.the-variants as verdict
+use Rattle.plant.specs.declared.Ceiling.the-variants.{Passes}
+use Rattle.plant.specs.declared.Ceiling.the-variants as ceiling
 use Rattle.plant.specs.Ask.{ask, orElse, _then_}
 use Rattle.plant.specs.Questions.{modelQuestions}
 use Rattle.plant.specs.Tables.{tableSize, tableOk, pass, touching, ceilingOf}
-use Rattle.plant.specs.Calls.{Reply, refused, ceilingBy, ceilingCall, unchanged, certificateQuestions, tableQuestions, checkerQuestions, verdictBy, analysis, answerTable, passesOf, analysisQuestions, Analysed, answered, analyseBy, analyseCall}
+use Rattle.plant.specs.Calls.{ceilingBy, ceilingCall, unchanged, certificateQuestions, tableQuestions, checkerQuestions, verdictBy, checkCall, analysis, answerTable, passesOf, analysisQuestions, Analysed, answered, analyseBy, analyseCall}
 use Rattle.plant.proofs.Asks.{go, halt, ask-intro, ask-yes, then-intro, then-both}
 use Rattle.plant.proofs.Passed.{passed}
 use Rattle.plant.proofs.Keeps.{after-length}
@@ -26,17 +28,17 @@ use Rattle.analysis.proofs.Front.{front, questions-front}
 -- ---- the ceiling
 
 module _ (m : List ℤ) where
-  by-refused : (q : ℕ) → (q ≡ 0 → ⊥) → refused q ≡ ceilingBy m q
+  by-refused : (q : ℕ) → (q ≡ 0 → ⊥) → ceiling.Refused q ≡ ceilingBy m q
   by-refused zero n = absurd (n refl)
   by-refused (suc q) n = refl
 
-  pub ceiling-refused : (q : ℕ) → q ≡ modelQuestions m → (q ≡ 0 → ⊥) → refused q ≡ ceilingCall m
+  pub ceiling-refused : (q : ℕ) → q ≡ modelQuestions m → (q ≡ 0 → ⊥) → ceiling.Refused q ≡ ceilingCall m
   unfolding ceilingCall
   ceiling-refused q e n = by-refused q n ∙ ap (ceilingBy m) e
 
-  pub ceiling-passes : (k : ℕ) → modelQuestions m ≡ 0 → k ≡ ceilingOf m → _≡_ {A = Reply} (record { code = 100; value = k }) (ceilingCall m)
+  pub ceiling-passes : (k : ℕ) → modelQuestions m ≡ 0 → k ≡ ceilingOf m → Passes k ≡ ceilingCall m
   unfolding ceilingCall
-  ceiling-passes k e f = ap (λ (x : ℕ). record { code = 100; value = x }) f ∙ ap (ceilingBy m) (sym e)
+  ceiling-passes k e f = ap (λ (x : ℕ). Passes x) f ∙ ap (ceilingBy m) (sym e)
 
 -- ---- 20 and 21: a list that is long enough, or not
 
@@ -84,15 +86,16 @@ module _ (m t : List ℤ) where
   refused-by (suc q) n = refl
 
   -- a number that the chain of questions comes to
-  check-number : (q : ℕ) → q ≡ checkerQuestions m t → (q ≡ 0 → ⊥) → verdict.Refused q ≡ verdictBy (checkerQuestions m t)
+  check-number : (q : ℕ) → q ≡ checkerQuestions m t → (q ≡ 0 → ⊥) → verdict.Refused q ≡ checkCall m t
+  unfolding checkCall
   check-number q e n = refused-by q n ∙ ap verdictBy e
 
-  pub check-model : (q : ℕ) → q ≡ modelQuestions m → (q ≡ 0 → ⊥) → verdict.Refused q ≡ verdictBy (checkerQuestions m t)
+  pub check-model : (q : ℕ) → q ≡ modelQuestions m → (q ≡ 0 → ⊥) → verdict.Refused q ≡ checkCall m t
   unfolding checkerQuestions
   check-model q e n = check-number q (halt _ e n) n
 
   module _ (asks : modelQuestions m ≡ 0) where
-    pub check-short : length t < tableSize m → verdict.Refused 20 ≡ verdictBy (checkerQuestions m t)
+    pub check-short : length t < tableSize m → verdict.Refused 20 ≡ checkCall m t
     unfolding checkerQuestions
     check-short h = check-number 20 (go refl asks (halt _ (short m t 20 h) (λ e. omega arith))) (λ e. omega arith)
 
@@ -101,10 +104,11 @@ module _ (m t : List ℤ) where
       unfolding checkerQuestions
       chain = go refl asks (go refl (long m t 20 room) (e ∙ questions-front m (passed m asks) t))
 
-      pub check-table : (q ≡ 0 → ⊥) → verdict.Refused q ≡ verdictBy (checkerQuestions m t)
+      pub check-table : (q ≡ 0 → ⊥) → verdict.Refused q ≡ checkCall m t
       check-table n = check-number q chain n
 
-      pub check-accepted : q ≡ 0 → Accepted ≡ verdictBy (checkerQuestions m t)
+      pub check-accepted : q ≡ 0 → Accepted ≡ checkCall m t
+      unfolding checkCall
       check-accepted z = ap verdictBy (sym z ∙ chain)
 
 -- ---- the questions of an analysis

@@ -4,7 +4,7 @@ ghost use mathlib.Core.Bool.{true};
 ghost use Rattle.integers.specs.Words.{same};
 ghost use Rattle.plant.specs.Tables.{tableOk, pass};
 ghost use Rattle.plant.specs.Calls as C;
-ghost use Rattle.plant.specs.Calls.{Analysed, ceilingReply, ceilingCall, certificateQuestions, tableQuestions, checkerQuestions, verdictBy, answerTable, analysisQuestions, answered, analyseCall};
+ghost use Rattle.plant.specs.Calls.{Analysed, ceilingCall, certificateQuestions, tableQuestions, checkCall, answerTable, analysisQuestions, answered, analyseCall};
 ghost use Rattle.analysis.specs.Ready.{Sized};
 use plant::Answer;
 use plant::Ceiling;
@@ -14,7 +14,7 @@ use plant::Verdict;
 
 // How many passes settle every answer, or the number of the model's question that is not yes.
 pub fn ceiling(model: &[i32]) -> Ceiling
-    ensures { λ r. ⌜ ceilingReply r ≡ ceilingCall (now (model .entry)) ⌝ }
+    ensures { λ r. ⌜ r ≡ ceilingCall (now (model .entry)) ⌝ }
 {
     let q = model::questions(model);
     if q != 0 {
@@ -76,7 +76,7 @@ fn table_questions<'a>(model: &'a [i32], table: &'a [i32]) -> u32
 
 // Accepts exactly if the model's questions, 20 and 32 to 34 are all yes.
 pub fn check<'a>(model: &'a [i32], table: &'a [i32]) -> Verdict
-    ensures { λ r. ⌜ r ≡ verdictBy (checkerQuestions (now (model .entry)) (now (table .entry))) ⌝ }
+    ensures { λ r. ⌜ r ≡ checkCall (now (model .entry)) (now (table .entry)) ⌝ }
 {
     let q = model::questions(model);
     if q != 0 {

@@ -1,25 +1,29 @@
 -- What every call at the desk keeps to: it is the analysis where the counters can take the limit, an answer moves them and a refusal
 -- does not, its passes are within the limit, and 22 keeps the counters from running over.
-use mathlib.Core.Path.{_≡_, refl, sym}
+use mathlib.Core.Path.{_≡_, refl, sym, ap, subst}
 use mathlib.Core.Bool.{Bool, true, false, cond}
+use mathlib.Core.Logic.{_⊎_}
 use mathlib.Core.List.{List, [], _∷_}
 use Prim.Native.Nat.{ℕ, zero, suc, _+_, _≤_}
 use native.Mathlib.Nat.{le-trans}
 use native.Mathlib.Omega.{arith}
 use borrow.Author.Tests.{le-leb, lt-leb}
-use lib.Dec.{T, leb}
+use lib.Dec.{T, leb, le→leb}
 use lib.IntN.{ℤ}
 use lib.ListN.{length}
 use Rattle.integers.proofs.Counted.{is-true}
 use Rattle.plant.specs.Ask.{ask, orElse, _then_}
 use Rattle.plant.specs.Tables.{tableSize}
 use Rattle.plant.specs.declared.Answer.the-variants.{Refused}
-use Rattle.plant.specs.Calls.{answerReply, replyOf, analysis, analysisQuestions, analyseBy, analyseCall}
-use Rattle.plant.proofs.Asks.{ask-le, ask-yes, or-right, then-le}
+use Rattle.plant.specs.Questions.{modelQuestions}
+use Rattle.plant.specs.Calls.{Analysed, answerReply, replyOf, analysis, analysisQuestions, analyseBy, analyseCall}
+use Rattle.plant.specs.Demands.{Room}
+use Rattle.plant.proofs.Asks.{ask-intro, ask-le, ask-yes, or-right, then-intro, then-le}
 use Rattle.plant.proofs.Numbers.{model-le}
+use Rattle.plant.proofs.Demands.{first-demand}
 use Rattle.plant.proofs.Search as search
 use Rattle.desk.specs.declared.Desk.{Desk}
-use Rattle.desk.specs.Desks.{countersOk, deskQuestions, deskBy, deskCall, Holds, isAnswer, DeskAnswers, Call, serve, deskAfter}
+use Rattle.desk.specs.Desks.{countersOk, deskQuestions, deskBy, deskCall, Holds, isAnswer, DeskFirstDemand, DeskAnswers, Call, serve, deskAfter}
 use Rattle.desk.proofs.Serving.{jobs-fit, limit-fits, desk-full}
 
 -- no refusal of the desk is taken for an answer
@@ -49,6 +53,15 @@ module _ (d : Desk) (m : List ℤ) (limit : ℕ) (table work : List ℤ) where
       by : (b : Bool) → (T b → ⊥) → b ≡ false
       by true n = absurd (n tt)
       by false n = refl
+
+  -- a model that passes, buffers of its size, counters that can take the limit
+  all-yes : modelQuestions m ≡ 0 → Room m table work → T (countersOk d limit) → deskQuestions d m limit table work ≡ 0
+  unfolding deskQuestions analysisQuestions
+  all-yes asks r fits =
+      then-intro
+      (then-intro asks
+      (then-intro (ask-intro (leb (tableSize m) (length table)) 20 (le→leb (tableSize m) (length table) (r .table-room))) (ask-intro (leb (tableSize m) (length work)) 21 (le→leb (tableSize m) (length work) (r .work-room)))))
+      (ask-intro (countersOk d limit) 22 fits)
 
   -- what the call adds to the counters
   moves-by : (q : ℕ) → q ≤ 22 → let s = deskBy q d m limit table work in
@@ -87,6 +100,17 @@ module _ (d : Desk) (m : List ℤ) (limit : ℕ) (table work : List ℤ) where
   pub stays : Holds d → Holds (deskCall d m limit table work .desk)
   unfolding deskCall
   stays = stays-by (deskQuestions d m limit table work) room
+
+-- the first demand, of the analysis that the call is
+pub desk-first-demand : (d : Desk) (m : List ℤ) → DeskFirstDemand d m
+unfolding deskCall
+desk-first-demand d m = record {
+  is-answered = λ asks limit table work r fits.
+      subst (λ (a : Analysed). let code = replyOf a .code in (code ≡ 100) ⊎ ((code ≡ 101) ⊎ (code ≡ 102))) (sym (is-analysis d m limit table work fits))
+      (first-demand m .is-answered asks limit table work r);
+  with-table = λ asks limit table work r fits. ap (λ (q : ℕ). deskBy q d m limit table work) (all-yes d m limit table work asks r fits);
+  refused-by = λ limit table work q e. ap (λ (k : ℕ). deskBy k d m limit table work) e;
+}
 
 -- after every list of calls
 pub still-holds : (d : Desk) (cs : List Call) → Holds d → Holds (deskAfter d cs)

@@ -1,13 +1,16 @@
 -- Document 01, "Desk and host": the desk's counters, and what a desk call does to them and to lent memory.
 use mathlib.Core.Path.{_≡_}
 use mathlib.Core.Bool.{Bool, cond, _&&_}
+use mathlib.Core.Logic.{_⊎_}
 use mathlib.Core.List.{List, [], _∷_}
 use Prim.Native.Nat.{ℕ, zero, suc, _+_, _≤_}
 use lib.Dec.{T, leb}
 use lib.IntN.{ℤ}
 use Rattle.plant.specs.Ask.{ask, _then_}
 use Rattle.plant.specs.declared.Answer.the-variants.{Refused}
+use Rattle.plant.specs.Questions.{modelQuestions}
 use Rattle.plant.specs.Calls.{Reply, Analysed, replyOf, analysis, analysisQuestions, answered, analyseCall}
+use Rattle.plant.specs.Demands.{Room}
 use Rattle.desk.specs.declared.Desk.{Desk}
 
 -- a counter's largest number
@@ -40,6 +43,22 @@ deskBy (suc k) d m limit table work = record { desk = d; analysed = record { ans
 
 unfoldable pub deskCall : (d : Desk) (m : List ℤ) (limit : ℕ) (table work : List ℤ) → Served
 deskCall d m limit table work = deskBy (deskQuestions d m limit table work) d m limit table work
+
+-- ---- the mission's first demand, with counters
+
+pub record DeskFirstDemand (d : Desk) (m : List ℤ) : Type 0 where
+  -- a model that passes, with buffers of its size and counters that can take the limit, is answered safe, unknown or unfinished
+  pub is-answered :
+      modelQuestions m ≡ 0 → (limit : ℕ) (table work : List ℤ) → Room m table work → T (countersOk d limit)
+      → let code = replyOf (deskCall d m limit table work .analysed) .code in (code ≡ 100) ⊎ ((code ≡ 101) ⊎ (code ≡ 102))
+  -- with its table and the number of passes, by which the counters move
+  pub with-table :
+      modelQuestions m ≡ 0 → (limit : ℕ) (table work : List ℤ) → Room m table work → T (countersOk d limit)
+      → deskCall d m limit table work ≡ counted d (answered m (analysis m limit) table work)
+  -- every other input gets the number of the first of the desk's questions that it fails, and changes nothing
+  pub refused-by :
+      (limit : ℕ) (table work : List ℤ) (q : ℕ) → deskQuestions d m limit table work ≡ suc q
+      → deskCall d m limit table work ≡ record { desk = d; analysed = record { answer = Refused (suc q); table = table; work = work } }
 
 -- ---- what every call at the desk keeps to
 

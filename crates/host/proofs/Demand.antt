@@ -14,8 +14,8 @@ use Rattle.plant.specs.declared.Answer.{Answer}
 use Rattle.plant.specs.Ask.{_then_}
 use Rattle.plant.specs.Questions.{modelQuestions}
 use Rattle.plant.specs.Tables.{tableSize, tableOk, tableAfter}
-use Rattle.plant.specs.Calls.{answerReply, ceilingCall, certificateQuestions, tableQuestions, checkerQuestions, checkBy, checkCall, analysis, answerTable, passesOf, Analysed, replyOf, answered, analyseCall}
-use Rattle.plant.specs.Demands.{Accepts, answers, NoRunMeets, ThirdDemand}
+use Rattle.plant.specs.Calls.{answerReply, certificateQuestions, tableQuestions, checkerQuestions, checkBy, checkCall, analysis, answerTable, passesOf, Analysed, replyOf, answered, analyseCall}
+use Rattle.plant.specs.Demands.{Accepts, ceiling, answers, NoRunMeets, ThirdDemand}
 use Rattle.plant.proofs.Asks.{ask-intro, ask-le, ask-yes, asked, then-both, then-intro, then-le}
 use Rattle.plant.proofs.Passed.{passed}
 use Rattle.plant.proofs.Search.{within-limit, answer-code}
@@ -65,7 +65,7 @@ module _ (s : List ℕ) where
       (then-intro (then-both _ _ (y .1) .1) (y .2))))
 
   no-run-meets : (t : List ℕ) → hostCheckCall s t ≡ 100 → NoRunMeets m
-  no-run-meets t h = third-demand m (model-asked s (check-yes t h .0)) .no-run-meets (fileTable m t) (file-accepts t h)
+  no-run-meets t h = third-demand m .no-run-meets (fileTable m t) (file-accepts t h)
 
   -- and check accepts the file of every table that the checker accepts
   table-accepted : (t : List ℤ) → modelFileQuestions s ≡ 0 → Accepts m t → hostCheckCall s (tableFile m t) ≡ 100
@@ -176,7 +176,7 @@ module _ (s : List ℕ) where
       table-is = ap (λ (x : Analysed). x .table) analysed ∙ onto-all t t refl
 
       demand : ThirdDemand m
-      demand = third-demand m asks
+      demand = third-demand m
 
       three : (code s file limit ≡ 100) ⊎ ((code s file limit ≡ 101) ⊎ (code s file limit ≡ 102))
       three = subst (λ (c : ℕ). (c ≡ 100) ⊎ ((c ≡ 101) ⊎ (c ≡ 102))) answers-are (first-demand m .is-answered asks limit t t (record { table-room = long; work-room = long }))
@@ -190,10 +190,10 @@ module _ (s : List ℕ) where
       unknown-refused : code s file limit ≡ 101 → (x : List ℕ) → hostCheckCall s x ≡ 100 → ⊥
       unknown-refused h x y = demand .unknown-refused limit t t (answers-are ∙ h) (fileTable m x) (file-accepts x y)
 
-      never-unfinished : ceilingCall m .value ≤ limit → code s file limit ≡ 102 → ⊥
+      never-unfinished : ceiling m ≤ limit → code s file limit ≡ 102 → ⊥
       never-unfinished u h = demand .never-unfinished limit t t u (answers-are ∙ h)
 
-      accepted-safe : ceilingCall m .value ≤ limit → AcceptableFile s → code s file limit ≡ 100
+      accepted-safe : ceiling m ≤ limit → AcceptableFile s → code s file limit ≡ 100
       accepted-safe u x = by three
         where
           by : (code s file limit ≡ 100) ⊎ ((code s file limit ≡ 101) ⊎ (code s file limit ≡ 102)) → code s file limit ≡ 100
@@ -204,7 +204,7 @@ module _ (s : List ℕ) where
       safe-acceptable : code s file limit ≡ 100 → AcceptableFile s
       safe-acceptable h = record { table = answerFile s file limit; accepts = safe-accepted h }
 
-      none-unknown : ceilingCall m .value ≤ limit → (AcceptableFile s → ⊥) → code s file limit ≡ 101
+      none-unknown : ceiling m ≤ limit → (AcceptableFile s → ⊥) → code s file limit ≡ 101
       none-unknown u none = by three
         where
           by : (code s file limit ≡ 100) ⊎ ((code s file limit ≡ 101) ⊎ (code s file limit ≡ 102)) → code s file limit ≡ 101

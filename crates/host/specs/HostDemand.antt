@@ -12,8 +12,8 @@ use Rattle.plant.specs.Ask.{_then_}
 use Rattle.plant.specs.Model.{modelSize}
 use Rattle.plant.specs.Questions.{modelQuestions}
 use Rattle.plant.specs.Tables.{tableAfter}
-use Rattle.plant.specs.Calls.{answerReply, ceilingCall, analysis}
-use Rattle.plant.specs.Demands.{Accepts, NoRunMeets}
+use Rattle.plant.specs.Calls.{answerReply, analysis}
+use Rattle.plant.specs.Demands.{Accepts, ceiling, NoRunMeets}
 use Rattle.model_files.specs.ModelFile.{modelFile}
 use Rattle.model_files.specs.ModelFilesExact.{IsModelFile}
 use Rattle.table_files.specs.TableFile.{tableFile, fileLength, fileTable, longestTableFile}
@@ -57,13 +57,13 @@ module _ (s file : List ℕ) (limit : ℕ) where
     -- unknown: check refuses every table file
     pub unknown-refused : code ≡ 101 → (t : List ℕ) → hostCheckCall s t ≡ 100 → ⊥
     -- under a limit of at least the ceiling: never unfinished, and safe exactly if some table file is accepted
-    pub never-unfinished : ceilingCall (modelOf s) .value ≤ limit → code ≡ 102 → ⊥
+    pub never-unfinished : ceiling (modelOf s) ≤ limit → code ≡ 102 → ⊥
     pub safe-exactly :
-        ceilingCall (modelOf s) .value ≤ limit → modelFileQuestions s ≡ 0 → longestTableFile (modelOf s) ≤ length file
+        ceiling (modelOf s) ≤ limit → modelFileQuestions s ≡ 0 → longestTableFile (modelOf s) ≤ length file
         → (code ≡ 100) ↔ AcceptableFile s
     -- and otherwise unknown
     pub otherwise-unknown :
-        ceilingCall (modelOf s) .value ≤ limit → modelFileQuestions s ≡ 0 → longestTableFile (modelOf s) ≤ length file
+        ceiling (modelOf s) ≤ limit → modelFileQuestions s ≡ 0 → longestTableFile (modelOf s) ≤ length file
         → (code ≡ 101) ↔ (AcceptableFile s → ⊥)
 
 -- ---- both calls, for all bytes
