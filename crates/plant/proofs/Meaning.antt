@@ -1,0 +1,108 @@
+-- What the procedures mean, from the laws of each.
+use mathlib.Core.Path.{_≡_, refl, subst}
+use mathlib.Core.List.{List}
+use Prim.Native.Nat.{ℕ, _+_, _<_}
+use native.Mathlib.Omega.{arith}
+use lib.IntN.{ℤ}
+use Rattle.integers.specs.Words.{word}
+use Rattle.integers.proofs.Order.{trans, mul-monoℕ}
+use Rattle.integers.proofs.Rounding.{floor-le, floor-max, ceil-ge, ceil-min}
+use Rattle.plant.specs.declared.Interval.{Interval}
+use Rattle.plant.specs.declared.Delays.{Delays}
+use Rattle.plant.specs.declared.Delays.the-variants.{Between, Never}
+use Rattle.plant.specs.Box.{low, high, Ordered}
+use Rattle.plant.specs.Model.{n#, E#, invariant, rate, source, target}
+use Rattle.plant.specs.Delays.{In}
+use Rattle.plant.specs.Steps.{Bound, unbounded, bound, lowAfter, highAfter, boxAfter, faceAfter, wallDelays, wallStep}
+use Rattle.plant.specs.Meaning.{Brings, TightLow, TightHigh, WallBox, WallMeans, Single, SwitchMeans, Meaning}
+use Rattle.plant.proofs.DelaysExact.{delays-exact}
+use Rattle.plant.proofs.Touching.{touches-exact}
+use Rattle.plant.proofs.Bounds.{Lowest, Highest, Above, Below}
+use Rattle.plant.proofs.Boxes.{low-boxBy, high-boxBy, FaceAll, unless-all}
+use Rattle.plant.proofs.WallStep.{above-low, below-high, in-delays, delay-lows, delay-highs, wall-holds-delay}
+use Rattle.plant.proofs.Tight.{lowBefore, highBefore, AttainedLow, AttainedHigh, to-wall, low-attained, high-attained}
+use Rattle.plant.proofs.SwitchStep.{switch-holds}
+use Rattle.plant.proofs.SwitchExact.{switch-from, switch-ordered}
+
+-- ---- the wall step
+
+module _ (m : List ℤ) (l : ℕ) (part : List ℤ) (d : ℕ) (b : ℤ) (rates : Ordered (n# m) (rate m l)) (parts : Ordered (n# m) part) (ld : d < n# m) where
+  -- what a delay brings to the wall: the delay is one of the step's, and the levels lie within the bounds before the cut
+  module _ (D t : ℕ) (x y : List ℤ) (h : Brings m l part d b D t x y) where
+    lows : (i : ℕ) → i < n# m → Lowest (low part i) (low (rate m l) i) D (0 + t) (word y i)
+    lows = delay-lows m D (record { location = l; levels = x }) t (record { location = l; levels = y }) part (h .is-delay) (h .from-part)
+
+    highs : (i : ℕ) → i < n# m → Highest (high part i) (high (rate m l) i) D (0 + t) (word y i)
+    highs = delay-highs m D (record { location = l; levels = x }) t (record { location = l; levels = y }) part (h .is-delay) (h .from-part)
+
+    is-one : In D (0 + t) (wallDelays (n# m) (invariant m l) (rate m l) part d b)
+    is-one = in-delays (n# m) D (rate m l) part d b y (0 + t) (h .at-wall) lows highs (invariant m l) (h .denominator) ld
+
+    module _ (s : Interval) (e : wallDelays (n# m) (invariant m l) (rate m l) part d b ≡ Between s) (i : ℕ) (li : i < n# m) where
+      above : Above D (word y i) (lowBefore m l part d b s i)
+      above = above-low (n# m) D (rate m l) part d b y (0 + t) (h .at-wall) lows highs s (subst (In D (0 + t)) e is-one) i li
+
+      below : Below D (word y i) (highBefore m l part d b s i)
+      below = below-high (n# m) D (rate m l) part d b y (0 + t) (h .at-wall) lows highs s (subst (In D (0 + t)) e is-one) i li
+
+  module _ (s : Interval) (e : wallDelays (n# m) (invariant m l) (rate m l) part d b ≡ Between s) where
+    module _ (i : ℕ) where
+      tight-low : (v : Bound) → AttainedLow m l part d b s i v → ((D t : ℕ) (x y : List ℤ) → Brings m l part d b D t x y → Above D (word y i) v) → TightLow m l part d b s i v
+      tight-low unbounded h k = h
+      tight-low (bound v) h k = (h, k)
+
+      tight-high : (v : Bound) → AttainedHigh m l part d b s i v → ((D t : ℕ) (x y : List ℤ) → Brings m l part d b D t x y → Below D (word y i) v) → TightHigh m l part d b s i v
+      tight-high unbounded h k = h
+      tight-high (bound v) h k = (h, k)
+
+    wall-box : Ordered (n# m) (boxAfter (n# m) (invariant m l) (rate m l) part d b s) → WallBox m l part d b (boxAfter (n# m) (invariant m l) (rate m l) part d b s)
+    unfolding boxAfter lowAfter highAfter
+    wall-box o = record {
+      delays = s;
+      are-delays = e;
+      lows = lowBefore m l part d b s;
+      highs = highBefore m l part d b s;
+      low-tight = λ i li. tight-low i (lowBefore m l part d b s i) (low-attained m l part d b rates parts ld s e i li) (λ D t x y h. above D t x y h s e i li);
+      high-tight = λ i li. tight-high i (highBefore m l part d b s i) (high-attained m l part d b rates parts ld s e i li) (λ D t x y h. below D t x y h s e i li);
+      low-cut = low-boxBy (n# m) (lowAfter (n# m) (invariant m l) (rate m l) part d b s) (highAfter (n# m) (invariant m l) (rate m l) part d b s);
+      high-cut = high-boxBy (n# m) (lowAfter (n# m) (invariant m l) (rate m l) part d b s) (highAfter (n# m) (invariant m l) (rate m l) part d b s);
+      not-empty = o;
+    }
+
+  wall-boxes : (ds : Delays) → wallDelays (n# m) (invariant m l) (rate m l) part d b ≡ ds → FaceAll (WallBox m l part d b) (faceAfter (n# m) (invariant m l) (rate m l) part d b ds)
+  wall-boxes Never e = tt
+  wall-boxes (Between s) e = unless-all (n# m) (boxAfter (n# m) (invariant m l) (rate m l) part d b s) (WallBox m l part d b) (wall-box s e)
+
+  wall-means : WallMeans m l part d b
+  unfolding wallStep
+  wall-means = record {
+    delays = λ D t k. (
+      to-wall m l part d b rates parts ld D t k,
+      λ r. subst (λ (u : ℕ). In D u (wallDelays (n# m) (invariant m l) (rate m l) part d b)) (omega arith) (is-one D t (r .before) (r .after) (r .brings)),
+    );
+    holds = λ D t x y h i. wall-holds-delay m D (record { location = l; levels = x }) t (record { location = l; levels = y }) part (h .is-delay) (h .from-part) d b (h .denominator) ld i (h .at-wall);
+    tight = λ box e. subst (FaceAll (WallBox m l part d b)) e (wall-boxes (wallDelays (n# m) (invariant m l) (rate m l) part d b) refl);
+  }
+
+-- ---- the switch step
+
+switch-means : (m : List ℤ) (e : ℕ) → e < E# m → Single m e → SwitchMeans m e
+switch-means m e l single = record {
+  exact = λ D positive g y. (
+    switch-from m e l single D g y,
+    λ s. switch-holds m D (record { location = source m e; levels = s .before }) e (record { location = target m e; levels = y }) g positive (s .is-switch) (s .in-invariant) (s .from-face),
+  );
+  not-empty = λ g box e′. subst (FaceAll (Ordered (n# m))) e′ (switch-ordered m e g);
+}
+
+-- ---- all of it
+
+pub meaning : Meaning
+meaning = record {
+  delays = delays-exact;
+  touching = touches-exact;
+  down = λ v z d k. (λ h. trans (mul-monoℕ d h) (floor-le z d k), floor-max d k);
+  up = λ v z d k. (λ h. trans (ceil-ge z d k) (mul-monoℕ d h), ceil-min d k);
+  wall-step = wall-means;
+  switch-step = switch-means;
+}

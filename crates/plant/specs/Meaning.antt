@@ -1,0 +1,145 @@
+-- What the procedures of document 01, "Delays" and "Wall step and switch step", mean, so that nobody has to trust them: one record,
+-- proved by one theorem. Levels, delays and switches are those of "Runs".
+use mathlib.Core.Path.{_≡_}
+use mathlib.Core.Logic.{_↔_}
+use mathlib.Core.Bool.{true}
+use mathlib.Core.List.{List}
+use Prim.Native.Nat.{ℕ, _<_}
+use lib.Dec.{T}
+use lib.IntN.{ℤ, pos, _*ℤ_}
+use lib.ListN.{length}
+use lib.Signed.{_≤ℤ_, _<ℤ_}
+use Rattle.integers.specs.Rounding.{floorZ, ceilZ}
+use Rattle.integers.specs.Words.{word}
+use Rattle.plant.specs.declared.Fraction.{Fraction}
+use Rattle.plant.specs.declared.End.the-variants.{At}
+use Rattle.plant.specs.declared.Interval.{Interval}
+use Rattle.plant.specs.declared.Delays.the-variants.{Between}
+use Rattle.plant.specs.Box.{low, high, Ordered, Face, absent, present}
+use Rattle.plant.specs.Model.{n#, E#, invariant, rate, source, target, resetMask, masked, guard, reset}
+use Rattle.plant.specs.Delays.{delaysInto, In, Reaches}
+use Rattle.plant.specs.Steps.{touches, Touch, Bound, unbounded, bound, cutLow, cutHigh, wallDelays, wallStep, switchStep}
+use Rattle.plant.specs.Runs.{InBox, IsDelay, IsSwitch}
+
+-- the face is there, and the levels x over D lie in its box
+abbrev pub Holds : (n D : ℕ) (x : List ℤ) → Face → Type 0
+Holds n D x absent = ⊥
+Holds n D x (present b) = InBox n D b x
+
+-- ---- wall step: from a part of location l to the wall value b of variable d
+
+-- one of the two ends of an interval of delays has P
+pub data AtEnd (P : Fraction → Type 0) (s : Interval) : Type 0 where
+  at-earliest : P (s .earliest) → AtEnd P s
+  at-latest : {f : Fraction} → s .latest ≡ At f → P f → AtEnd P s
+
+module _ (m : List ℤ) (l : ℕ) (part : List ℤ) (d : ℕ) (b : ℤ) where
+  -- the delay t / D brings levels x of the part to levels y at the wall, which may lie outside the invariant
+  pub record Brings (D t : ℕ) (x y : List ℤ) : Type 0 where
+    pub denominator : 0 < D
+    pub count-before : length x ≡ n# m
+    pub count-after : length y ≡ n# m
+    pub from-part : InBox (n# m) D part x
+    pub is-delay : IsDelay m D (record { location = l; levels = x }) t (record { location = l; levels = y })
+    pub at-wall : word y d ≡ b *ℤ pos D
+
+  -- the delay t / D brings variable i, of some levels of the part, to a level with P
+  pub record Reached (i D t : ℕ) (P : ℤ → Type 0) : Type 0 where
+    pub before : List ℤ
+    pub after : List ℤ
+    pub brings : Brings D t before after
+    pub level : P (word after i)
+
+  -- some delay brings variable i to a level X over D with P
+  pub record Somewhere (i : ℕ) (P : ℕ → ℤ → Type 0) : Type 0 where
+    pub D : ℕ
+    pub t : ℕ
+    pub reached : Reached i D t (P D)
+
+  -- every level X over D to which a delay brings variable i has P
+  abbrev pub Everywhere : ℕ → (ℕ → ℤ → Type 0) → Type 0
+  Everywhere i P = (D t : ℕ) (x y : List ℤ) → Brings D t x y → P D (word y i)
+
+  -- a low of variable i before the cut: at an end of the delays, a level that is reached, down to a whole number, and no level is
+  -- below it; unbounded: levels go below every number
+  abbrev pub TightLow : Interval → ℕ → Bound → Type 0
+  TightLow s i unbounded = (v : ℤ) → Somewhere i (λ D X. X <ℤ (v *ℤ pos D))
+  TightLow s i (bound v) =
+      AtEnd (λ f. Reached i (f .den) (f .num) (λ X. v ≡ floorZ X (f .den))) s × Everywhere i (λ D X. (v *ℤ pos D) ≤ℤ X)
+
+  -- a high of variable i before the cut: such a level, up to a whole number, and no level is above it
+  abbrev pub TightHigh : Interval → ℕ → Bound → Type 0
+  TightHigh s i unbounded = (v : ℤ) → Somewhere i (λ D X. (v *ℤ pos D) <ℤ X)
+  TightHigh s i (bound v) =
+      AtEnd (λ f. Reached i (f .den) (f .num) (λ X. v ≡ ceilZ X (f .den))) s × Everywhere i (λ D X. X ≤ℤ (v *ℤ pos D))
+
+  -- the box of a wall step: there are delays to the wall, with tight lows and highs; the box is these, cut to the invariant, and not empty
+  pub record WallBox (box : List ℤ) : Type 0 where
+    pub delays : Interval
+    pub are-delays : wallDelays (n# m) (invariant m l) (rate m l) part d b ≡ Between delays
+    pub lows : ℕ → Bound
+    pub highs : ℕ → Bound
+    pub low-tight : (i : ℕ) → i < n# m → TightLow delays i (lows i)
+    pub high-tight : (i : ℕ) → i < n# m → TightHigh delays i (highs i)
+    pub low-cut : (i : ℕ) → i < n# m → low box i ≡ cutLow (lows i) (low (invariant m l) i)
+    pub high-cut : (i : ℕ) → i < n# m → high box i ≡ cutHigh (highs i) (high (invariant m l) i)
+    pub not-empty : Ordered (n# m) box
+
+  pub record WallMeans : Type 0 where
+    -- its delays are exactly those that bring variable d, of some levels of the part, to b
+    pub delays :
+        (D t : ℕ) → 0 < D
+        → In D t (wallDelays (n# m) (invariant m l) (rate m l) part d b) ↔ Reached d D t (λ X. X ≡ b *ℤ pos D)
+    -- it holds every level in the invariant that a delay of a run brings to the wall
+    pub holds :
+        (D t : ℕ) (x y : List ℤ) → Brings D t x y → InBox (n# m) D (invariant m l) y
+        → Holds (n# m) D y (wallStep (n# m) (invariant m l) (rate m l) part d b)
+    -- and it is no wider than document 01 says
+    pub tight : (box : List ℤ) → wallStep (n# m) (invariant m l) (rate m l) part d b ≡ present box → WallBox box
+
+-- ---- switch step of switch e
+
+module _ (m : List ℤ) (e : ℕ) where
+  -- question 16: masked reset ranges are single
+  abbrev pub Single : Type 0
+  Single = (i : ℕ) → i < n# m → masked (resetMask m e) i ≡ true → low (reset m e) i ≡ high (reset m e) i
+
+  -- from levels over D of the face g, switch e of a run leaves the levels y, in the target's invariant
+  pub record Switched (D : ℕ) (g : Face) (y : List ℤ) : Type 0 where
+    pub before : List ℤ
+    pub count : length before ≡ n# m
+    pub from-face : Holds (n# m) D before g
+    pub is-switch : IsSwitch m D (record { location = source m e; levels = before }) e (record { location = target m e; levels = y })
+    pub in-invariant : InBox (n# m) D (invariant m (target m e)) y
+
+  -- what the switch step gives from the face g
+  abbrev pub switchFrom : Face → Face
+  switchFrom g = switchStep (n# m) (resetMask m e) (guard m e) (reset m e) (invariant m (target m e)) g
+
+  pub record SwitchMeans : Type 0 where
+    -- it holds exactly the levels that the switch leaves from levels of the face
+    pub exact : (D : ℕ) → 0 < D → (g : Face) (y : List ℤ) → Holds (n# m) D y (switchFrom g) ↔ Switched D g y
+    -- an empty cut lands nothing
+    pub not-empty : (g : Face) (box : List ℤ) → switchFrom g ≡ present box → Ordered (n# m) box
+
+-- ---- all of it
+
+pub record Meaning : Type 0 where
+  -- the delays from [p, q] with rate [a, c] into [lo, hi] (a wall value b is the range from b to b): t / D is one of them exactly if
+  -- p + a × t / D ≤ hi and lo ≤ q + c × t / D
+  pub delays :
+      (p q a c lo hi : ℤ) (D t : ℕ) → p ≤ℤ q → a ≤ℤ c → lo ≤ℤ hi → 0 < D
+      → In D t (delaysInto p q a c lo hi) ↔ Reaches p q a c lo hi D t
+  -- a part touches a box exactly if the cut is not empty and one delay serves all variables
+  pub touching :
+      (n : ℕ) (inv rate part box : List ℤ) → Ordered n rate → Ordered n part
+      → T (touches n inv rate part box) ↔ Touch n inv rate part box
+  -- down is to the greatest whole number that is at most z / d, up to the least that is at least z / d
+  pub down : (v z : ℤ) (d : ℕ) → 0 < d → (v ≤ℤ floorZ z d) ↔ ((v *ℤ pos d) ≤ℤ z)
+  pub up : (v z : ℤ) (d : ℕ) → 0 < d → (ceilZ z d ≤ℤ v) ↔ (z ≤ℤ (v *ℤ pos d))
+  -- the wall step holds what a delay brings to the wall, and is tight
+  pub wall-step :
+      (m : List ℤ) (l : ℕ) (part : List ℤ) (d : ℕ) (b : ℤ) → Ordered (n# m) (rate m l) → Ordered (n# m) part → d < n# m
+      → WallMeans m l part d b
+  -- the switch step is exact, both ways
+  pub switch-step : (m : List ℤ) (e : ℕ) → e < E# m → Single m e → SwitchMeans m e
