@@ -19,9 +19,9 @@ use Rattle.plant.proofs.DelaysExact.{delays-exact}
 use Rattle.plant.proofs.Touching.{touches-exact}
 use Rattle.plant.proofs.Bounds.{Lowest, Highest, Above, Below}
 use Rattle.plant.proofs.Boxes.{low-boxBy, high-boxBy, FaceAll, unless-all}
-use Rattle.plant.proofs.WallStep.{above-low, below-high, in-delays, delay-lows, delay-highs, wall-holds-delay}
+use Rattle.plant.proofs.WallStep.{above-low, below-high, in-delays, delay-lows, delay-highs, wall-holds-delay, wall-mono}
 use Rattle.plant.proofs.Tight.{lowBefore, highBefore, AttainedLow, AttainedHigh, to-wall, low-attained, high-attained}
-use Rattle.plant.proofs.SwitchStep.{switch-holds}
+use Rattle.plant.proofs.SwitchStep.{switch-holds, switch-mono}
 use Rattle.plant.proofs.SwitchExact.{switch-from, switch-ordered}
 
 -- ---- the wall step
@@ -105,4 +105,6 @@ meaning = record {
   up = λ v z d k. (λ h. trans (ceil-ge z d k) (mul-monoℕ d h), ceil-min d k);
   wall-step = wall-means;
   switch-step = switch-means;
+  wall-grows = λ n inv rate rate′ part part′ d b ld parts rates larger wider. wall-mono n inv rate rate′ part part′ d b larger wider ld parts rates;
+  switch-grows = switch-mono;
 }

@@ -15,7 +15,7 @@ use Rattle.plant.specs.declared.Fraction.{Fraction}
 use Rattle.plant.specs.declared.End.the-variants.{At}
 use Rattle.plant.specs.declared.Interval.{Interval}
 use Rattle.plant.specs.declared.Delays.the-variants.{Between}
-use Rattle.plant.specs.Box.{low, high, Ordered, Face, absent, present}
+use Rattle.plant.specs.Box.{low, high, Ordered, Inside, Face, absent, present, FaceIn}
 use Rattle.plant.specs.Model.{n#, E#, invariant, rate, source, target, resetMask, masked, guard, reset}
 use Rattle.plant.specs.Delays.{delaysInto, In, Reaches}
 use Rattle.plant.specs.Steps.{touches, Touch, Bound, unbounded, bound, cutLow, cutHigh, wallDelays, wallStep, switchStep}
@@ -60,20 +60,20 @@ module _ (m : List ℤ) (l : ℕ) (part : List ℤ) (d : ℕ) (b : ℤ) where
   abbrev pub Everywhere : ℕ → (ℕ → ℤ → Type 0) → Type 0
   Everywhere i P = (D t : ℕ) (x y : List ℤ) → Brings D t x y → P D (word y i)
 
-  -- a low of variable i before the cut: at an end of the delays, a level that is reached, down to a whole number, and no level is
-  -- below it; unbounded: levels go below every number
+  -- a low of variable i before the cut is the level that an end of the delays brings it to, down to a whole number, and no level is
+  -- below it; where it is unbounded, levels go below every number
   abbrev pub TightLow : Interval → ℕ → Bound → Type 0
   TightLow s i unbounded = (v : ℤ) → Somewhere i (λ D X. X <ℤ (v *ℤ pos D))
   TightLow s i (bound v) =
       AtEnd (λ f. Reached i (f .den) (f .num) (λ X. v ≡ floorZ X (f .den))) s × Everywhere i (λ D X. (v *ℤ pos D) ≤ℤ X)
 
-  -- a high of variable i before the cut: such a level, up to a whole number, and no level is above it
+  -- a high is such a level, up to a whole number, and no level is above it; where it is unbounded, levels go above every number
   abbrev pub TightHigh : Interval → ℕ → Bound → Type 0
   TightHigh s i unbounded = (v : ℤ) → Somewhere i (λ D X. (v *ℤ pos D) <ℤ X)
   TightHigh s i (bound v) =
       AtEnd (λ f. Reached i (f .den) (f .num) (λ X. v ≡ ceilZ X (f .den))) s × Everywhere i (λ D X. X ≤ℤ (v *ℤ pos D))
 
-  -- the box of a wall step: there are delays to the wall, with tight lows and highs; the box is these, cut to the invariant, and not empty
+  -- the box of a wall step: there are delays to the wall; the box is their lows and highs, cut to the invariant, and not empty
   pub record WallBox (box : List ℤ) : Type 0 where
     pub delays : Interval
     pub are-delays : wallDelays (n# m) (invariant m l) (rate m l) part d b ≡ Between delays
@@ -100,7 +100,7 @@ module _ (m : List ℤ) (l : ℕ) (part : List ℤ) (d : ℕ) (b : ℤ) where
 -- ---- switch step of switch e
 
 module _ (m : List ℤ) (e : ℕ) where
-  -- question 16: masked reset ranges are single
+  -- masked reset ranges are single, as question 16 asks
   abbrev pub Single : Type 0
   Single = (i : ℕ) → i < n# m → masked (resetMask m e) i ≡ true → low (reset m e) i ≡ high (reset m e) i
 
@@ -143,3 +143,12 @@ pub record Meaning : Type 0 where
       → WallMeans m l part d b
   -- the switch step is exact, both ways
   pub switch-step : (m : List ℤ) (e : ℕ) → e < E# m → Single m e → SwitchMeans m e
+  -- steps grow: the wall step with part and rate, the switch step with face, guard and reset box
+  pub wall-grows :
+      (n : ℕ) (inv rate rate′ part part′ : List ℤ) (d : ℕ) (b : ℤ) → d < n
+      → Ordered n part → Ordered n rate → Inside n part part′ → Inside n rate rate′
+      → FaceIn n (wallStep n inv rate part d b) (wallStep n inv rate′ part′ d b)
+  pub switch-grows :
+      (n mask : ℕ) (guard guard′ reset reset′ inv : List ℤ) → Inside n guard guard′ → Inside n reset reset′
+      → (g g′ : Face) → FaceIn n g g′
+      → FaceIn n (switchStep n mask guard reset inv g) (switchStep n mask guard′ reset′ inv g′)
