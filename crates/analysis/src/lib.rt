@@ -54,12 +54,11 @@ pub fn certificate_questions<'a>(model: &'a [i32], table: &'a [i32]) -> u32
     ensures { λ r. ⌜ r ≡ certificateQuestions (now (model .entry)) (now (table .entry)) ⌝ }
 {
     let size = table.len();
-    if size <= 1280 {
-        let mut after = [0i32; 1280];
+    if size <= tables::FEW_WORDS {
+        let mut after = [0i32; tables::FEW_WORDS];
         return certificate_with(model, table, &mut after[..size]);
     }
-    // The largest table: 64 locations of 156 words.
-    let mut after = [0i32; 9984];
+    let mut after = [0i32; tables::MOST_WORDS];
     certificate_with(model, table, &mut after[..size])
 }
 

@@ -1,124 +1,119 @@
--- The search for a touch, by its three loops: the parts passed, the forbidden boxes passed and the locations passed. Parts are
--- asked of a location's own boxes alone, box by box; the definition has the parts outside and the boxes inside.
+-- The search for a touch, by its three loops: the locations passed, the parts passed and the forbidden boxes passed. A part is
+-- asked of its own location's boxes alone, from the last to the first.
 use mathlib.Core.Path.{_≡_, refl, sym, ap, _∙_, subst}
-use mathlib.Core.Bool.{Bool, true, false, or-false}
+use mathlib.Core.Bool.{Bool, true, false, cond, or-false}
 use mathlib.Core.List.{List}
 use Prim.Native.Nat.{ℕ, zero, suc, _+_, _*_, _-_, _<_, _≤_}
 use native.Mathlib.Omega.{arith}
-use lib.Dec.{T, eqb}
-use lib.IntN.{ℤ}
+use lib.Dec.{eqb}
+use lib.IntN.{ℤ, pos}
+use Rattle.integers.specs.Words.{word, eqZ}
 use Rattle.integers.specs.Counted.{anyBelow}
 use Rattle.integers.proofs.Tests.{by-test}
-use Rattle.integers.proofs.Counted.{any-ext, any-some, any-intro, is-false}
-use Rattle.plant.specs.Box.{Face, absent, present}
+use Rattle.integers.proofs.Counted.{is-true, is-false}
+use Rattle.plant.specs.Box.{boxAt, Face, absent, present}
 use Rattle.plant.specs.Model.{n#, L#, B#, forbiddenLocation}
 use Rattle.plant.specs.Tables.{partOf, partTouches, touching}
+use Rattle.passes.specs.Parts.{IsPart}
+use Rattle.passes.proofs.Joined.{read-present, read-absent}
 use Rattle.checks.specs.Links.{lastBox}
 use Rattle.checks.proofs.Links.{last-within, last-own}
 use Rattle.checks.proofs.Loops.{any-none, any-more, any-found}
 
--- ---- two searches, one inside the other, in either order
-
-same-truth : (a b : Bool) → (T a → T b) → (T b → T a) → a ≡ b
-same-truth true true f g = refl
-same-truth true false f g = absurd (f tt)
-same-truth false true f g = absurd (g tt)
-same-truth false false f g = refl
-
-module _ (j k : ℕ) (f : ℕ → ℕ → Bool) where
-  over : T (anyBelow j (λ x. anyBelow k (f x))) → T (anyBelow k (λ y. anyBelow j (λ x. f x y)))
-  over h =
-      let a = any-some j (λ x. anyBelow k (f x)) h in
-      let b = any-some k (f (a .index)) (a .holds) in
-      any-intro k (λ y. anyBelow j (λ x. f x y)) (b .index) (b .is-below) (any-intro j (λ x. f x (b .index)) (a .index) (a .is-below) (b .holds))
-
-any-swap : (j k : ℕ) (f : ℕ → ℕ → Bool) → anyBelow j (λ x. anyBelow k (f x)) ≡ anyBelow k (λ y. anyBelow j (λ x. f x y))
-any-swap j k f = same-truth _ _ (over j k f) (over k j (λ y x. f x y))
-
--- ---- the loops
-
 module _ (m t : List ℤ) where
-  -- of location l and forbidden box b: some part below k touches it; some box below k is touched; so in a location below k
-  unfoldable pub partsTouch : (l b k : ℕ) → Bool
-  partsTouch l b k = anyBelow k (λ p. partTouches m l b (partOf m t l p))
+  -- part p of location l touches some box below k; some part below k touches one; so in a location below k
+  unfoldable pub boxesTouched : (l p k : ℕ) → Bool
+  boxesTouched l p k = anyBelow k (λ b. partTouches m l b (partOf m t l p))
 
-  unfoldable pub boxesTouched : (l k : ℕ) → Bool
-  boxesTouched l k = anyBelow k (λ b. partsTouch l b (suc (2 * n# m)))
+  unfoldable pub partsTouch : (l k : ℕ) → Bool
+  partsTouch l k = anyBelow k (λ p. boxesTouched l p (B# m))
 
   unfoldable pub locationsTouch : ℕ → Bool
-  locationsTouch k = anyBelow k (λ l. boxesTouched l (B# m))
+  locationsTouch k = anyBelow k (λ l. partsTouch l (suc (2 * n# m)))
 
   pub search-is : locationsTouch (L# m) ≡ touching m t
-  unfolding locationsTouch boxesTouched partsTouch touching
-  search-is =
-      any-ext (L# m) (λ l. boxesTouched l (B# m)) (λ l. anyBelow (suc (2 * n# m)) (λ p. anyBelow (B# m) (λ b. partTouches m l b (partOf m t l p))))
-      (λ l _. any-swap (B# m) (suc (2 * n# m)) (λ b p. partTouches m l b (partOf m t l p)))
+  unfolding locationsTouch partsTouch boxesTouched touching
+  search-is = refl
 
   -- none at first
-  pub no-part : (l b : ℕ) → partsTouch l b 0 ≡ false
-  unfolding partsTouch
-  no-part l b = any-none (λ p. partTouches m l b (partOf m t l p))
-
-  no-box : (l : ℕ) → boxesTouched l 0 ≡ false
+  no-box : (l p : ℕ) → boxesTouched l p 0 ≡ false
   unfolding boxesTouched
-  no-box l = any-none (λ b. partsTouch l b (suc (2 * n# m)))
+  no-box l p = any-none (λ b. partTouches m l b (partOf m t l p))
+
+  pub no-part : (l : ℕ) → partsTouch l 0 ≡ false
+  unfolding partsTouch
+  no-part l = any-none (λ p. boxesTouched l p (B# m))
 
   pub no-location : locationsTouch 0 ≡ false
   unfolding locationsTouch
-  no-location = any-none (λ l. boxesTouched l (B# m))
+  no-location = any-none (λ l. partsTouch l (suc (2 * n# m)))
 
   -- nor after one that does not touch, or is not touched
-  pub part-more : (l b p : ℕ) → partsTouch l b p ≡ false → partTouches m l b (partOf m t l p) ≡ false → partsTouch l b (p + 1) ≡ false
-  unfolding partsTouch
-  part-more l b p e h = any-more (λ p. partTouches m l b (partOf m t l p)) p e h
-
-  box-less : (l b : ℕ) → partsTouch l b (suc (2 * n# m)) ≡ false → boxesTouched l (suc b) ≡ boxesTouched l b
+  box-less : (l p b : ℕ) → partTouches m l b (partOf m t l p) ≡ false → boxesTouched l p (suc b) ≡ boxesTouched l p b
   unfolding boxesTouched anyBelow
-  box-less l b h = rw h (or-false (boxesTouched l b))
+  box-less l p b h = rw h (or-false (boxesTouched l p b))
 
-  pub location-more : (l : ℕ) → locationsTouch l ≡ false → boxesTouched l (B# m) ≡ false → locationsTouch (l + 1) ≡ false
+  pub part-more : (l p : ℕ) → partsTouch l p ≡ false → boxesTouched l p (B# m) ≡ false → partsTouch l (p + 1) ≡ false
+  unfolding partsTouch
+  part-more l p e h = any-more (λ p. boxesTouched l p (B# m)) p e h
+
+  pub location-more : (l : ℕ) → locationsTouch l ≡ false → partsTouch l (suc (2 * n# m)) ≡ false → locationsTouch (l + 1) ≡ false
   unfolding locationsTouch
-  location-more l e h = any-more (λ l. boxesTouched l (B# m)) l e h
+  location-more l e h = any-more (λ l. partsTouch l (suc (2 * n# m))) l e h
 
-  -- a box of another location is not touched
+  -- an absent part touches nothing, and no part a box of another location
+  none-absent : (l p k : ℕ) → partOf m t l p ≡ absent → boxesTouched l p k ≡ false
+  unfolding boxesTouched anyBelow partTouches
+  none-absent l p zero e = refl
+  none-absent l p (suc k) e = rw (none-absent l p k e, e) refl
+
   elsewhere : (l b : ℕ) (g : Face) → eqb (forbiddenLocation m b) l ≡ false → partTouches m l b g ≡ false
   unfolding partTouches
   elsewhere l b absent e = refl
   elsewhere l b (present x) e = rw e refl
 
-  none-elsewhere : (l b k : ℕ) → eqb (forbiddenLocation m b) l ≡ false → partsTouch l b k ≡ false
-  unfolding partsTouch anyBelow
-  none-elsewhere l b zero e = refl
-  none-elsewhere l b (suc k) e = rw (none-elsewhere l b k e, elsewhere l b (partOf m t l k) e) refl
-
   -- the last box of the location below k is touched, or one before it, if one below k is
-  up-to-last : (l k : ℕ) → boxesTouched l (lastBox m l k) ≡ boxesTouched l k
+  up-to-last : (l p k : ℕ) → boxesTouched l p (lastBox m l k) ≡ boxesTouched l p k
   unfolding lastBox
-  up-to-last l zero = refl
-  up-to-last l (suc k) =
-      by-test (λ (b : ℕ). boxesTouched l b ≡ boxesTouched l (suc k)) (eqb (forbiddenLocation m k) l) (λ _. refl)
-      (λ t. up-to-last l k ∙ sym (box-less l k (none-elsewhere l k (suc (2 * n# m)) (is-false t))))
+  up-to-last l p zero = refl
+  up-to-last l p (suc k) =
+      by-test (λ (b : ℕ). boxesTouched l p b ≡ boxesTouched l p (suc k)) (eqb (forbiddenLocation m k) l) (λ _. refl)
+      (λ u. up-to-last l p k ∙ sym (box-less l p k (elsewhere l k (partOf m t l p) (is-false u))))
 
-  -- of location l box b - 1 is left and those before it, or none at 0
-  pub record BoxesLeft (l b : ℕ) : Type 0 where
+  -- of the boxes of location l, box b - 1 and those before it are left to be asked of part p, or none at 0; while one is left,
+  -- the part is there, and bounds is its box
+  pub record BoxesLeft (l p : ℕ) (bounds : List ℤ) (b : ℕ) : Type 0 where
     pub within : b ≤ B# m
     pub own : 0 < b → forbiddenLocation m (b - 1) ≡ l
-    pub passed : boxesTouched l b ≡ boxesTouched l (B# m)
+    pub there : 0 < b → partOf m t l p ≡ present bounds
+    pub passed : boxesTouched l p b ≡ boxesTouched l p (B# m)
 
-  left-below : (l k : ℕ) → k ≤ B# m → boxesTouched l k ≡ boxesTouched l (B# m) → BoxesLeft l (lastBox m l k)
-  left-below l k u e = record { within = omega (arith, last-within m l k); own = last-own m l k; passed = up-to-last l k ∙ e }
+  module _ (l p : ℕ) {bounds : List ℤ} where
+    left-below : (k : ℕ) → k ≤ B# m → partOf m t l p ≡ present bounds → boxesTouched l p k ≡ boxesTouched l p (B# m) → BoxesLeft l p bounds (lastBox m l k)
+    left-below k u h e = record { within = omega (arith, last-within m l k); own = last-own m l k; there = λ _. h; passed = up-to-last l p k ∙ e }
 
-  pub all-left : (l : ℕ) {b : ℕ} → b ≡ lastBox m l (B# m) → BoxesLeft l b
-  all-left l e = subst (BoxesLeft l) (sym e) (left-below l (B# m) (omega arith) refl)
+    -- all of a part that is there, none of an absent one
+    all-left : partOf m t l p ≡ present bounds → BoxesLeft l p bounds (lastBox m l (B# m))
+    all-left h = left-below (B# m) (omega arith) h refl
 
-  pub one-less : (l : ℕ) {b c : ℕ} → BoxesLeft l b → 0 < b → partsTouch l (b - 1) (suc (2 * n# m)) ≡ false → c ≡ lastBox m (forbiddenLocation m (b - 1)) (b - 1) → BoxesLeft l c
-  one-less l {b} h u e d =
-      let is : suc (b - 1) ≡ b = omega arith in
-      subst (BoxesLeft l) (sym (d ∙ ap (λ (x : ℕ). lastBox m x (b - 1)) (h .own u)))
-      (left-below l (b - 1) (omega (arith, h .within)) (sym (box-less l (b - 1) e) ∙ ap (boxesTouched l) is ∙ h .passed))
+    no-left : partOf m t l p ≡ absent → BoxesLeft l p bounds 0
+    no-left h = record { within = omega arith; own = λ u. absurd (omega arith); there = λ u. absurd (omega arith); passed = no-box l p ∙ sym (none-absent l p (B# m) h) }
 
-  pub none-left : (l : ℕ) {b : ℕ} → BoxesLeft l b → b ≤ 0 → boxesTouched l (B# m) ≡ false
-  none-left l {b} h u = let is : b ≡ 0 = omega arith in sym (h .passed) ∙ ap (boxesTouched l) is ∙ no-box l
+    pub asked-left : {part : List ℤ} {last b : ℕ} → IsPart (n# m) part (partOf m t l p) → bounds ≡ boxAt (n# m) part 1 → last ≡ lastBox m l (B# m) → b ≡ cond (eqZ (word part 0) (pos 1)) last 0 → BoxesLeft l p bounds b
+    asked-left {part} {last} {b} is h e d =
+        subst (BoxesLeft l p bounds) (sym d)
+        (by-test (BoxesLeft l p bounds) (eqZ (word part 0) (pos 1))
+        (λ u. subst (BoxesLeft l p bounds) (sym e) (all-left (sym (is .gives) ∙ read-present (n# m) part (is-true u) ∙ ap present (sym h))))
+        (λ u. no-left (sym (is .gives) ∙ read-absent (n# m) part (is-false u))))
+
+    pub one-less : {b c : ℕ} → BoxesLeft l p bounds b → 0 < b → partTouches m l (b - 1) (partOf m t l p) ≡ false → c ≡ lastBox m (forbiddenLocation m (b - 1)) (b - 1) → BoxesLeft l p bounds c
+    one-less {b} h u e d =
+        let is : suc (b - 1) ≡ b = omega arith in
+        subst (BoxesLeft l p bounds) (sym (d ∙ ap (λ (x : ℕ). lastBox m x (b - 1)) (h .own u)))
+        (left-below (b - 1) (omega (arith, h .within)) (h .there u) (sym (box-less l p (b - 1) e) ∙ ap (boxesTouched l p) is ∙ h .passed))
+
+    pub none-left : {b : ℕ} → BoxesLeft l p bounds b → b ≤ 0 → boxesTouched l p (B# m) ≡ false
+    none-left {b} h u = let is : b ≡ 0 = omega arith in sym (h .passed) ∙ ap (boxesTouched l p) is ∙ no-box l p
 
   -- the first touch
   pub found : (l p b : ℕ) → l < L# m → p < suc (2 * n# m) → b < B# m → partTouches m l b (partOf m t l p) ≡ true → touching m t ≡ true

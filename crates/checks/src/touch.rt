@@ -1,28 +1,17 @@
 // Whether a part of a location touches a forbidden box of it.
 ghost use mathlib.Core.Path.{_≡_};
-ghost use mathlib.Core.Bool.{true, _&&_};
+ghost use mathlib.Core.Bool.{true, cond};
+ghost use Prim.Native.Nat.{_*_, _<_, _≤_};
 ghost use lib.IntN.{pos};
+ghost use lib.ListN.{length};
 ghost use Rattle.integers.specs.Words.{word, eqZ};
-ghost use Rattle.plant.specs.Box.{boxAt};
-ghost use Rattle.plant.specs.Model.{B#};
+ghost use Rattle.plant.specs.Model.{n#, L#, B#};
 ghost use Rattle.plant.specs.Questions.{modelQuestions};
-ghost use Rattle.plant.specs.Steps.{touches};
 ghost use Rattle.plant.specs.Tables as T;
-ghost use Rattle.plant.specs.Tables.{tableOk};
+ghost use Rattle.plant.specs.Tables.{tableOk, partOf};
 ghost use Rattle.passes.specs.Ready.{TableReady};
-ghost use Rattle.checks.specs.Ready.{TouchReady};
+ghost use Rattle.passes.specs.Parts.{IsPart};
 ghost use Rattle.checks.specs.Links.{Linked};
-
-// The part with this flag and box is there, and touches a forbidden box.
-fn part_touches(n: usize, inv: &[i32], rate: &[i32], part: &[i32], forbidden: &[i32]) -> bool
-    requires { ⌜ TouchReady n (now inv) (now rate) (now part) (now forbidden) ⌝ }
-    ensures { λ r. ⌜ r ≡ (eqZ (word (now (part .entry)) 0) (pos 1) && touches n (now (inv .entry)) (now (rate .entry)) (boxAt n (now (part .entry)) 1) (now (forbidden .entry))) ⌝ }
-{
-    if !integers::same(part[0], 1) {
-        return false;
-    }
-    delays::touches(n, inv, rate, records::box_at(part, 1, n), forbidden)
-}
 
 // Links the forbidden boxes of each location, from the last to the first. A box has its number plus 1 here, and 0 is none:
 // `last` holds the last box of each location, and `before` the one before each box in its location.
@@ -40,7 +29,28 @@ fn link(model: &[i32], last: &mut [usize; 64], before: &mut [usize; 64])
     }
 }
 
-// A part of a location touches a forbidden box of it: the search stops at the first touch.
+// The words of part p of location l: part 0 is its start part, part f + 1 its face f.
+fn part_at<'a>(model: &'a [i32], table: &'a [i32], l: usize, p: usize) -> &'a [i32]
+    requires { ⌜ TableReady (now model) (now table) × (l < L# (now model)) × (p ≤ 2 * n# (now model)) ⌝ }
+    ensures { λ r. ⌜ IsPart (n# (now (model .entry))) (now r) (partOf (now (model .entry)) (now (table .entry)) l p) ⌝ }
+{
+    if p == 0 {
+        passes::start_part(model, l)
+    } else {
+        let at = tables::face_at(model, l, p - 1);
+        tables::face(table, at, records::variables(model))
+    }
+}
+
+// The first box to ask of a part: none of an absent one.
+fn first_asked(part: &[i32], last: usize) -> usize
+    requires { ⌜ 0 < length (now part) ⌝ }
+    ensures { λ r. ⌜ r ≡ cond (eqZ (word (now (part .entry)) 0) (pos 1)) last 0 ⌝ }
+{
+    if integers::same(part[0], 1) { last } else { 0 }
+}
+
+// A part of a location touches a forbidden box of it: the search stops at the first such part.
 pub fn touching<'a>(model: &'a [i32], table: &'a [i32]) -> bool
     requires { ⌜ TableReady (now model) (now table) × (tableOk (now model) (now table) ≡ true) ⌝ }
     ensures { λ r. ⌜ r ≡ T.touching (now (model .entry)) (now (table .entry)) ⌝ }
@@ -48,31 +58,29 @@ pub fn touching<'a>(model: &'a [i32], table: &'a [i32]) -> bool
     let locations = records::locations(model);
     let n = records::variables(model);
     let parts = 2 * n + 1;
-    let size = tables::words_per_location(n);
     let mut last = [0usize; 64];
     let mut before = [0usize; 64];
     link(model, &mut last, &mut before);
     let mut found = false;
-    let mut faces: usize = 0;
     let mut l: usize = 0;
     'search: while l < locations {
         let inv = records::invariant(model, l);
         let rate = records::rate(model, l);
-        let mut b = last[l];
-        'boxes: while 0 < b {
-            let forbidden = records::forbidden_box(model, b - 1);
-            let mut p: usize = 0;
-            'parts: while p < parts {
-                let part = passes::part_at(model, table, l, faces, p);
-                if part_touches(n, inv, rate, part, forbidden) {
+        let mut p: usize = 0;
+        'parts: while p < parts {
+            let part = part_at(model, table, l, p);
+            let bounds = records::box_at(part, 1, n);
+            let mut b = first_asked(part, last[l]);
+            'boxes: while 0 < b {
+                let forbidden = records::forbidden_box(model, b - 1);
+                if delays::touches(n, inv, rate, bounds, forbidden) {
                     found = true;
                     break 'search;
                 }
-                p = p + 1;
+                b = before[b - 1];
             }
-            b = before[b - 1];
+            p = p + 1;
         }
-        faces = faces + size;
         l = l + 1;
     }
     found

@@ -46,7 +46,7 @@ fn location_ok(model: &[i32], table: &[i32], l: usize) -> bool
     let mut ok = true;
     let mut f: usize = 0;
     while f < faces {
-        let face = tables::face(table, tables::face_at(n, l, f), n);
+        let face = tables::face(table, tables::face_at(model, l, f), n);
         ok = ok & face_ok(n, inv, f, face);
         f = f + 1;
     }

@@ -54,14 +54,13 @@ fn answer_file(model: &[i32], file: &mut [u8], limit: u32) -> u64
     requires { ⌜ (modelQuestions (now model) ≡ 0) × (longestTableFile (now model) ≤ length (now file)) ⌝ }
     ensures { λ r. ⌜ record { number = r; file = now (file .exit) } ≡ decided (now (model .entry)) (C.analysis (now (model .entry)) limit) (now (file .entry)) ⌝ }
 {
-    if tables::table_size(model) <= 1280 {
-        let mut table = [0i32; 1280];
-        let mut work = [0i32; 1280];
+    if tables::table_size(model) <= tables::FEW_WORDS {
+        let mut table = [0i32; tables::FEW_WORDS];
+        let mut work = [0i32; tables::FEW_WORDS];
         return answer_with(model, file, limit, &mut table, &mut work);
     }
-    // The largest table: 64 locations of 156 words.
-    let mut table = [0i32; 9984];
-    let mut work = [0i32; 9984];
+    let mut table = [0i32; tables::MOST_WORDS];
+    let mut work = [0i32; tables::MOST_WORDS];
     answer_with(model, file, limit, &mut table, &mut work)
 }
 
@@ -110,11 +109,11 @@ fn check_words<'a>(model: &'a [i32], file: &'a [u8]) -> u64
     requires { ⌜ modelQuestions (now model) ≡ 0 ⌝ }
     ensures { λ r. ⌜ r ≡ checkBy (certificateFileQuestions (now (model .entry)) (now (file .entry))) .code ⌝ }
 {
-    if tables::table_size(model) <= 1280 {
-        let mut table = [0i32; 1280];
+    if tables::table_size(model) <= tables::FEW_WORDS {
+        let mut table = [0i32; tables::FEW_WORDS];
         return check_with(model, file, &mut table);
     }
-    let mut table = [0i32; 9984];
+    let mut table = [0i32; tables::MOST_WORDS];
     check_with(model, file, &mut table)
 }
 

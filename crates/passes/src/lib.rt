@@ -8,7 +8,7 @@ mod parts;
 mod switches;
 mod walls;
 
-pub use parts::part_at;
+pub use parts::start_part;
 
 // A pass: writes to `out` the table after it, each face joined with every wall step and every switch step from `table`.
 pub fn pass<'a>(model: &'a [i32], table: &'a [i32], out: &mut [i32])

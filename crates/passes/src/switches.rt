@@ -4,10 +4,9 @@ ghost use Prim.Native.Nat.{_<_};
 ghost use Rattle.plant.specs.Model.{n#, E#};
 ghost use Rattle.plant.specs.Steps.{switchStep};
 ghost use Rattle.plant.specs.Tables as T;
-ghost use Rattle.plant.specs.Tables.{wordsPerLocation, tableBy, faceRead, wallsJoined};
+ghost use Rattle.plant.specs.Tables.{tableBy, faceRead, wallsJoined};
 ghost use Rattle.passes.specs.Checked.{Checked};
 ghost use Rattle.passes.specs.Joining.{SwitchJoin, IsFace, IsTable, joinedWith, landing, withSwitch};
-use super::parts;
 
 // Joins to a face the switch step from the source's face.
 fn join_switch(
@@ -32,15 +31,15 @@ fn join_switch(
     }
 }
 
-// Joins to a face the step of switch e from its source's face, in a table of so many words per location.
-fn join_from<'a>(model: &'a [i32], table: &'a [i32], size: usize, e: usize, face: &mut [i32])
-    requires { ⌜ Checked (now model) (now table) × (e < E# (now model)) × IsFace (n# (now model)) (now face) × (size ≡ wordsPerLocation (n# (now model))) ⌝ }
+// Joins to a face the step of switch e from its source's face.
+fn join_from<'a>(model: &'a [i32], table: &'a [i32], e: usize, face: &mut [i32])
+    requires { ⌜ Checked (now model) (now table) × (e < E# (now model)) × IsFace (n# (now model)) (now face) ⌝ }
     ensures { λ _. ⌜ now (face .exit) ≡ joinedWith (n# (now (model .entry))) (now (face .entry)) (landing (now (model .entry)) (now (table .entry)) e) ⌝ }
 {
     let n = records::variables(model);
     let f = 2 * records::wall_variable(model, e) + records::source_side(model, e);
-    let l = records::source(model, e);
-    let from = parts::part_at(model, table, l, l * size, f + 1);
+    let at = tables::face_at(model, records::source(model, e), f);
+    let from = tables::face(table, at, n);
     let inv = records::invariant(model, records::target(model, e));
     let mask = records::reset_mask(model, e);
     let guard = records::guard(model, e);
@@ -48,15 +47,15 @@ fn join_from<'a>(model: &'a [i32], table: &'a [i32], size: usize, e: usize, face
 }
 
 // Joins the step of switch e to the face on which it lands.
-fn land<'a>(model: &'a [i32], table: &'a [i32], size: usize, e: usize, out: &mut [i32])
-    requires { ⌜ Checked (now model) (now table) × (e < E# (now model)) × IsTable (now model) (now out) × (size ≡ wordsPerLocation (n# (now model))) ⌝ }
+fn land<'a>(model: &'a [i32], table: &'a [i32], e: usize, out: &mut [i32])
+    requires { ⌜ Checked (now model) (now table) × (e < E# (now model)) × IsTable (now model) (now out) ⌝ }
     ensures { λ _. ⌜ now (out .exit) ≡ withSwitch (now (model .entry)) (now (table .entry)) e (now (out .entry)) ⌝ }
 {
     let n = records::variables(model);
     let f = 2 * records::wall_variable(model, e) + records::target_side(model, e);
-    let at = records::target(model, e) * size + f * (1 + 2 * n);
-    let end = at + (1 + 2 * n);
-    join_from(model, table, size, e, &mut out[at..end]);
+    let at = tables::face_at(model, records::target(model, e), f);
+    let end = at + tables::face_size(n);
+    join_from(model, table, e, &mut out[at..end]);
 }
 
 // Joins all switch steps to the faces that have their wall steps.
@@ -65,10 +64,9 @@ pub fn switches<'a>(model: &'a [i32], table: &'a [i32], out: &mut [i32])
     ensures { λ _. ⌜ now (out .exit) ≡ T.pass (now (model .entry)) (now (table .entry)) ⌝ }
 {
     let count = records::switches(model);
-    let size = tables::words_per_location(records::variables(model));
     let mut e = 0;
     while e < count {
-        land(model, table, size, e, out);
+        land(model, table, e, out);
         e = e + 1;
     }
 }

@@ -1,6 +1,6 @@
 // The wall steps of a pass: to each face, from the location's start box and faces.
 ghost use mathlib.Core.Path.{_≡_};
-ghost use Prim.Native.Nat.{_*_, _<_};
+ghost use Prim.Native.Nat.{_<_};
 ghost use lib.ListN.{length};
 ghost use Rattle.plant.specs.Model.{n#, L#};
 ghost use Rattle.plant.specs.Steps.{wallStep};
@@ -35,10 +35,11 @@ fn join_walls(n: usize, inv: &[i32], rate: &[i32], bounds: &[i32], block: &mut [
     ensures { λ _. ⌜ now (block .exit) ≡ joinedAll n (now (block .entry)) (wallsOf n (now (inv .entry)) (now (rate .entry)) (now (bounds .entry))) ⌝ }
 {
     let faces = 2 * n;
-    let mut at = 0;
+    let size = tables::face_size(n);
     let mut f = 0;
     while f < faces {
-        let end = at + 1 + faces;
+        let at = tables::face_within(n, f);
+        let end = at + size;
         join_wall(
             n,
             inv,
@@ -48,7 +49,6 @@ fn join_walls(n: usize, inv: &[i32], rate: &[i32], bounds: &[i32], block: &mut [
             integers::word(inv, f),
             &mut block[at..end],
         );
-        at = end;
         f = f + 1;
     }
 }
@@ -63,34 +63,34 @@ fn join_part(n: usize, inv: &[i32], rate: &[i32], part: &[i32], block: &mut [i32
     }
 }
 
-// Joins to the faces of location l, which begin at a place of the table, the wall steps from all parts of the location: its
-// start box, and its faces. The start box comes before the loop, so that the compiler keeps join_part as one function.
-fn join_parts<'a>(model: &'a [i32], table: &'a [i32], l: usize, faces: usize, block: &mut [i32])
-    requires { ⌜ Checked (now model) (now table) × (l < L# (now model)) × (faces ≡ l * wordsPerLocation (n# (now model))) × (now block ≡ locationBy (n# (now model)) (faceOf (now model) (now table) l)) ⌝ }
+// Joins to the faces of location l the wall steps from all parts of the location: its start box, and its faces. The start box
+// comes before the loop, so that the compiler keeps join_part as one function.
+fn join_parts<'a>(model: &'a [i32], table: &'a [i32], l: usize, block: &mut [i32])
+    requires { ⌜ Checked (now model) (now table) × (l < L# (now model)) × (now block ≡ locationBy (n# (now model)) (faceOf (now model) (now table) l)) ⌝ }
     ensures { λ _. ⌜ now (block .exit) ≡ locationBy (n# (now (model .entry))) (wallsJoined (now (model .entry)) (now (table .entry)) l) ⌝ }
 {
     let n = records::variables(model);
     let inv = records::invariant(model, l);
     let rate = records::rate(model, l);
-    let start = parts::part_at(model, table, l, faces, 0);
-    join_part(n, inv, rate, start, block);
-    let count = 2 * n + 1;
-    let mut p = 1;
-    while p < count {
-        let part = parts::part_at(model, table, l, faces, p);
-        join_part(n, inv, rate, part, block);
-        p = p + 1;
+    join_part(n, inv, rate, parts::start_part(model, l), block);
+    let faces = 2 * n;
+    let mut f = 0;
+    while f < faces {
+        let face = tables::face(table, tables::face_at(model, l, f), n);
+        join_part(n, inv, rate, face, block);
+        f = f + 1;
     }
 }
 
-// The faces of location l, which begin at a place of the table, with all their wall steps.
-fn walls_location<'a>(model: &'a [i32], table: &'a [i32], l: usize, faces: usize, block: &mut [i32])
-    requires { ⌜ Checked (now model) (now table) × (l < L# (now model)) × (faces ≡ l * wordsPerLocation (n# (now model))) × (length (now block) ≡ wordsPerLocation (n# (now model))) ⌝ }
+// The faces of location l with all their wall steps.
+fn walls_location<'a>(model: &'a [i32], table: &'a [i32], l: usize, block: &mut [i32])
+    requires { ⌜ Checked (now model) (now table) × (l < L# (now model)) × (length (now block) ≡ wordsPerLocation (n# (now model))) ⌝ }
     ensures { λ _. ⌜ now (block .exit) ≡ locationBy (n# (now (model .entry))) (wallsJoined (now (model .entry)) (now (table .entry)) l) ⌝ }
 {
-    let end = faces + block.len();
-    integers::copy(&table[faces..end], block);
-    join_parts(model, table, l, faces, block);
+    let at = tables::faces_at(model, l);
+    let end = at + block.len();
+    integers::copy(&table[at..end], block);
+    join_parts(model, table, l, block);
 }
 
 // The whole table.
@@ -99,13 +99,11 @@ pub fn walls<'a>(model: &'a [i32], table: &'a [i32], out: &mut [i32])
     ensures { λ _. ⌜ now (out .exit) ≡ tableBy (now (model .entry)) (wallsJoined (now (model .entry)) (now (table .entry))) ⌝ }
 {
     let locations = records::locations(model);
-    let size = tables::words_per_location(records::variables(model));
-    let mut at = 0;
     let mut l = 0;
     while l < locations {
-        let end = at + size;
-        walls_location(model, table, l, at, &mut out[at..end]);
-        at = end;
+        let at = tables::faces_at(model, l);
+        let end = tables::faces_at(model, l + 1);
+        walls_location(model, table, l, &mut out[at..end]);
         l = l + 1;
     }
 }

@@ -3,7 +3,6 @@ use mathlib.Core.Path.{_≡_, refl, sym, ap, _∙_}
 use mathlib.Core.List.{List}
 use Prim.Native.Nat.{ℕ, _+_, _*_, _/_, _%_, _<_}
 use native.Mathlib.Nat.{mod-lt, div-add-mod', div-lt-iff-lt-mul}
-use native.Mathlib.Numerals.{add-one}
 use native.Mathlib.Omega.{arith}
 use lib.IntN.{ℤ}
 use lib.ListN.{take, drop}
@@ -13,7 +12,6 @@ use Rattle.plant.specs.Box.{Face, faceWords}
 use Rattle.plant.specs.Model.{n#, L#}
 use Rattle.plant.specs.Tables.{faceSize, tableSize, faceAt, tableBy, faceOf}
 use Rattle.plant.proofs.Tables.{Filled}
-use Rattle.passes.specs.Parts.{partWords}
 use Rattle.passes.specs.Checked.{Checked}
 use Rattle.passes.proofs.Reading.{old-words}
 use Rattle.table_files.proofs.Keys.{key-location, key-face, cat-keys}
@@ -43,7 +41,6 @@ module _ (m : List ℤ) (full : Filled m) where
 
   -- a table that passes 32 is the table of its faces
   pub table-again : (t : List ℤ) → Checked m t → 0 < n# m → take (tableSize m) t ≡ tableBy m (faceOf m t)
-  unfolding partWords
   table-again t ok h =
       ap (λ (k : ℕ). take k t) (sym size-keys)
       ∙ sym (cat-parts t 0 (faceSize (n# m)) (L# m * (2 * n# m)))
@@ -56,4 +53,4 @@ module _ (m : List ℤ) (full : Filled m) where
           let f : ℕ = q % (2 * n# m) in
           let b : (l < L# m) × (f < 2 * n# m) = key-below q h u in
           let z : 0 + q * faceSize (n# m) ≡ faceAt m l f = omega (arith, key-at q) in
-          ap (λ (k : ℕ). take (faceSize (n# m)) (drop k t)) z ∙ ap (partWords m t l) (sym (add-one f)) ∙ old-words m t ok l f (b .0) (b .1)
+          ap (λ (k : ℕ). take (faceSize (n# m)) (drop k t)) z ∙ old-words m t ok l f (b .0) (b .1)

@@ -16,7 +16,7 @@ use Rattle.integers.specs.Rounding.{maxZ, minZ}
 use Rattle.integers.proofs.Buffers.{onto-set, onto-two, onto-all, cat-more}
 use Rattle.plant.specs.Box.{low, high, boxBy, boxAt, hull, Face, absent, present, faceWords, join}
 use Rattle.plant.specs.Model.{n#, L#}
-use Rattle.plant.specs.Tables.{wordsPerLocation, faceSize, tableSize, faceRead}
+use Rattle.plant.specs.Tables.{wordsPerLocation, faceSize, tableSize, faceAt, faceRead}
 use Rattle.plant.proofs.Boxes.{low-boxBy, high-boxBy, length-boxBy, box-ext, low-boxAt, high-boxAt, length-boxAt, box-ends, length-hull}
 use Rattle.plant.proofs.Tables.{words-per-location}
 use Rattle.records.specs.Whole.{Head}
@@ -146,21 +146,38 @@ joined n x g e f = f ∙ ap (λ (s : List ℤ). faceWords n (join n (faceRead n 
 
 -- ---- where a face begins
 
-pub words-small : (n : ℕ) → 1 ≤ n → n ≤ 6 → wordsPerLocation n ≤ 156
+words-small : (n : ℕ) → 1 ≤ n → n ≤ 6 → wordsPerLocation n ≤ 156
 words-small n p q =
     let a : 2 * n ≤ 12 = omega arith in
     let b : faceSize n ≤ 13 = omega arith in
     let g : 2 * n * faceSize n ≤ 12 * 13 = mul-le-mul a b in
     omega (arith, words-per-location n p q)
 
-pub place-small : (n l f : ℕ) → 1 ≤ n → n ≤ 6 → l ≤ 64 → f ≤ 12 → (l * wordsPerLocation n ≤ 9984) × (f * faceSize n ≤ 156)
-place-small n l f p q h k =
-    let a : l * wordsPerLocation n ≤ 64 * 156 = mul-le-mul h (words-small n p q) in
-    let e : faceSize n ≤ 13 = omega arith in
-    let b : f * faceSize n ≤ 12 * 13 = mul-le-mul k e in
-    (omega arith, omega arith)
+-- within its location
+pub within-small : (n f : ℕ) → n ≤ 6 → f ≤ 12 → f * faceSize n ≤ 156
+within-small n f q h = let b : faceSize n ≤ 13 = omega arith in let g : f * faceSize n ≤ 12 * 13 = mul-le-mul h b in omega arith
 
--- the largest table: 64 locations of 6 variables
-pub table-most : (m : List ℤ) → Head m → tableSize m ≤ 9984
-unfolding tableSize
-table-most m h = place-small (n# m) (L# m) 0 (h .n-positive) (h .n-small) (h .L-small) (omega arith) .0
+module _ (m : List ℤ) where
+  -- in the table: the faces of a location behind those of the locations before, and a face behind those before it
+  pub faces-begin : (l : ℕ) → l * wordsPerLocation (n# m) ≡ faceAt m l 0
+  unfolding faceAt
+  faces-begin l = omega arith
+
+  pub face-begins : (l f : ℕ) → faceAt m l 0 + f * faceSize (n# m) ≡ faceAt m l f
+  unfolding faceAt
+  face-begins l f = omega arith
+
+  -- the table ends where a location behind the last would begin
+  pub table-end : faceAt m (L# m) 0 ≡ tableSize m
+  unfolding faceAt tableSize
+  table-end = omega arith
+
+  module _ (h : Head m) where
+    pub faces-small : (l : ℕ) → l ≤ 64 → faceAt m l 0 ≤ 9984
+    faces-small l k =
+        let a : l * wordsPerLocation (n# m) ≤ 64 * 156 = mul-le-mul k (words-small (n# m) (h .n-positive) (h .n-small)) in
+        omega (arith, faces-begin l)
+
+    -- the largest table: 64 locations of 6 variables
+    pub table-most : tableSize m ≤ 9984
+    table-most = omega (arith, table-end, faces-small (L# m) (h .L-small))

@@ -7,18 +7,32 @@ ghost use Rattle.integers.specs.Rounding.{maxZ, minZ};
 ghost use Rattle.integers.specs.Words.{word};
 ghost use Rattle.plant.specs.Box as B;
 ghost use Rattle.plant.specs.Box.{hull, boxAt, present, faceWords};
-ghost use Rattle.plant.specs.Tables.{wordsPerLocation, faceSize, tableSize, faceRead};
+ghost use Rattle.plant.specs.Tables.{wordsPerLocation, faceSize, tableSize, faceAt, faceRead};
 ghost use Rattle.records.specs.Whole.{Head};
 ghost use Rattle.tables.specs.Room.{Joinable};
+
+// How many words are held for tables: room for a small table (64 locations of two variables, eight of six), and for the largest
+// (64 locations of six).
+pub const FEW_WORDS: usize = 1280;
+
+pub const MOST_WORDS: usize = 9984;
 
 // Words per location, of 1 to 6 variables.
 const SIZES: [usize; 6] = [6, 20, 42, 72, 110, 156];
 
-pub fn words_per_location(n: usize) -> usize
+fn words_per_location(n: usize) -> usize
     requires { ⌜ (1 ≤ n) × (n ≤ 6) ⌝ }
     ensures { λ r. ⌜ r ≡ wordsPerLocation n ⌝ }
 {
     SIZES[n - 1]
+}
+
+// How many words a face of n variables has: flag, then low and high per variable.
+pub fn face_size(n: usize) -> usize
+    requires { ⌜ n ≤ 6 ⌝ }
+    ensures { λ r. ⌜ r ≡ faceSize n ⌝ }
+{
+    1 + 2 * n
 }
 
 // How many words a table of the model has.
@@ -26,23 +40,39 @@ pub fn table_size(model: &[i32]) -> usize
     requires { ⌜ Head (now model) ⌝ }
     ensures { λ r. ⌜ r ≡ tableSize (now (model .entry)) ⌝ }
 {
-    records::locations(model) * words_per_location(records::variables(model))
+    faces_at(model, records::locations(model))
+}
+
+// Where the faces of location l begin; as many words as they have before location l + 1.
+pub fn faces_at(model: &[i32], l: usize) -> usize
+    requires { ⌜ Head (now model) × (l ≤ 64) ⌝ }
+    ensures { λ r. ⌜ r ≡ faceAt (now (model .entry)) l 0 ⌝ }
+{
+    l * words_per_location(records::variables(model))
+}
+
+// Where face f begins among the words of its location.
+pub fn face_within(n: usize, f: usize) -> usize
+    requires { ⌜ (n ≤ 6) × (f ≤ 12) ⌝ }
+    ensures { λ r. ⌜ r ≡ f * faceSize n ⌝ }
+{
+    f * face_size(n)
 }
 
 // Where face f of location l begins.
-pub fn face_at(n: usize, l: usize, f: usize) -> usize
-    requires { ⌜ (1 ≤ n) × (n ≤ 6) × (l ≤ 64) × (f ≤ 12) ⌝ }
-    ensures { λ r. ⌜ r ≡ l * wordsPerLocation n + f * faceSize n ⌝ }
+pub fn face_at(model: &[i32], l: usize, f: usize) -> usize
+    requires { ⌜ Head (now model) × (l ≤ 64) × (f ≤ 12) ⌝ }
+    ensures { λ r. ⌜ r ≡ faceAt (now (model .entry)) l f ⌝ }
 {
-    l * words_per_location(n) + f * (1 + 2 * n)
+    faces_at(model, l) + face_within(records::variables(model), f)
 }
 
 // The words of the face that begins at a place.
 pub fn face(words: &[i32], at: usize, n: usize) -> &[i32]
-    requires { ⌜ at + faceSize n ≤ length (now words) ⌝ }
+    requires { ⌜ (n ≤ 6) × (at + faceSize n ≤ length (now words)) ⌝ }
     ensures { λ r. ⌜ now r ≡ take (faceSize n) (drop at (now (words .entry))) ⌝ }
 {
-    let end = at + (1 + 2 * n);
+    let end = at + face_size(n);
     &words[at..end]
 }
 

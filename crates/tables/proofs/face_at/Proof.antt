@@ -1,41 +1,34 @@
--- The products are small.
-use mathlib.Core.Path.{ap}
-use Prim.Native.Nat.{ℕ, _+_, _*_}
+-- A face begins behind those before it in its location.
+use mathlib.Core.Path.{_≡_, ap₂, ap, _∙_}
 use native.Mathlib.Omega.{arith}
-use Rattle.tables.proofs.Faces.{place-small}
+use Prim.Native.Nat.{ℕ, _+_, _*_}
+use Rattle.plant.specs.Tables.{faceSize}
+use Rattle.tables.proofs.Faces.{face-begins, faces-small, within-small}
 use borrow.Author.Needs.{needs}
 use Rattle.tables.proofs.face_at.Statement.{statement}
 use Rattle.tables.proofs.face_at.Tie as tie
 
-words-per-location-requires : tie.Need-words-per-location-requires
-words-per-location-requires c κs = search needs
+faces-at-requires : tie.Need-faces-at-requires
+faces-at-requires c κs = search needs
 
-mul-result : tie.Need-mul-result
-mul-result c = let p = c .before .pre in rw (c .words-per-location .ensures) (record { fits = omega (arith, place-small (c .before .args .n) (c .before .args .l) (c .before .args .f) (p .0) (p .1) (p .2) (p .3)) })
+variables-requires : tie.Need-variables-requires
+variables-requires c κs = search needs
 
-mul-result-2 : tie.Need-mul-result-2
-mul-result-2 c = search needs
+face-within-requires : tie.Need-face-within-requires
+face-within-requires c κs = search needs
 
 add-result : tie.Need-add-result
-add-result c = search needs
-
-mul-result-3 : tie.Need-mul-result-3
-mul-result-3 c = let p = c .before .pre in record { fits = omega (arith, place-small (c .before .args .n) (c .before .args .l) (c .before .args .f) (p .0) (p .1) (p .2) (p .3)) }
-
-add-result-2 : tie.Need-add-result-2
-add-result-2 c = let p = c .before .pre in rw (c .words-per-location .ensures) (record { fits = omega (arith, place-small (c .before .args .n) (c .before .args .l) (c .before .args .f) (p .0) (p .1) (p .2) (p .3)) })
+add-result c =
+    let s = c .before .before .before in
+    let n = c .before .variables in
+    record { fits = omega (arith, c .before .before .faces-at .ensures, faces-small (s .args .model .now) (s .pre .0) (s .args .l) (s .pre .1), c .face-within .ensures, within-small (n .result) (s .args .f) (omega (arith, n .ensures, s .pre .0 .n-small)) (s .pre .2)) }
 
 returns : tie.Need-returns
-returns c = ap (λ (k : ℕ). c .before .args .l * k + c .before .args .f * (1 + 2 * c .before .args .n)) (c .words-per-location .ensures)
+returns c =
+    let a = c .before .before .before .args in
+    ap₂ (λ (x y : ℕ). x + y) (c .before .before .faces-at .ensures) (c .face-within .ensures ∙ ap (λ (n : ℕ). a .f * faceSize n) (c .before .variables .ensures)) ∙ face-begins (a .model .now) (a .l) (a .f)
 
 pub face-at-spec : {M : Type 1} → statement M
 face-at-spec =
     tie.close
-    (tie.spec
-    words-per-location-requires
-    mul-result
-    mul-result-2
-    add-result
-    mul-result-3
-    add-result-2
-    returns)
+    (tie.spec faces-at-requires variables-requires face-within-requires add-result returns)

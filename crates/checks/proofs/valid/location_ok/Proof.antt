@@ -10,7 +10,7 @@ use Rattle.checks.proofs.Loops.{all-none, all-more}
 use Rattle.checks.proofs.Faces.{face-asked}
 use native.Mathlib.Omega.{arith}
 use Rattle.plant.proofs.Passed.{Passed, passed}
-use Rattle.passes.proofs.PartWords.{whole, face-place, face-end, face-long}
+use Rattle.passes.proofs.PartWords.{whole, face-end, face-part}
 use Rattle.checks.proofs.valid.location_ok.Statement.{statement}
 use Rattle.checks.proofs.valid.location_ok.Tie as tie
 
@@ -36,14 +36,14 @@ face-at-requires : tie.Need-face-at-requires Inv-loop μ-loop
 face-at-requires c κs =
     let s = c .before .before .before .before in
     let ok : Passed (s .args .model .now) = passed (s .args .model .now) (s .pre .0 .passes) in
-    omega (arith, c .before .before .before .variables .ensures, ok .n-positive, ok .n-small, ok .L-small)
+    (whole (s .args .model .now) (s .pre .0 .passes) .head, omega (arith, ok .L-small), omega (arith, c .before .before .before .variables .ensures, ok .n-small))
 
 face-requires : tie.Need-face-requires Inv-loop μ-loop
 face-requires c κs =
     let s = c .before .before .before .before .before in
     let n = c .before .before .before .before .variables in
     let ok : Passed (s .args .model .now) = passed (s .args .model .now) (s .pre .0 .passes) in
-    face-end (s .args .model .now) (s .args .table .now) (s .args .l) (c .before .before .loop .f) (n .result) (c .face-at .result) (n .ensures) (c .face-at .ensures) ok (s .pre .0 .room) (s .pre .1) (omega (arith, n .ensures))
+    (omega (arith, n .ensures, ok .n-small), face-end (s .args .model .now) ok (s .args .l) (s .pre .1) (s .args .table .now) (s .pre .0 .room) (c .before .before .loop .f) (omega (arith, n .ensures)) (n .ensures) (c .face-at .ensures))
 
 face-ok-requires : tie.Need-face-ok-requires Inv-loop μ-loop
 face-ok-requires c κs =
@@ -54,7 +54,7 @@ face-ok-requires c κs =
       is-face = omega arith;
       n-small = omega (arith, n .ensures, ok .n-small);
       inv-length = omega (arith, ap length (c .before .before .before .before .invariant .ensures), length-invariant (s .args .model .now) (whole (s .args .model .now) (s .pre .0 .passes)) (s .args .l) (s .pre .1), n .ensures);
-      face-length = ap length (c .face .ensures) ∙ face-long (s .args .model .now) (s .args .table .now) (s .args .l) (c .before .before .before .loop .f) (n .result) (c .before .face-at .result) (n .ensures) (c .before .face-at .ensures) ok (s .pre .0 .room) (s .pre .1) (omega (arith, n .ensures));
+      face-length = omega (arith, n .ensures, face-part (s .args .model .now) ok (s .args .l) (s .pre .1) (s .args .table .now) (s .pre .0 .room) (c .before .before .before .loop .f) (omega (arith, n .ensures)) (n .ensures) (c .before .face-at .ensures) (c .face .ensures) .sized);
     }
 
 add-f : tie.Need-add-f Inv-loop μ-loop
@@ -67,11 +67,10 @@ loop-again : tie.Need-loop-again Inv-loop μ-loop
 loop-again c =
     let s = c .before .before .before .before .before .before .before in
     let n = c .before .before .before .before .before .before .variables in
-    let k = c .before .before .before .before .loop in
-    let place = face-place (s .args .model .now) (s .args .table .now) (s .args .l) (k .f) (n .result) (c .before .before .face-at .result) (n .ensures) (c .before .before .face-at .ensures) in (
+    let k = c .before .before .before .before .loop in (
       omega (arith, n .ensures),
       all-more (faceOk (s .args .model .now) (s .args .table .now) (s .args .l)) (k .f) (k .inv .1)
-          (face-asked (s .args .model .now) (s .args .table .now) (s .args .l) (k .f) (n .result) (c .before .before .face-at .result) _ _ (c .face-ok .ensures) (n .ensures) (c .before .before .before .before .before .invariant .ensures) place (c .before .face .ensures)),
+          (face-asked (s .args .model .now) (s .args .table .now) (s .args .l) (k .f) (n .result) (c .before .before .face-at .result) _ _ (c .face-ok .ensures) (n .ensures) (c .before .before .before .before .before .invariant .ensures) (c .before .before .face-at .ensures) (c .before .face .ensures)),
     )
 
 returns : tie.Need-returns Inv-loop μ-loop

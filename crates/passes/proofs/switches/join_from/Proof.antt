@@ -4,11 +4,12 @@ use lib.IntN.{ℤ}
 use mathlib.Core.Path.{_≡_, refl, ap, _∙_}
 use native.Mathlib.Omega.{arith}
 use Prim.Native.Nat.{ℕ, _+_, _*_}
-use Rattle.plant.specs.Model.{invariant, source, wallVariable, sourceSide}
-use Rattle.plant.specs.Tables.{sourceFace}
-use Rattle.passes.specs.Parts.{partWords}
+use Rattle.plant.specs.Model.{n#, invariant, source, wallVariable, sourceSide}
+use Rattle.plant.specs.Tables.{faceAt, partOf, sourceFace}
+use Rattle.passes.specs.Parts.{IsPart}
 use Rattle.records.specs.Whole.{Whole, Placed}
-use Rattle.passes.proofs.Reading.{whole, placed, source-place, source-at, table-within, table-small, switch-join, step-joined}
+use Rattle.passes.proofs.PartWords.{face-end}
+use Rattle.passes.proofs.Reading.{model-passed, whole, placed, source-face, face-is-part, switch-join, step-joined}
 use borrow.Author.Needs.{needs}
 use Rattle.passes.proofs.switches.join_from.Statement.{statement}
 use Rattle.passes.proofs.switches.join_from.Tie as tie
@@ -20,8 +21,19 @@ placed-at : (c : tie.Start) → Placed (c .args .model .now) (c .args .e)
 placed-at c = placed (c .args .model .now) (c .args .table .now) (c .pre .0) (c .args .e) (c .pre .1)
 
 -- the source's face, by what was read of the switch
-from-is : (m t : List ℤ) (e : ℕ) {l d s : ℕ} → l ≡ source m e → d ≡ wallVariable m e → s ≡ sourceSide m e → partWords m t l (2 * d + s + 1) ≡ partWords m t (source m e) (sourceFace m e + 1)
-from-is m t e a b c = rw (a, b, c)
+source-at : (m : List ℤ) (e : ℕ) {l d s : ℕ} → l ≡ source m e → d ≡ wallVariable m e → s ≡ sourceSide m e → faceAt m l (2 * d + s) ≡ faceAt m (source m e) (sourceFace m e)
+source-at m e a b c = rw (a, b, c) refl
+
+at-is : (c : tie.After-face-at) → let a = c .before .before .before .before .before .args in c .face-at .result ≡ faceAt (a .model .now) (source (a .model .now) (a .e)) (sourceFace (a .model .now) (a .e))
+at-is c = let a = c .before .before .before .before .before .args in c .face-at .ensures ∙ source-at (a .model .now) (a .e) (c .before .source .ensures) (c .before .before .before .wall-variable .ensures) (c .before .before .source-side .ensures)
+
+from-part : (c : tie.After-face) → let a = c .before .before .before .before .before .before .args in IsPart (n# (a .model .now)) (c .face .result .now) (partOf (a .model .now) (a .table .now) (source (a .model .now) (a .e)) (sourceFace (a .model .now) (a .e) + 1))
+from-part c =
+    let s = c .before .before .before .before .before .before in
+    let m = s .args .model .now in
+    let t = s .args .table .now in
+    let q = source-face m t (s .pre .0) (s .args .e) (s .pre .1) in
+    face-is-part m t (s .pre .0) (source m (s .args .e)) (sourceFace m (s .args .e)) (q .0) (q .1) (c .before .before .before .before .before .variables .ensures) (at-is (c .before)) (c .face .ensures)
 
 variables-requires : tie.Need-variables-requires
 variables-requires c κs = whole-at c .head
@@ -30,7 +42,7 @@ wall-variable-requires : tie.Need-wall-variable-requires
 wall-variable-requires c κs = placed-at (c .before) .numbered
 
 mul-f : tie.Need-mul-f
-mul-f c = let s = c .before .before in let p = placed-at s in omega (arith, c .wall-variable .ensures, p .variable-is, whole-at s .head .n-small)
+mul-f c = let s = c .before .before in omega (arith, c .wall-variable .ensures, placed-at s .variable-is, whole-at s .head .n-small)
 
 source-side-requires : tie.Need-source-side-requires
 source-side-requires c κs = placed-at (c .before .before) .numbered
@@ -44,78 +56,52 @@ add-f c =
 source-requires : tie.Need-source-requires
 source-requires c κs = placed-at (c .before .before .before) .numbered
 
-mul-part-at : tie.Need-mul-part-at
-mul-part-at c =
+face-at-requires : tie.Need-face-at-requires
+face-at-requires c κs =
     let s = c .before .before .before .before in
-    let a = s .args in
-    let m = a .model .now in
-    let t = a .table .now in
-    let ok = s .pre .0 in
-    let l = s .pre .1 in
-    let q = source-place m t ok (a .e) l (c .source .ensures) (c .before .before .wall-variable .ensures) (c .before .source-side .ensures) in
-    omega (arith, source-at m t ok (c .source .result) (s .pre .3), table-within m t ok (c .source .result) (omega (arith, q .0)) refl, table-small m t ok)
+    let p = placed-at s in
+    let h = whole-at s .head in
+    (h, omega (arith, c .source .ensures, p .source-is, h .L-small), omega (arith, c .before .before .wall-variable .ensures, c .before .source-side .ensures, p .variable-is, p .source-side, h .n-small))
 
-add-part-at : tie.Need-add-part-at
-add-part-at c =
-    let s = c .before .before .before .before in
-    let a = s .args in
-    let m = a .model .now in
-    let t = a .table .now in
-    let ok = s .pre .0 in
-    let l = s .pre .1 in
-    omega (arith, source-place m t ok (a .e) l (c .source .ensures) (c .before .before .wall-variable .ensures) (c .before .source-side .ensures), whole-at s .head .n-small)
-
-part-at-requires : tie.Need-part-at-requires
-part-at-requires c κs =
-    let s = c .before .before .before .before in
-    let a = s .args in
-    let m = a .model .now in
-    let t = a .table .now in
-    let ok = s .pre .0 in
-    let l = s .pre .1 in
-    let q = source-place m t ok (a .e) l (c .source .ensures) (c .before .before .wall-variable .ensures) (c .before .source-side .ensures) in
-    (ok .ready, q .0, source-at m t ok (c .source .result) (s .pre .3), q .1)
+face-requires : tie.Need-face-requires
+face-requires c κs =
+    let s = c .before .before .before .before .before in
+    let m = s .args .model .now in
+    let t = s .args .table .now in
+    let q = source-face m t (s .pre .0) (s .args .e) (s .pre .1) in
+    (omega (arith, c .before .before .before .before .variables .ensures, whole-at s .head .n-small), face-end m (model-passed m t (s .pre .0)) _ (q .0) t (s .pre .0 .ready .room) _ (q .1) (c .before .before .before .before .variables .ensures) (at-is c))
 
 target-requires : tie.Need-target-requires
-target-requires c κs = placed-at (c .before .before .before .before .before) .numbered
+target-requires c κs = placed-at (c .before .before .before .before .before .before) .numbered
 
 invariant-requires : tie.Need-invariant-requires
 invariant-requires c κs =
-    let s = c .before .before .before .before .before .before in
+    let s = c .before .before .before .before .before .before .before in
     (whole-at s, omega (arith, c .target .ensures, placed-at s .target-is))
 
 reset-mask-requires : tie.Need-reset-mask-requires
-reset-mask-requires c κs = placed-at (c .before .before .before .before .before .before .before) .numbered
+reset-mask-requires c κs = placed-at (c .before .before .before .before .before .before .before .before) .numbered
 
 guard-requires : tie.Need-guard-requires
-guard-requires c κs = let s = c .before .before .before .before .before .before .before .before in let l = s .pre .1 in (whole-at s, l)
+guard-requires c κs = let s = c .before .before .before .before .before .before .before .before .before in let l = s .pre .1 in (whole-at s, l)
 
 reset-requires : tie.Need-reset-requires
-reset-requires c κs = let s = c .before .before .before .before .before .before .before .before .before in let l = s .pre .1 in (whole-at s, l)
+reset-requires c κs = let s = c .before .before .before .before .before .before .before .before .before .before in let l = s .pre .1 in (whole-at s, l)
 
 join-switch-requires : tie.Need-join-switch-requires
 join-switch-requires c κs =
-    let s = c .before .before .before .before .before .before .before .before .before .before .before in
-    let a = s .args in
-    let m = a .model .now in
-    let t = a .table .now in
-    let ok = s .pre .0 in
-    let l = s .pre .1 in
-    let from : c .before .before .before .before .before .before .part-at .result .now ≡ partWords m t (source m (a .e)) (sourceFace m (a .e) + 1) = c .before .before .before .before .before .before .part-at .ensures ∙ from-is m t (a .e) (c .before .before .before .before .before .before .before .source .ensures) (c .before .before .before .before .before .before .before .before .before .wall-variable .ensures) (c .before .before .before .before .before .before .before .before .source-side .ensures) in
-    switch-join m t ok (a .e) (c .before .before .before .before .before .before .before .before .before .before .variables .ensures) (c .before .before .guard .ensures) (c .before .reset .ensures) (c .before .before .before .before .invariant .ensures ∙ ap (invariant m) (c .before .before .before .before .before .target .ensures)) from l (s .pre .2)
+    let s = c .before .before .before .before .before .before .before .before .before .before .before .before in
+    let m = s .args .model .now in
+    switch-join m (s .args .table .now) (s .pre .0) (s .args .e) (c .before .before .before .before .before .before .before .before .before .before .before .variables .ensures) (c .before .before .guard .ensures) (c .before .reset .ensures) (c .before .before .before .before .invariant .ensures ∙ ap (invariant m) (c .before .before .before .before .before .target .ensures)) (from-part (c .before .before .before .before .before .before)) (s .pre .1) (s .pre .2)
 
 same-length : tie.Need-same-length
 same-length c = search needs
 
 returns : tie.Need-returns
 returns c =
-    let s = c .before .before .before .before .before .before .before .before .before .before .before .before .before in
-    let a = s .args in
-    let m = a .model .now in
-    let t = a .table .now in
-    let ok = s .pre .0 in
-    let from : c .before .before .before .before .before .before .before .before .part-at .result .now ≡ partWords m t (source m (a .e)) (sourceFace m (a .e) + 1) = c .before .before .before .before .before .before .before .before .part-at .ensures ∙ from-is m t (a .e) (c .before .before .before .before .before .before .before .before .before .source .ensures) (c .before .before .before .before .before .before .before .before .before .before .before .wall-variable .ensures) (c .before .before .before .before .before .before .before .before .before .before .source-side .ensures) in
-    step-joined m t ok (a .e) (c .before .before .before .before .before .before .before .before .before .before .before .before .variables .ensures) (c .before .before .before .before .guard .ensures) (c .before .before .before .reset .ensures) (c .before .before .before .before .before .before .invariant .ensures ∙ ap (invariant m) (c .before .before .before .before .before .before .before .target .ensures)) from (c .before .before .before .before .before .reset-mask .ensures) (a .face .now) (c .before .join-switch .ensures)
+    let s = c .before .before .before .before .before .before .before .before .before .before .before .before .before .before in
+    let m = s .args .model .now in
+    step-joined m (s .args .table .now) (s .pre .0) (s .args .e) (c .before .before .before .before .before .before .before .before .before .before .before .before .before .variables .ensures) (c .before .before .before .before .guard .ensures) (c .before .before .before .reset .ensures) (c .before .before .before .before .before .before .invariant .ensures ∙ ap (invariant m) (c .before .before .before .before .before .before .before .target .ensures)) (from-part (c .before .before .before .before .before .before .before .before)) (c .before .before .before .before .before .reset-mask .ensures) (s .args .face .now) (c .before .join-switch .ensures)
 
 pub join-from-spec : {M : Type 1} → statement M
 join-from-spec =
@@ -127,9 +113,8 @@ join-from-spec =
     source-side-requires
     add-f
     source-requires
-    mul-part-at
-    add-part-at
-    part-at-requires
+    face-at-requires
+    face-requires
     target-requires
     invariant-requires
     reset-mask-requires

@@ -1,22 +1,24 @@
--- At part p the location's faces are joined with the wall steps from the parts below p; part 0 is joined before the loop.
+-- At face f the location's faces are joined with the wall steps from the start part, before the loop, and from the faces below f.
 use mathlib.Core.Path.{_≡_, ap, _∙_}
 use native.Mathlib.Omega.{arith}
-use Prim.Native.Nat.{_+_, _-_, _*_, _≤_}
+use Prim.Native.Nat.{_+_, _-_, _*_, _≤_, _<_}
 use lib.ListN.{length}
 use Rattle.plant.specs.Model.{n#}
-use Rattle.plant.specs.Tables.{faceOf, wallFrom}
+use Rattle.plant.specs.Tables.{faceOf, partOf, wallFrom}
 use Rattle.plant.specs.Box.{joins}
 use Rattle.records.specs.Whole.{Whole}
 use Rattle.passes.specs.Joining.{locationBy}
-use Rattle.passes.proofs.Reading.{LocationRead, whole, joinedTo, joined-none, joined-all, joined-length, part-join, joined-more}
+use Rattle.passes.specs.Parts.{IsPart}
+use Rattle.passes.proofs.PartWords.{face-end}
+use Rattle.passes.proofs.Reading.{LocationRead, model-passed, whole, start-is-part, face-is-part, joinedTo, joined-none, joined-all, joined-length, part-join, joined-more}
 use Rattle.passes.proofs.walls.join_parts.Statement.{statement}
 use Rattle.passes.proofs.walls.join_parts.Tie as tie
 
 abbrev Inv-loop : tie.InvT-loop
-Inv-loop model table l faces block₀ n inv rate count p₀ block p = (p ≤ 2 * n# model + 1) × (block ≡ locationBy (n# model) (λ f. joins (n# model) p (wallFrom model table l f) (faceOf model table l f)))
+Inv-loop model table l block₀ n inv rate faces f₀ block f = (f ≤ 2 * n# model) × (block ≡ locationBy (n# model) (λ g. joins (n# model) (f + 1) (wallFrom model table l g) (faceOf model table l g)))
 
 abbrev μ-loop : tie.MeasureT-loop
-μ-loop model table l faces block₀ n inv rate count p₀ block p = count - p
+μ-loop model table l block₀ n inv rate faces f₀ block f = faces - f
 
 whole-at : (c : tie.Start Inv-loop μ-loop) → Whole (c .args .model .now)
 whole-at c = whole (c .args .model .now) (c .args .table .now) (c .pre .0)
@@ -34,67 +36,80 @@ rate-requires c κs = let s = c .before .before in let u = s .pre .1 in (whole-a
 read : (c : tie.After-rate Inv-loop μ-loop) → let a = c .before .before .before .args in LocationRead (a .model .now) (a .l) (c .before .before .variables .result) (c .before .invariant .result .now) (c .rate .result .now)
 read c = record { n-is = c .before .before .variables .ensures; inv-is = c .before .invariant .ensures; rate-is = c .rate .ensures }
 
-part-at-requires : tie.Need-part-at-requires Inv-loop μ-loop
-part-at-requires c κs = let s = c .before .before .before in (s .pre .0 .ready, s .pre .1, s .pre .2, omega arith)
+start-part-requires : tie.Need-start-part-requires Inv-loop μ-loop
+start-part-requires c κs = let s = c .before .before .before in (s .pre .0 .ready .passes, s .pre .1)
 
 join-part-requires : tie.Need-join-part-requires Inv-loop μ-loop
 join-part-requires c κs =
     let s = c .before .before .before .before .before in
     let a = s .args in
-    part-join (a .model .now) (a .table .now) (s .pre .0) (a .l) (s .pre .1) (read (c .before .before)) 0 (c .before .part-at .ensures) (joined-none (a .model .now) (a .table .now) (s .pre .0) (a .l) (s .pre .1) (s .pre .3)) (omega arith)
+    part-join (a .model .now) (a .table .now) (s .pre .0) (a .l) (s .pre .1) (read (c .before .before)) 0 (start-is-part (a .model .now) (a .table .now) (s .pre .0) (a .l) (c .before .start-part .ensures)) (joined-none (a .model .now) (a .table .now) (s .pre .0) (a .l) (s .pre .1) (s .pre .2)) (omega arith)
 
-mul-count : tie.Need-mul-count Inv-loop μ-loop
-mul-count c = omega (arith, c .before .before .before .before .before .before .variables .ensures, whole-at (c .before .before .before .before .before .before .before) .head .n-small)
-
-add-count : tie.Need-add-count Inv-loop μ-loop
-add-count c = omega (arith, c .before .before .before .before .before .before .variables .ensures, whole-at (c .before .before .before .before .before .before .before) .head .n-small)
+mul-faces : tie.Need-mul-faces Inv-loop μ-loop
+mul-faces c = omega (arith, c .before .before .before .before .before .before .variables .ensures, whole-at (c .before .before .before .before .before .before .before) .head .n-small)
 
 loop-holds : tie.Need-loop-holds Inv-loop μ-loop
 loop-holds c =
     let s = c .before .before .before .before .before .before .before in
     let a = s .args in
-    (omega arith, joined-more (a .model .now) (a .table .now) (s .pre .0) (a .l) (s .pre .1) (read (c .before .before .before .before)) 0 (c .before .before .before .part-at .ensures) (joined-none (a .model .now) (a .table .now) (s .pre .0) (a .l) (s .pre .1) (s .pre .3)) (c .before .join-part .ensures))
+    (omega arith, joined-more (a .model .now) (a .table .now) (s .pre .0) (a .l) (s .pre .1) (read (c .before .before .before .before)) 0 (start-is-part (a .model .now) (a .table .now) (s .pre .0) (a .l) (c .before .before .before .start-part .ensures)) (joined-none (a .model .now) (a .table .now) (s .pre .0) (a .l) (s .pre .1) (s .pre .2)) (c .before .join-part .ensures))
 
--- part p is a part of the location
-part-is : (c : tie.In-loop Inv-loop μ-loop) → c .before .loop .p ≤ 2 * n# (c .before .before .before .before .before .before .before .before .before .args .model .now)
-part-is c = omega (arith, c .loop-test .taken, c .before .before .before .before .before .before .before .before .variables .ensures)
+-- face f is a face of the location
+is-face : (c : tie.In-loop Inv-loop μ-loop) → c .before .loop .f < 2 * n# (c .before .before .before .before .before .before .before .before .before .args .model .now)
+is-face c = omega (arith, c .loop-test .taken, c .before .before .before .before .before .before .before .before .variables .ensures)
 
-part-at-requires-2 : tie.Need-part-at-requires-2 Inv-loop μ-loop
-part-at-requires-2 c κs = let s = c .before .before .before .before .before .before .before .before .before in (s .pre .0 .ready, s .pre .1, s .pre .2, part-is c)
+face-at-requires : tie.Need-face-at-requires Inv-loop μ-loop
+face-at-requires c κs =
+    let s = c .before .before .before .before .before .before .before .before .before in
+    let h = whole-at s .head in
+    (h, omega (arith, s .pre .1, h .L-small), omega (arith, is-face c, h .n-small))
+
+face-requires : tie.Need-face-requires Inv-loop μ-loop
+face-requires c κs =
+    let s = c .before .before .before .before .before .before .before .before .before .before in
+    let m = s .args .model .now in
+    let t = s .args .table .now in
+    let n = c .before .before .before .before .before .before .before .before .before .variables in
+    (omega (arith, n .ensures, whole-at s .head .n-small), face-end m (model-passed m t (s .pre .0)) (s .args .l) (s .pre .1) t (s .pre .0 .ready .room) (c .before .before .loop .f) (is-face (c .before)) (n .ensures) (c .face-at .ensures))
+
+face-is : (c : tie.After-face Inv-loop μ-loop) → let a = c .before .before .before .before .before .before .before .before .before .before .before .args in IsPart (n# (a .model .now)) (c .face .result .now) (partOf (a .model .now) (a .table .now) (a .l) (c .before .before .before .loop .f + 1))
+face-is c =
+    let s = c .before .before .before .before .before .before .before .before .before .before .before in
+    face-is-part (s .args .model .now) (s .args .table .now) (s .pre .0) (s .args .l) (c .before .before .before .loop .f) (s .pre .1) (is-face (c .before .before)) (c .before .before .before .before .before .before .before .before .before .before .variables .ensures) (c .before .face-at .ensures) (c .face .ensures)
 
 join-part-requires-2 : tie.Need-join-part-requires-2 Inv-loop μ-loop
 join-part-requires-2 c κs =
-    let s = c .before .before .before .before .before .before .before .before .before .before .before in
+    let s = c .before .before .before .before .before .before .before .before .before .before .before .before in
     let a = s .args in
-    let i = c .before .before .before .loop in
-    part-join (a .model .now) (a .table .now) (s .pre .0) (a .l) (s .pre .1) (read (c .before .before .before .before .before .before .before .before)) (i .p) (c .before .part-at2 .ensures) (i .inv .1) (part-is (c .before .before))
+    let i = c .before .before .before .before .loop in
+    part-join (a .model .now) (a .table .now) (s .pre .0) (a .l) (s .pre .1) (read (c .before .before .before .before .before .before .before .before .before)) (i .f + 1) (face-is (c .before)) (i .inv .1) (omega (arith, is-face (c .before .before .before)))
 
-add-p : tie.Need-add-p Inv-loop μ-loop
-add-p c = omega (arith, part-is (c .before .before .before .before), whole-at (c .before .before .before .before .before .before .before .before .before .before .before .before .before) .head .n-small)
+add-f : tie.Need-add-f Inv-loop μ-loop
+add-f c = omega (arith, is-face (c .before .before .before .before .before), whole-at (c .before .before .before .before .before .before .before .before .before .before .before .before .before .before) .head .n-small)
 
 loop-less : tie.Need-loop-less Inv-loop μ-loop
-loop-less c = omega (arith, c .before .before .before .before .loop-test .taken)
+loop-less c = omega (arith, c .before .before .before .before .before .loop-test .taken)
 
 loop-again : tie.Need-loop-again Inv-loop μ-loop
 loop-again c =
-    let s = c .before .before .before .before .before .before .before .before .before .before .before .before .before in
+    let s = c .before .before .before .before .before .before .before .before .before .before .before .before .before .before in
     let a = s .args in
-    let i = c .before .before .before .before .before .loop in
-    (omega (arith, part-is (c .before .before .before .before)), joined-more (a .model .now) (a .table .now) (s .pre .0) (a .l) (s .pre .1) (read (c .before .before .before .before .before .before .before .before .before .before)) (i .p) (c .before .before .before .part-at2 .ensures) (i .inv .1) (c .before .join-part2 .ensures))
+    let i = c .before .before .before .before .before .before .loop in
+    (omega (arith, is-face (c .before .before .before .before .before)), joined-more (a .model .now) (a .table .now) (s .pre .0) (a .l) (s .pre .1) (read (c .before .before .before .before .before .before .before .before .before .before .before)) (i .f + 1) (face-is (c .before .before .before)) (i .inv .1) (c .before .join-part2 .ensures))
 
 same-length : tie.Need-same-length Inv-loop μ-loop
 same-length c =
     let s = c .before .before .before .before .before .before .before .before .before in
     let a = s .args in
     let k = joined-length (a .model .now) (a .table .now) (s .pre .0) (a .l) (s .pre .1) in
-    omega (arith, ap length (c .before .loop .inv .1), k (c .before .loop .p), ap length (joined-none (a .model .now) (a .table .now) (s .pre .0) (a .l) (s .pre .1) (s .pre .3)), k 0)
+    omega (arith, ap length (c .before .loop .inv .1), k (c .before .loop .f + 1), ap length (joined-none (a .model .now) (a .table .now) (s .pre .0) (a .l) (s .pre .1) (s .pre .2)), k 0)
 
 returns : tie.Need-returns Inv-loop μ-loop
 returns c =
     let s = c .before .before .before .before .before .before .before .before .before in
     let a = s .args in
     let i = c .before .loop in
-    let e : i .p ≡ 2 * n# (a .model .now) + 1 = omega (arith, i .inv .0, c .loop-test .left, c .before .before .before .before .before .before .before .before .variables .ensures) in
+    let e : i .f + 1 ≡ 2 * n# (a .model .now) + 1 = omega (arith, i .inv .0, c .loop-test .left, c .before .before .before .before .before .before .before .before .variables .ensures) in
     i .inv .1 ∙ ap (joinedTo (a .model .now) (a .table .now) (s .pre .0) (a .l) (s .pre .1)) e ∙ joined-all (a .model .now) (a .table .now) (s .pre .0) (a .l) (s .pre .1)
 
 pub join-parts-spec : {M : Type 1} → statement M
@@ -106,14 +121,14 @@ join-parts-spec =
     variables-requires
     invariant-requires
     rate-requires
-    part-at-requires
+    start-part-requires
     join-part-requires
-    mul-count
-    add-count
+    mul-faces
     loop-holds
-    part-at-requires-2
+    face-at-requires
+    face-requires
     join-part-requires-2
-    add-p
+    add-f
     loop-less
     loop-again
     same-length
