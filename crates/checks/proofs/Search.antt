@@ -5,7 +5,7 @@ use mathlib.Core.Bool.{Bool, true, false, cond, or-false}
 use mathlib.Core.List.{List}
 use Prim.Native.Nat.{ℕ, zero, suc, _+_, _*_, _-_, _<_, _≤_}
 use native.Mathlib.Omega.{arith}
-use lib.Dec.{eqb}
+use lib.Dec.{eqb, eqb→eq}
 use lib.IntN.{ℤ, pos}
 use Rattle.integers.specs.Words.{word, eqZ}
 use Rattle.integers.specs.Counted.{anyBelow}
@@ -79,6 +79,25 @@ module _ (m t : List ℤ) where
   up-to-last l p (suc k) =
       by-test (λ (b : ℕ). boxesTouched l p b ≡ boxesTouched l p (suc k)) (eqb (forbiddenLocation m k) l) (λ _. refl)
       (λ u. up-to-last l p k ∙ sym (box-less l p k (elsewhere l k (partOf m t l p) (is-false u))))
+
+  -- so that no part of a location without boxes touches one
+  no-boxes : (l : ℕ) → lastBox m l (B# m) ≡ 0 → (k : ℕ) → partsTouch l k ≡ false
+  unfolding partsTouch anyBelow
+  no-boxes l e zero = refl
+  no-boxes l e (suc k) = rw (no-boxes l e k, sym (up-to-last l k (B# m)) ∙ ap (boxesTouched l k) e ∙ no-box l k) refl
+
+  -- the parts that are asked: all, or none in a location without boxes
+  module _ (l : ℕ) {n last parts : ℕ} (n-is : n ≡ n# m) (last-is : last ≡ lastBox m l (B# m)) (parts-is : parts ≡ cond (eqb last 0) 0 (2 * n + 1)) where
+    pub parts-few : parts ≤ suc (2 * n# m)
+    parts-few = subst (λ (k : ℕ). k ≤ suc (2 * n# m)) (sym parts-is) (by-test (λ (k : ℕ). k ≤ suc (2 * n# m)) (eqb last 0) (λ _. omega arith) (λ _. omega arith))
+
+    pub all-asked : (p : ℕ) → p ≤ parts → parts ≤ p → partsTouch l p ≡ false → partsTouch l (suc (2 * n# m)) ≡ false
+    all-asked p u v e = subst (λ (k : ℕ). p ≤ k → k ≤ p → partsTouch l (suc (2 * n# m)) ≡ false) (sym parts-is) by-last u v
+      where
+        by-last : p ≤ cond (eqb last 0) 0 (2 * n + 1) → cond (eqb last 0) 0 (2 * n + 1) ≤ p → partsTouch l (suc (2 * n# m)) ≡ false
+        by-last = by-test (λ (k : ℕ). p ≤ k → k ≤ p → partsTouch l (suc (2 * n# m)) ≡ false) (eqb last 0)
+            (λ w _ _. no-boxes l (sym last-is ∙ eqb→eq last 0 w) (suc (2 * n# m)))
+            (λ _ x y. let all : p ≡ suc (2 * n# m) = omega arith in subst (λ (k : ℕ). partsTouch l k ≡ false) all e)
 
   -- of the boxes of location l, box b - 1 and those before it are left to be asked of part p, or none at 0; while one is left,
   -- the part is there, and bounds is its box

@@ -1,5 +1,6 @@
 // What is asked of a table as a whole, question 32 and touching, and the model's ceiling on passes (document 01, "Pass,
-// ceiling", "Checker" and "Analysis").
+// ceiling", "Checker" and "Analysis"). These functions serve the crates above and are no calls of outsiders: what they are
+// lent has passed the questions before.
 mod ceiling;
 mod touch;
 mod valid;

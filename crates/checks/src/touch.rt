@@ -1,14 +1,15 @@
 // Whether a part of a location touches a forbidden box of it.
 ghost use mathlib.Core.Path.{_≡_};
 ghost use mathlib.Core.Bool.{true, cond};
-ghost use Prim.Native.Nat.{_*_, _<_, _≤_};
+ghost use Prim.Native.Nat.{_+_, _*_, _<_, _≤_};
+ghost use lib.Dec.{eqb};
 ghost use lib.IntN.{pos};
 ghost use lib.ListN.{length};
 ghost use Rattle.integers.specs.Words.{word, eqZ};
 ghost use Rattle.plant.specs.Model.{n#, L#, B#};
 ghost use Rattle.plant.specs.Questions.{modelQuestions};
 ghost use Rattle.plant.specs.Tables as T;
-ghost use Rattle.plant.specs.Tables.{tableOk, partOf};
+ghost use Rattle.plant.specs.Tables.{tableOk, faceAt, partOf};
 ghost use Rattle.passes.specs.Ready.{TableReady};
 ghost use Rattle.passes.specs.Parts.{IsPart};
 ghost use Rattle.checks.specs.Links.{Linked};
@@ -29,17 +30,25 @@ fn link(model: &[i32], last: &mut [usize; 64], before: &mut [usize; 64])
     }
 }
 
-// The words of part p of location l: part 0 is its start part, part f + 1 its face f.
-fn part_at<'a>(model: &'a [i32], table: &'a [i32], l: usize, p: usize) -> &'a [i32]
-    requires { ⌜ TableReady (now model) (now table) × (l < L# (now model)) × (p ≤ 2 * n# (now model)) ⌝ }
+// The words of part p of location l, whose faces begin at a place of the table: part 0 is its start part, part f + 1 its face f.
+fn part_at<'a>(model: &'a [i32], table: &'a [i32], l: usize, at: usize, p: usize) -> &'a [i32]
+    requires { ⌜ TableReady (now model) (now table) × (l < L# (now model)) × (at ≡ faceAt (now model) l 0) × (p ≤ 2 * n# (now model)) ⌝ }
     ensures { λ r. ⌜ IsPart (n# (now (model .entry))) (now r) (partOf (now (model .entry)) (now (table .entry)) l p) ⌝ }
 {
     if p == 0 {
         passes::start_part(model, l)
     } else {
-        let at = tables::face_at(model, l, p - 1);
-        tables::face(table, at, records::variables(model))
+        let n = records::variables(model);
+        tables::face(table, at + tables::face_within(n, p - 1), n)
     }
+}
+
+// How many parts of a location are asked: none where it has no forbidden box.
+fn parts_asked(n: usize, last: usize) -> usize
+    requires { ⌜ n ≤ 6 ⌝ }
+    ensures { λ r. ⌜ r ≡ cond (eqb last 0) 0 (2 * n + 1) ⌝ }
+{
+    if last == 0 { 0 } else { 2 * n + 1 }
 }
 
 // The first box to ask of a part: none of an absent one.
@@ -57,7 +66,6 @@ pub fn touching<'a>(model: &'a [i32], table: &'a [i32]) -> bool
 {
     let locations = records::locations(model);
     let n = records::variables(model);
-    let parts = 2 * n + 1;
     let mut last = [0usize; 64];
     let mut before = [0usize; 64];
     link(model, &mut last, &mut before);
@@ -66,9 +74,11 @@ pub fn touching<'a>(model: &'a [i32], table: &'a [i32]) -> bool
     'search: while l < locations {
         let inv = records::invariant(model, l);
         let rate = records::rate(model, l);
+        let at = tables::faces_at(model, l);
+        let parts = parts_asked(n, last[l]);
         let mut p: usize = 0;
         'parts: while p < parts {
-            let part = part_at(model, table, l, p);
+            let part = part_at(model, table, l, at, p);
             let bounds = records::box_at(part, 1, n);
             let mut b = first_asked(part, last[l]);
             'boxes: while 0 < b {

@@ -25,6 +25,7 @@ use Rattle.plant.proofs.Tables.{take-behind, filled, face-inside, OkBox, ok-val
 use Rattle.records.specs.Whole.{Whole}
 use Rattle.records.proofs.Positions.{location-within, length-invariant, length-rate, length-startBox}
 use Rattle.model.proofs.Passing.{whole-passed}
+use Rattle.tables.proofs.Faces.{face-begins}
 use Rattle.steps.proofs.Faces.{in-levels}
 use Rattle.passes.specs.Parts.{IsPart}
 use Rattle.passes.specs.Joining.{PartOk}
@@ -78,6 +79,10 @@ module _ (n : ℕ) (s : List ℤ) (at : ℕ) where
   pub face-there : faceRead n (take (faceSize n) (drop at s)) 0 ≡ faceRead n s at
   unfolding faceRead
   face-there = ap₂ (λ (z : ℤ) (b : List ℤ). cond (eqZ z (pos 1)) (present b) absent) flag-there box-there
+
+-- where a face begins, by what code has: where those of its location begin, and its place among them
+pub face-place : (m : List ℤ) (l f : ℕ) {n at within : ℕ} → n ≡ n# m → at ≡ faceAt m l 0 → within ≡ f * faceSize n → at + within ≡ faceAt m l f
+face-place m l f e a h = ap₂ (λ (x y : ℕ). x + y) a (h ∙ ap (λ (n : ℕ). f * faceSize n) e) ∙ face-begins m l f
 
 -- ---- the words of a part
 

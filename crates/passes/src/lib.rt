@@ -1,4 +1,5 @@
-// The pass over a table (document 01, "Pass, ceiling"), and the parts from which it steps.
+// The pass over a table (document 01, "Pass, ceiling"), and the parts from which it steps. Both functions serve the crates
+// above and are no calls of outsiders: model and table have passed their questions.
 ghost use mathlib.Core.Path.{_≡_};
 ghost use lib.ListN.{length};
 ghost use Rattle.plant.specs.Tables as T;

@@ -4,7 +4,7 @@ ghost use Prim.Native.Nat.{_<_};
 ghost use lib.ListN.{length};
 ghost use Rattle.plant.specs.Model.{n#, L#};
 ghost use Rattle.plant.specs.Steps.{wallStep};
-ghost use Rattle.plant.specs.Tables.{wordsPerLocation, tableSize, faceRead, faceOf, tableBy, wallsJoined};
+ghost use Rattle.plant.specs.Tables.{wordsPerLocation, tableSize, faceAt, faceRead, faceOf, tableBy, wallsJoined};
 ghost use Rattle.passes.specs.Checked.{Checked};
 ghost use Rattle.passes.specs.Joining.{WallJoin, WallsJoin, PartJoin, joinedWith, joinedAll, wallsOf, wallsFrom, locationBy};
 use super::parts;
@@ -63,34 +63,33 @@ fn join_part(n: usize, inv: &[i32], rate: &[i32], part: &[i32], block: &mut [i32
     }
 }
 
-// Joins to the faces of location l the wall steps from all parts of the location: its start box, and its faces. The start box
-// comes before the loop, so that the compiler keeps join_part as one function.
-fn join_parts<'a>(model: &'a [i32], table: &'a [i32], l: usize, block: &mut [i32])
-    requires { ⌜ Checked (now model) (now table) × (l < L# (now model)) × (now block ≡ locationBy (n# (now model)) (faceOf (now model) (now table) l)) ⌝ }
+// Joins to the faces of location l, which begin at a place of the table, the wall steps from all parts of the location: its
+// start box, and its faces. The start box comes before the loop, so that the compiler keeps join_part as one function.
+fn join_parts<'a>(model: &'a [i32], table: &'a [i32], l: usize, at: usize, block: &mut [i32])
+    requires { ⌜ Checked (now model) (now table) × (l < L# (now model)) × (at ≡ faceAt (now model) l 0) × (now block ≡ locationBy (n# (now model)) (faceOf (now model) (now table) l)) ⌝ }
     ensures { λ _. ⌜ now (block .exit) ≡ locationBy (n# (now (model .entry))) (wallsJoined (now (model .entry)) (now (table .entry)) l) ⌝ }
 {
     let n = records::variables(model);
     let inv = records::invariant(model, l);
     let rate = records::rate(model, l);
     join_part(n, inv, rate, parts::start_part(model, l), block);
-    let faces = 2 * n;
+    let count = 2 * n;
     let mut f = 0;
-    while f < faces {
-        let face = tables::face(table, tables::face_at(model, l, f), n);
+    while f < count {
+        let face = tables::face(table, at + tables::face_within(n, f), n);
         join_part(n, inv, rate, face, block);
         f = f + 1;
     }
 }
 
-// The faces of location l with all their wall steps.
-fn walls_location<'a>(model: &'a [i32], table: &'a [i32], l: usize, block: &mut [i32])
-    requires { ⌜ Checked (now model) (now table) × (l < L# (now model)) × (length (now block) ≡ wordsPerLocation (n# (now model))) ⌝ }
+// The faces of location l, which begin at a place of the table, with all their wall steps.
+fn walls_location<'a>(model: &'a [i32], table: &'a [i32], l: usize, at: usize, block: &mut [i32])
+    requires { ⌜ Checked (now model) (now table) × (l < L# (now model)) × (at ≡ faceAt (now model) l 0) × (length (now block) ≡ wordsPerLocation (n# (now model))) ⌝ }
     ensures { λ _. ⌜ now (block .exit) ≡ locationBy (n# (now (model .entry))) (wallsJoined (now (model .entry)) (now (table .entry)) l) ⌝ }
 {
-    let at = tables::faces_at(model, l);
     let end = at + block.len();
     integers::copy(&table[at..end], block);
-    join_parts(model, table, l, block);
+    join_parts(model, table, l, at, block);
 }
 
 // The whole table.
@@ -103,7 +102,7 @@ pub fn walls<'a>(model: &'a [i32], table: &'a [i32], out: &mut [i32])
     while l < locations {
         let at = tables::faces_at(model, l);
         let end = tables::faces_at(model, l + 1);
-        walls_location(model, table, l, &mut out[at..end]);
+        walls_location(model, table, l, at, &mut out[at..end]);
         l = l + 1;
     }
 }

@@ -146,7 +146,7 @@ joined n x g e f = f ∙ ap (λ (s : List ℤ). faceWords n (join n (faceRead n 
 
 -- ---- where a face begins
 
-words-small : (n : ℕ) → 1 ≤ n → n ≤ 6 → wordsPerLocation n ≤ 156
+pub words-small : (n : ℕ) → 1 ≤ n → n ≤ 6 → wordsPerLocation n ≤ 156
 words-small n p q =
     let a : 2 * n ≤ 12 = omega arith in
     let b : faceSize n ≤ 13 = omega arith in

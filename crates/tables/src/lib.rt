@@ -1,4 +1,5 @@
-// The words of a table: faces, each a flag and a box (document 01, "Pass, ceiling").
+// The words of a table: faces, each a flag and a box (document 01, "Pass, ceiling"). These functions serve the crates above
+// and are no calls of outsiders: what they are lent has passed its questions.
 ghost use mathlib.Core.Path.{_≡_};
 ghost use Prim.Native.Nat.{_+_, _*_, _≤_};
 ghost use lib.IntN.{pos};
@@ -17,14 +18,14 @@ pub const FEW_WORDS: usize = 1280;
 
 pub const MOST_WORDS: usize = 9984;
 
-// Words per location, of 1 to 6 variables.
-const SIZES: [usize; 6] = [6, 20, 42, 72, 110, 156];
+// Words per location, of 1 to 6 variables. In bytes, since the compiler writes the table anew where it is read.
+const SIZES: [u8; 6] = [6, 20, 42, 72, 110, 156];
 
 fn words_per_location(n: usize) -> usize
     requires { ⌜ (1 ≤ n) × (n ≤ 6) ⌝ }
     ensures { λ r. ⌜ r ≡ wordsPerLocation n ⌝ }
 {
-    SIZES[n - 1]
+    SIZES[n - 1] as usize
 }
 
 // How many words a face of n variables has: flag, then low and high per variable.
@@ -43,7 +44,7 @@ pub fn table_size(model: &[i32]) -> usize
     faces_at(model, records::locations(model))
 }
 
-// Where the faces of location l begin; as many words as they have before location l + 1.
+// Where the faces of location l begin; they end where those of location l + 1 would begin.
 pub fn faces_at(model: &[i32], l: usize) -> usize
     requires { ⌜ Head (now model) × (l ≤ 64) ⌝ }
     ensures { λ r. ⌜ r ≡ faceAt (now (model .entry)) l 0 ⌝ }

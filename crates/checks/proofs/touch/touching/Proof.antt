@@ -15,28 +15,28 @@ use Rattle.passes.proofs.PartWords.{whole}
 use Rattle.passes.proofs.Reading.{model-passed}
 use Rattle.checks.specs.Links.{lastBox}
 use Rattle.checks.proofs.Links.{last-within, none-linked}
-use Rattle.checks.proofs.Search.{partsTouch, locationsTouch, search-is, no-part, no-location, BoxesLeft, asked-left, one-less, none-left, part-more, location-more, found}
+use Rattle.checks.proofs.Search.{partsTouch, locationsTouch, search-is, no-part, no-location, parts-few, all-asked, BoxesLeft, asked-left, one-less, none-left, part-more, location-more, found}
 use Rattle.checks.proofs.Touched.{BoxRead, touch-ready, touched-is}
 use Rattle.checks.proofs.touch.touching.Statement.{statement}
 use Rattle.checks.proofs.touch.touching.Tie as tie
 
 abbrev Inv-boxes : tie.InvT-boxes
-Inv-boxes model table locations n parts last before found₀ l inv rate p bounds b₀ found b = BoxesLeft model table l p bounds b × (found ≡ false)
+Inv-boxes model table locations n last before found₀ l inv rate at parts p bounds b₀ found b = BoxesLeft model table l p bounds b × (found ≡ false)
 
 abbrev μ-boxes : tie.MeasureT-boxes
-μ-boxes model table locations n parts last before found₀ l inv rate p bounds b₀ found b = b
+μ-boxes model table locations n last before found₀ l inv rate at parts p bounds b₀ found b = b
 
 abbrev Inv-parts : tie.InvT-parts
-Inv-parts model table locations n parts last before found₀ l inv rate p₀ found p = (p ≤ suc (2 * n# model)) × (partsTouch model table l p ≡ false) × (found ≡ false)
+Inv-parts model table locations n last before found₀ l inv rate at parts p₀ found p = (p ≤ parts) × (partsTouch model table l p ≡ false) × (found ≡ false)
 
 abbrev μ-parts : tie.MeasureT-parts
-μ-parts model table locations n parts last before found₀ l inv rate p₀ found p = suc (2 * n# model) - p
+μ-parts model table locations n last before found₀ l inv rate at parts p₀ found p = parts - p
 
 abbrev Inv-search : tie.InvT-search
-Inv-search model table locations n parts last before found₀ l₀ found l = (l ≤ L# model) × (locationsTouch model table l ≡ false) × (found ≡ false)
+Inv-search model table locations n last before found₀ l₀ found l = (l ≤ L# model) × (locationsTouch model table l ≡ false) × (found ≡ false)
 
 abbrev μ-search : tie.MeasureT-search
-μ-search model table locations n parts last before found₀ l₀ found l = L# model - l
+μ-search model table locations n last before found₀ l₀ found l = L# model - l
 
 -- ---- the places around a place: the turn of the parts, the turn of the search, the beginning
 
@@ -44,7 +44,7 @@ abbrev part-turn : tie.At-boxes Inv-boxes μ-boxes Inv-parts μ-parts Inv-search
 part-turn c = c .before .before .before .before
 
 abbrev location-turn : tie.At-parts Inv-boxes μ-boxes Inv-parts μ-parts Inv-search μ-search → tie.In-search Inv-boxes μ-boxes Inv-parts μ-parts Inv-search μ-search
-location-turn c = c .before .before .before
+location-turn c = c .before .before .before .before .before
 
 abbrev search-of : tie.At-boxes Inv-boxes μ-boxes Inv-parts μ-parts Inv-search μ-search → tie.At-search Inv-boxes μ-boxes Inv-parts μ-parts Inv-search μ-search
 search-of c = location-turn (part-turn c .before) .before
@@ -76,8 +76,19 @@ is-location c = omega (arith, c .before .before .before .before .before .before 
 location-small : (c : tie.In-search Inv-boxes μ-boxes Inv-parts μ-parts Inv-search μ-search) → c .before .search .l < 64
 location-small c = omega (arith, is-location c, model-ok (c .before) .L-small)
 
+-- the last box of the location
+last-of : (c : tie.In-search Inv-boxes μ-boxes Inv-parts μ-parts Inv-search μ-search) → getD (c .before .before .link .last .1 .0) (c .before .search .l) 0 ≡ lastBox (model (c .before)) (c .before .search .l) (B# (model (c .before)))
+last-of c = c .before .before .link .ensures .last-is (c .before .search .l) (location-small c)
+
+-- the parts that are asked
+few : (c : tie.After-parts-asked Inv-boxes μ-boxes Inv-parts μ-parts Inv-search μ-search) → c .parts-asked .result ≤ suc (2 * n# (model (c .before .before .before .before .before)))
+few c = let i = c .before .before .before .before in parts-few (model (i .before)) (table (i .before)) (i .before .search .l) (n-is (i .before)) (last-of i) (c .parts-asked .ensures)
+
+all-parts : (c : tie.After-parts-asked Inv-boxes μ-boxes Inv-parts μ-parts Inv-search μ-search) → let i = c .before .before .before .before .before in (p : ℕ) → p ≤ c .parts-asked .result → c .parts-asked .result ≤ p → partsTouch (model i) (table i) (i .search .l) p ≡ false → partsTouch (model i) (table i) (i .search .l) (suc (2 * n# (model i))) ≡ false
+all-parts c = let i = c .before .before .before .before in all-asked (model (i .before)) (table (i .before)) (i .before .search .l) (n-is (i .before)) (last-of i) (c .parts-asked .ensures)
+
 is-part : (c : tie.In-parts Inv-boxes μ-boxes Inv-parts μ-parts Inv-search μ-search) → c .before .parts .p ≤ 2 * n# (model (location-turn (c .before) .before))
-is-part c = omega (arith, n-is (location-turn (c .before) .before))
+is-part c = omega (arith, c .parts-test .taken, few (c .before .before))
 
 -- the box of the part
 bounds-are : (c : tie.After-box-at Inv-boxes μ-boxes Inv-parts μ-parts Inv-search μ-search) → c .box-at .result .now ≡ boxAt (n# (model (location-turn (c .before .before .before) .before))) (c .before .part-at .result .now) 1
@@ -92,11 +103,11 @@ box-small c = omega (arith, is-box c, model-ok (search-of (c .before)) .B-small)
 box-before : (c : tie.In-boxes Inv-boxes μ-boxes Inv-parts μ-parts Inv-search μ-search) → let i = search-of (c .before) in let b = c .before .boxes .b - 1 in getD (i .before .link .last .1 .1 .0) b 0 ≡ lastBox (model i) (forbiddenLocation (model i) b) b
 box-before c = search-of (c .before) .before .link .ensures .before-is (c .before .boxes .b - 1) (is-box c)
 
-box-read : (c : tie.After-forbidden-box Inv-boxes μ-boxes Inv-parts μ-parts Inv-search μ-search) → let j = part-turn (c .before .before) .before in let i = search-of (c .before .before) in BoxRead (model i) (i .search .l) (c .before .before .boxes .b - 1) (i .before .before .before .before .variables .result) (j .before .before .invariant .result .now) (j .before .rate .result .now) (c .forbidden-box .result .now)
+box-read : (c : tie.After-forbidden-box Inv-boxes μ-boxes Inv-parts μ-parts Inv-search μ-search) → let j = part-turn (c .before .before) .before in let i = search-of (c .before .before) in BoxRead (model i) (i .search .l) (c .before .before .boxes .b - 1) (i .before .before .before .before .variables .result) (j .before .before .before .before .invariant .result .now) (j .before .before .before .rate .result .now) (c .forbidden-box .result .now)
 box-read c = record {
   n-is = n-is (search-of (c .before .before));
-  inv-is = part-turn (c .before .before) .before .before .before .invariant .ensures;
-  rate-is = part-turn (c .before .before) .before .before .rate .ensures;
+  inv-is = part-turn (c .before .before) .before .before .before .before .before .invariant .ensures;
+  rate-is = part-turn (c .before .before) .before .before .before .before .rate .ensures;
   box-is = c .forbidden-box .ensures;
   of-location = c .before .before .boxes .inv .0 .own (omega arith);
 }
@@ -115,12 +126,6 @@ variables-requires :
     tie.Need-variables-requires Inv-boxes μ-boxes Inv-parts μ-parts Inv-search μ-search
 variables-requires c κs = whole (c .before .args .model .now) (c .before .pre .0 .passes) .head
 
-mul-parts : tie.Need-mul-parts Inv-boxes μ-boxes Inv-parts μ-parts Inv-search μ-search
-mul-parts c = let s = c .before .before in record { fits = omega (arith, c .variables .ensures, passed (s .args .model .now) (s .pre .0 .passes) .n-small) }
-
-add-parts : tie.Need-add-parts Inv-boxes μ-boxes Inv-parts μ-parts Inv-search μ-search
-add-parts c = let s = c .before .before in record { fits = omega (arith, c .variables .ensures, passed (s .args .model .now) (s .pre .0 .passes) .n-small) }
-
 link-requires : tie.Need-link-requires Inv-boxes μ-boxes Inv-parts μ-parts Inv-search μ-search
 link-requires c κs = let s = c .before .before .before .before in (s .pre .0 .passes, none-linked (s .args .model .now))
 
@@ -134,12 +139,27 @@ invariant-requires c κs = (whole _ (ok (c .before) .ready .passes), is-location
 rate-requires : tie.Need-rate-requires Inv-boxes μ-boxes Inv-parts μ-parts Inv-search μ-search
 rate-requires c κs = (whole _ (ok (c .before .before) .ready .passes), is-location (c .before))
 
+faces-at-requires :
+    tie.Need-faces-at-requires Inv-boxes μ-boxes Inv-parts μ-parts Inv-search μ-search
+faces-at-requires c κs = let i = c .before .before in let h = whole _ (ok (i .before) .ready .passes) .head in (h, omega (arith, location-small i))
+
+mul-parts-asked : tie.Need-mul-parts-asked Inv-boxes μ-boxes Inv-parts μ-parts Inv-search μ-search
+mul-parts-asked c = record { fits = omega (arith, location-small (c .before .before .before)) }
+
+array-read-parts-asked :
+    tie.Need-array-read-parts-asked Inv-boxes μ-boxes Inv-parts μ-parts Inv-search μ-search
+array-read-parts-asked c = location-small (c .before .before .before)
+
+parts-asked-requires :
+    tie.Need-parts-asked-requires Inv-boxes μ-boxes Inv-parts μ-parts Inv-search μ-search
+parts-asked-requires c κs = let i = c .before .before .before .before in omega (arith, n-is i, model-ok i .n-small)
+
 parts-holds : tie.Need-parts-holds Inv-boxes μ-boxes Inv-parts μ-parts Inv-search μ-search
-parts-holds c = (omega arith, no-part _ _ _, c .before .before .before .search .inv .2)
+parts-holds c = (omega arith, no-part _ _ _, c .before .before .before .before .before .search .inv .2)
 
 part-at-requires :
     tie.Need-part-at-requires Inv-boxes μ-boxes Inv-parts μ-parts Inv-search μ-search
-part-at-requires c κs = let i = location-turn (c .before) in (ok (i .before) .ready, is-location i, is-part c)
+part-at-requires c κs = let i = location-turn (c .before) in (ok (i .before) .ready, is-location i, c .before .before .before .faces-at .ensures, is-part c)
 
 box-at-requires : tie.Need-box-at-requires Inv-boxes μ-boxes Inv-parts μ-parts Inv-search μ-search
 box-at-requires c κs = let i = location-turn (c .before .before) .before in omega (arith, n-is i, c .part-at .ensures .sized)
@@ -159,7 +179,7 @@ boxes-holds : tie.Need-boxes-holds Inv-boxes μ-boxes Inv-parts μ-parts Inv-sea
 boxes-holds c =
     let j = c .before .before .before .before in
     let i = location-turn j in
-    (asked-left (model (i .before)) (table (i .before)) (i .before .search .l) (j .parts .p) (c .before .before .part-at .ensures) (bounds-are (c .before)) (i .before .before .link .ensures .last-is (i .before .search .l) (location-small i)) (c .first-asked .ensures), j .parts .inv .2)
+    (asked-left (model (i .before)) (table (i .before)) (i .before .search .l) (j .parts .p) (c .before .before .part-at .ensures) (bounds-are (c .before)) (last-of i) (c .first-asked .ensures), j .parts .inv .2)
 
 sub-forbidden-box :
     tie.Need-sub-forbidden-box Inv-boxes μ-boxes Inv-parts μ-parts Inv-search μ-search
@@ -201,13 +221,13 @@ add-p : tie.Need-add-p Inv-boxes μ-boxes Inv-parts μ-parts Inv-search μ-searc
 add-p c = let j = part-turn (c .before) in record { fits = omega (arith, is-part j, model-ok (search-of (c .before)) .n-small) }
 
 parts-less : tie.Need-parts-less Inv-boxes μ-boxes Inv-parts μ-parts Inv-search μ-search
-parts-less c = omega (arith, is-part (part-turn (c .before)))
+parts-less c = omega (arith, part-turn (c .before) .parts-test .taken)
 
 parts-again : tie.Need-parts-again Inv-boxes μ-boxes Inv-parts μ-parts Inv-search μ-search
 parts-again c =
     let j = part-turn (c .before) .before in
     let i = search-of (c .before) in
-    (omega (arith, is-part (part-turn (c .before))), part-more (model i) (table i) (i .search .l) (j .parts .p) (j .parts .inv .1) (none-left (model i) (table i) (i .search .l) (j .parts .p) (c .before .boxes .inv .0) (omega arith)), c .before .boxes .inv .1)
+    (omega (arith, part-turn (c .before) .parts-test .taken), part-more (model i) (table i) (i .search .l) (j .parts .p) (j .parts .inv .1) (none-left (model i) (table i) (i .search .l) (j .parts .p) (c .before .boxes .inv .0) (omega arith)), c .before .boxes .inv .1)
 
 add-l : tie.Need-add-l Inv-boxes μ-boxes Inv-parts μ-parts Inv-search μ-search
 add-l c = record { fits = omega (arith, location-small (location-turn (c .before))) }
@@ -218,8 +238,7 @@ search-less c = omega (arith, is-location (location-turn (c .before)))
 search-again : tie.Need-search-again Inv-boxes μ-boxes Inv-parts μ-parts Inv-search μ-search
 search-again c =
     let i = location-turn (c .before) .before in
-    let all : c .before .parts .p ≡ suc (2 * n# (model i)) = omega (arith, n-is i, c .before .parts .inv .0) in
-    (omega (arith, is-location (location-turn (c .before))), location-more (model i) (table i) (i .search .l) (i .search .inv .1) (subst (λ (k : ℕ). partsTouch (model i) (table i) (i .search .l) k ≡ false) all (c .before .parts .inv .1)), c .before .parts .inv .2)
+    (omega (arith, is-location (location-turn (c .before))), location-more (model i) (table i) (i .search .l) (i .search .inv .1) (all-parts (c .before .before) (c .before .parts .p) (c .before .parts .inv .0) (omega (arith, c .parts-test .left)) (c .before .parts .inv .1)), c .before .parts .inv .2)
 
 returns : tie.Need-returns Inv-boxes μ-boxes Inv-parts μ-parts Inv-search μ-search
 returns c =
@@ -246,12 +265,14 @@ touching-spec =
     μ-search
     locations-requires
     variables-requires
-    mul-parts
-    add-parts
     link-requires
     search-holds
     invariant-requires
     rate-requires
+    faces-at-requires
+    mul-parts-asked
+    array-read-parts-asked
+    parts-asked-requires
     parts-holds
     part-at-requires
     box-at-requires

@@ -88,7 +88,7 @@ walls-location-requires c κs =
     let ok = s .pre .0 in
     let i = c .before .before .before .before .loop in
     let w = c .before in
-    (ok, is-location (w .before .before), place-length (wordsPerLocation (n# m)) (locationsOf m t) (locations-sized m t ok) (a .out .now) (i .l) (i .inv .1) (from w) (to w) (omega (arith, inside w, s .pre .1)))
+    (ok, is-location (w .before .before), w .before .faces-at .ensures, place-length (wordsPerLocation (n# m)) (locationsOf m t) (locations-sized m t ok) (a .out .now) (i .l) (i .inv .1) (from w) (to w) (omega (arith, inside w, s .pre .1)))
 
 add-l : tie.Need-add-l Inv-loop μ-loop
 add-l c = omega (arith, is-location (c .before .before .before .before .before), whole-at (c .before .before .before .before .before .before .before .before) .head .L-small)

@@ -4,24 +4,20 @@ use native.Mathlib.Omega.{arith}
 use Prim.Native.Nat.{_+_, _-_, _≤_}
 use lib.ListN.{length}
 use Rattle.plant.specs.Tables.{tableSize}
-use Rattle.passes.proofs.Reading.{whole, old-location, location-to, location-inside, table-small}
+use Rattle.passes.proofs.Reading.{old-location, location-to, location-inside, table-small}
 use borrow.Author.Needs.{needs}
 use Rattle.passes.proofs.walls.walls_location.Statement.{statement}
 use Rattle.passes.proofs.walls.walls_location.Tie as tie
 
-faces-at-requires : tie.Need-faces-at-requires
-faces-at-requires c κs = let h = whole (c .args .model .now) (c .args .table .now) (c .pre .0) .head in (h, omega (arith, c .pre .1, h .L-small))
-
-module _ (c : tie.After-faces-at) where
+module _ (c : tie.Start) where
   -- behind its last word
-  end-inside : c .faces-at .result + length (c .before .args .block .now) ≤ tableSize (c .before .args .model .now)
+  end-inside : c .args .at + length (c .args .block .now) ≤ tableSize (c .args .model .now)
   end-inside =
-      let s = c .before in
-      let a = s .args in
-      omega (arith, s .pre .2, location-to (a .model .now) (a .table .now) (s .pre .0) (a .l) (c .faces-at .ensures) refl, location-inside (a .model .now) (a .table .now) (s .pre .0) (a .l) (c .faces-at .ensures) refl (s .pre .1) refl)
+      let a = c .args in
+      omega (arith, c .pre .3, location-to (a .model .now) (a .table .now) (c .pre .0) (a .l) (c .pre .2) refl, location-inside (a .model .now) (a .table .now) (c .pre .0) (a .l) (c .pre .2) refl (c .pre .1) refl)
 
-  end-small : c .faces-at .result + length (c .before .args .block .now) ≤ 9984
-  end-small = let s = c .before in omega (arith, end-inside, table-small (s .args .model .now) (s .args .table .now) (s .pre .0))
+  end-small : c .args .at + length (c .args .block .now) ≤ 9984
+  end-small = omega (arith, end-inside, table-small (c .args .model .now) (c .args .table .now) (c .pre .0))
 
 add-end : tie.Need-add-end
 add-end c = omega (arith, end-small c)
@@ -36,17 +32,16 @@ part-copy-start : tie.Need-part-copy-start
 part-copy-start c = search needs
 
 part-copy-end : tie.Need-part-copy-end
-part-copy-end c = omega (arith, end-inside c, c .before .pre .0 .ready .room)
+part-copy-end c = omega (arith, end-inside c, c .pre .0 .ready .room)
 
 copy-requires : tie.Need-copy-requires
 copy-requires c κs = search needs
 
 join-parts-requires : tie.Need-join-parts-requires
 join-parts-requires c κs =
-    let s = c .before .before .before .before .before .before in
+    let s = c .before .before .before .before .before in
     let a = s .args in
-    let at = c .before .before .before .before .before .faces-at in
-    (s .pre .0, s .pre .1, c .before .before .copy .ensures ∙ old-location (a .model .now) (a .table .now) (s .pre .0) (a .l) (s .pre .1) {k = at .result + length (a .block .now) - at .result} (at .ensures) (omega (arith, s .pre .2)))
+    (s .pre .0, s .pre .1, s .pre .2, c .before .before .copy .ensures ∙ old-location (a .model .now) (a .table .now) (s .pre .0) (a .l) (s .pre .1) {k = a .at + length (a .block .now) - a .at} (s .pre .2) (omega (arith, s .pre .3)))
 
 same-length : tie.Need-same-length
 same-length c = search needs
@@ -58,7 +53,6 @@ pub walls-location-spec : {M : Type 1} → statement M
 walls-location-spec =
     tie.close
     (tie.spec
-    faces-at-requires
     add-end
     mul-copy
     sub-copy
