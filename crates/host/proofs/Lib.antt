@@ -3,3 +3,4 @@ pub mod Reading
 pub mod Deciding
 pub mod Checking
 pub mod Demand
+pub mod ForC

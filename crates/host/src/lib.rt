@@ -12,6 +12,8 @@ ghost use Rattle.host.specs.Hosts.{packed, decided, decideBy, roomQuesti
 use plant::Answer;
 use plant::Count;
 
+mod calls;
+
 // ---- decide
 
 // code × 2^32 + k

@@ -1,0 +1,52 @@
+-- Each call for C gives what its call gives, with the reply in place of the enum; and the desk's counters are sums.
+use mathlib.Core.Path.{_≡_, refl, sym, ap, subst, _∙_}
+use mathlib.Core.List.{List, [], _∷_}
+use Prim.Native.Nat.{ℕ}
+use lib.IntN.{ℤ}
+use Rattle.plant.specs.declared.Answer.{Answer}
+use Rattle.plant.specs.Calls.{Reply, Analysed, answerReply}
+use Rattle.desk.specs.declared.Desk.{Desk}
+use Rattle.desk.specs.Desks.{freshDesk, Holds, Served, Call, deskAfter, replies, answersOf, passesOf, DeskCounts}
+use Rattle.desk.proofs.Counts.{desk-counts}
+use Rattle.host.specs.ForC.{AnalysedForC, analysedForC, ServedForC, servedForC, deskForC, countersAfter, repliesForC, DeskCountsForC}
+
+-- ---- the calls
+
+-- the number given and the value stored are a reply
+pub is-reply : {q v code value : ℕ} {r : Reply} → q ≡ code → v ≡ value → _≡_ {A = Reply} (record { code = code; value = value }) r → _≡_ {A = Reply} (record { code = q; value = v }) r
+is-reply e f h = cc
+
+module _ {a : Answer} {r : Reply} {table work : List ℤ} where
+  pub is-analysed :
+      {x : Analysed} → _≡_ {A = Analysed} (record { answer = a; table = table; work = work }) x → r ≡ answerReply a
+      → _≡_ {A = AnalysedForC} (record { reply = r; table = table; work = work }) (analysedForC x)
+  is-analysed {x = x} h e = subst (λ (y : Reply). _≡_ {A = AnalysedForC} (record { reply = y; table = table; work = work }) (analysedForC x)) (sym e) (ap analysedForC h)
+
+  pub is-served :
+      {d : Desk} {x : Served} → _≡_ {A = Served} (record { desk = d; analysed = record { answer = a; table = table; work = work } }) x → r ≡ answerReply a
+      → _≡_ {A = ServedForC} (record { desk = d; analysed = record { reply = r; table = table; work = work } }) (servedForC x)
+  is-served {d = d} {x = x} h e = subst (λ (y : Reply). _≡_ {A = ServedForC} (record { desk = d; analysed = record { reply = y; table = table; work = work } }) (servedForC x)) (sym e) (ap servedForC h)
+
+-- ---- the desk
+
+counters-are : (d : Desk) (cs : List Call) → countersAfter d cs ≡ deskAfter d cs
+unfolding countersAfter deskAfter
+counters-are d [] = refl
+counters-are d (c ∷ cs) = counters-are (deskForC d c .desk) cs
+
+replies-are : (d : Desk) (cs : List Call) → repliesForC d cs ≡ replies d cs
+unfolding repliesForC replies
+replies-are d [] = refl
+replies-are d (c ∷ cs) = ap (λ (rs : List Reply). deskForC d c .analysed .reply ∷ rs) (replies-are (deskForC d c .desk) cs)
+
+-- for every list of qii_desk calls from counters 0
+pub desk-counts-for-c : (cs : List Call) → DeskCountsForC cs
+desk-counts-for-c cs =
+    let k : DeskCounts cs = desk-counts cs in
+    let e = counters-are freshDesk cs in
+    let f = sym (replies-are freshDesk cs) in
+    record {
+      passes-sum = ap (λ (d : Desk). d .passes) e ∙ (k .passes-sum ∙ ap passesOf f);
+      jobs-number = ap (λ (d : Desk). d .jobs) e ∙ (k .jobs-number ∙ ap answersOf f);
+      holds = subst Holds (sym e) (k .holds);
+    }

@@ -1,0 +1,92 @@
+// The library's calls on words, for C: each is one proved call, whose reply is given as a number and a value.
+ghost use mathlib.Core.Path.{_≡_};
+ghost use Rattle.plant.specs.Calls.{Reply, answerReply, verdictReply, ceilingReply, ceilingCall, checkCall, analyseCall};
+ghost use Rattle.desk.specs.Desks.{deskCall};
+ghost use Rattle.host.specs.ForC.{analysedForC, servedForC};
+use desk::Desk;
+use plant::Answer;
+use plant::Ceiling;
+use plant::Verdict;
+
+// Stores the value that a reply holds, and gives its number.
+fn reply(number: u32, holds: u64, value: &mut u64) -> u32
+    ensures { λ r. ⌜ (r ≡ number) × (now (value .exit) ≡ holds) ⌝ }
+{
+    *value = holds;
+    number
+}
+
+fn answer_reply(answer: Answer, value: &mut u64) -> u32
+    ensures { λ r. ⌜ record { code = r; value = now (value .exit) } ≡ answerReply answer ⌝ }
+{
+    match answer {
+        Answer::Safe(k) => reply(100, k as u64, value),
+        Answer::Unknown(k) => reply(101, k as u64, value),
+        Answer::Unfinished(k) => reply(102, k as u64, value),
+        Answer::Refused(q) => reply(q, 0, value),
+    }
+}
+
+// How many passes settle every answer.
+#[no_mangle]
+pub extern "C" fn qii_ceiling(model: &[i32], value: &mut u64) -> u32
+    ensures { λ r. ⌜ record { code = r; value = now (value .exit) } ≡ ceilingReply (ceilingCall (now (model .entry))) ⌝ }
+{
+    let ceiling = analysis::ceiling(model);
+    match ceiling {
+        Ceiling::Passes(k) => reply(100, k, value),
+        Ceiling::Refused(q) => reply(q, 0, value),
+    }
+}
+
+// Whether a table shows that a model is safe.
+#[no_mangle]
+pub extern "C" fn qii_check<'a>(model: &'a [i32], table: &'a [i32]) -> u32
+    ensures { λ r. ⌜ r ≡ verdictReply (checkCall (now (model .entry)) (now (table .entry))) .code ⌝ }
+{
+    let verdict = analysis::check(model, table);
+    match verdict {
+        Verdict::Accepted => 100,
+        Verdict::Refused(q) => q,
+    }
+}
+
+// The analysis under a limit of passes; the value is the number of passes made.
+#[no_mangle]
+pub extern "C" fn qii_analyse(
+    model: &[i32],
+    limit: u32,
+    table: &mut [i32],
+    work: &mut [i32],
+    value: &mut u64,
+) -> u32
+    ensures { λ r. ⌜ record { reply = record { code = r; value = now (value .exit) }; table = now (table .exit); work = now (work .exit) } ≡ analysedForC (analyseCall (now (model .entry)) limit (now (table .entry)) (now (work .entry))) ⌝ }
+{
+    let answer = analysis::analyse(model, limit, table, work);
+    answer_reply(answer, value)
+}
+
+// The analysis at the desk: an answer moves both counters, by one job and by its passes.
+#[no_mangle]
+pub extern "C" fn qii_desk(
+    jobs: &mut u32,
+    passes: &mut u32,
+    model: &[i32],
+    limit: u32,
+    table: &mut [i32],
+    work: &mut [i32],
+    value: &mut u64,
+) -> u32
+    ensures { λ r. ⌜ record { desk = record { jobs = now (jobs .exit); passes = now (passes .exit) }; analysed = record { reply = record { code = r; value = now (value .exit) }; table = now (table .exit); work = now (work .exit) } } ≡ servedForC (deskCall (record { jobs = now (jobs .entry); passes = now (passes .entry) }) (now (model .entry)) limit (now (table .entry)) (now (work .entry))) ⌝ }
+{
+    let desk = Desk {
+        jobs: *jobs,
+        passes: *passes,
+    };
+    let receipt = desk::serve(desk, model, limit, table, work);
+    let after = receipt.desk;
+    let answer = receipt.answer;
+    *jobs = after.jobs;
+    *passes = after.passes;
+    answer_reply(answer, value)
+}
