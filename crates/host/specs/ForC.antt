@@ -1,13 +1,25 @@
--- What include/qiifaduleh.h says of the calls on words: the number, the value and every lent word, for every input. Each is the
--- call's own definition with the reply in place of the enum: done, safe and accepted 100, unknown 101, unfinished 102, else the
--- refusal's own number with the value 0. (The ceiling and the checker lend nothing: their replies are enough.)
+-- What include/qiifaduleh.h says of the calls on words and on files: the number, the value and every lent word or byte, for every
+-- input. Each is the call's own definition with the reply in place of the enum: done, safe and accepted 100, unknown 101,
+-- unfinished 102, else the refusal's own number with the value 0. (The ceiling and the checker are lent nothing to change: their
+-- replies say all.)
 use mathlib.Core.Path.{_≡_}
 use mathlib.Core.List.{List, [], _∷_}
 use Prim.Native.Nat.{ℕ}
 use lib.IntN.{ℤ}
-use Rattle.plant.specs.Calls.{Reply, Analysed, replyOf}
+use Rattle.plant.specs.Calls.{Reply, Analysed, replyOf, ReadOutcome}
+use Rattle.table_files.specs.TableFile.{WriteOutcome}
 use Rattle.desk.specs.declared.Desk.{Desk}
 use Rattle.desk.specs.Desks.{freshDesk, Holds, Served, Call, serve, answersOf, passesOf}
+
+-- ---- reading a model, reading a table file
+
+-- the reply, and the lent word buffer
+pub record ReadForC : Type 0 where
+  pub reply : Reply
+  pub words : List ℤ
+
+abbrev pub readForC : ReadOutcome → ReadForC
+readForC o = record { reply = o .reply; words = o .words }
 
 -- ---- the analysis
 
@@ -19,6 +31,16 @@ pub record AnalysedForC : Type 0 where
 
 abbrev pub analysedForC : Analysed → AnalysedForC
 analysedForC a = record { reply = replyOf a; table = a .table; work = a .work }
+
+-- ---- writing a table file
+
+-- the reply, and the lent byte buffer
+pub record WrittenForC : Type 0 where
+  pub reply : Reply
+  pub file : List ℕ
+
+abbrev pub writtenForC : WriteOutcome → WrittenForC
+writtenForC o = record { reply = o .reply; file = o .file }
 
 -- ---- the desk
 

@@ -1,11 +1,15 @@
-// The library's calls on words, for C: each is one proved call, whose reply is given as a number and a value.
+// The library's calls on words and on files, for C: each is one proved call, whose reply is given as a number and a value. The
+// number is 100 (done, safe, accepted), 101 (unknown), 102 (unfinished) or a refusal's; the value is 0 on a refusal.
 ghost use mathlib.Core.Path.{_≡_};
-ghost use Rattle.plant.specs.Calls.{Reply, answerReply, verdictReply, ceilingReply, ceilingCall, checkCall, analyseCall};
+ghost use Rattle.plant.specs.Calls.{Reply, answerReply, verdictReply, ceilingReply, countReply, ceilingCall, checkCall, analyseCall};
 ghost use Rattle.desk.specs.Desks.{deskCall};
-ghost use Rattle.host.specs.ForC.{analysedForC, servedForC};
+ghost use Rattle.model_files.specs.ModelFile.{readModelCall};
+ghost use Rattle.table_files.specs.TableFile.{readTableCall, writeTableCall};
+ghost use Rattle.host.specs.ForC.{readForC, analysedForC, writtenForC, servedForC};
 use desk::Desk;
 use plant::Answer;
 use plant::Ceiling;
+use plant::Count;
 use plant::Verdict;
 
 // Stores the value that a reply holds, and gives its number.
@@ -25,6 +29,24 @@ fn answer_reply(answer: Answer, value: &mut u64) -> u32
         Answer::Unfinished(k) => reply(102, k as u64, value),
         Answer::Refused(q) => reply(q, 0, value),
     }
+}
+
+fn count_reply(count: Count, value: &mut u64) -> u32
+    ensures { λ r. ⌜ record { code = r; value = now (value .exit) } ≡ countReply count ⌝ }
+{
+    match count {
+        Count::Done(k) => reply(100, k as u64, value),
+        Count::Refused(q) => reply(q, 0, value),
+    }
+}
+
+// Reads a model file; the value is how many words the model has.
+#[no_mangle]
+pub extern "C" fn qii_read_model(file: &[u8], words: &mut [i32], value: &mut u64) -> u32
+    ensures { λ r. ⌜ record { reply = record { code = r; value = now (value .exit) }; words = now (words .exit) } ≡ readForC (readModelCall (now (file .entry)) (now (words .entry))) ⌝ }
+{
+    let count = model_files::read_model(file, words);
+    count_reply(count, value)
 }
 
 // How many passes settle every answer.
@@ -64,6 +86,34 @@ pub extern "C" fn qii_analyse(
 {
     let answer = analysis::analyse(model, limit, table, work);
     answer_reply(answer, value)
+}
+
+// Reads a table file; the value is how many words the table has.
+#[no_mangle]
+pub extern "C" fn qii_read_table(
+    model: &[i32],
+    file: &[u8],
+    table: &mut [i32],
+    value: &mut u64,
+) -> u32
+    ensures { λ r. ⌜ record { reply = record { code = r; value = now (value .exit) }; words = now (table .exit) } ≡ readForC (readTableCall (now (model .entry)) (now (file .entry)) (now (table .entry))) ⌝ }
+{
+    let count = table_files::read_table(model, file, table);
+    count_reply(count, value)
+}
+
+// Writes a table's file; the value is how many bytes it has.
+#[no_mangle]
+pub extern "C" fn qii_write_table(
+    model: &[i32],
+    table: &[i32],
+    file: &mut [u8],
+    value: &mut u64,
+) -> u32
+    ensures { λ r. ⌜ record { reply = record { code = r; value = now (value .exit) }; file = now (file .exit) } ≡ writtenForC (writeTableCall (now (model .entry)) (now (table .entry)) (now (file .entry))) ⌝ }
+{
+    let count = table_files::write_table(model, table, file);
+    count_reply(count, value)
 }
 
 // The analysis at the desk: an answer moves both counters, by one job and by its passes.
