@@ -23,7 +23,7 @@
  *     Memory    A call reads the model and the table file, decide writes its table buffer, and
  *               nothing else is touched: no heap, no file, no lock. Nothing is kept between calls.
  *     Buffers   They may lie anywhere, at any alignment. decide's table buffer must not overlap
- *               the model. A pointer must be valid for its length, and is not NULL for length 0.
+ *               the model. A pointer must be valid for its length; with length 0 it may be NULL.
  *     Threads   Calls may run on several threads at once, as long as no thread uses a buffer that
  *               another's call is writing.
  *     Stack     A thread that makes a call needs a stack of QII_STACK_BYTES.
@@ -37,8 +37,12 @@
 #include <stddef.h>
 #include <stdint.h>
 
+/* A number as a number of another type, without a C cast in C++. */
 #ifdef __cplusplus
+#define QII_AS(type, number) (static_cast<type>(number))
 extern "C" {
+#else
+#define QII_AS(type, number) ((type)(number))
 #endif
 
 /*
@@ -80,17 +84,19 @@ uint64_t decide(const uint8_t *model, size_t model_len, uint8_t *table, size_t t
  */
 uint64_t check(const uint8_t *model, size_t model_len, const uint8_t *table, size_t table_len);
 
-/* The answers. No refusal has one of these numbers. */
+/* The answers. No refusal has one of these numbers. Each number is one enumerator, so that a switch
+   can have a case for every one of them, and for every refusal. */
 enum qii_answer {
-    /* decide: no run meets a forbidden box. */
+    /* decide: no run meets a forbidden box. check: the table shows it. */
     QII_SAFE = 100,
     /* decide: a part of the table touches a forbidden box. */
     QII_UNKNOWN = 101,
     /* decide: the limit came before an answer. */
-    QII_UNFINISHED = 102,
-    /* check: the table shows that no run meets a forbidden box. */
-    QII_ACCEPTED = 100
+    QII_UNFINISHED = 102
 };
+
+/* The same number under the name that it has as check's answer. */
+#define QII_ACCEPTED QII_SAFE
 
 /*
  * The refusals. A number has the same one meaning in both calls. n, L, E and B are the counts at
@@ -175,7 +181,8 @@ enum qii_refusal {
 #define QII_MODEL_BYTES_MAX 28947
 
 /* The length of decide's table buffer, for a plant of L locations and n variables (39). */
-#define QII_TABLE_BYTES(L, n) (7 + 2 * (size_t)(L) * (n) * (11 + 8 * (n)))
+#define QII_TABLE_BYTES(L, n) \
+    (7 + 2 * QII_AS(size_t, L) * QII_AS(size_t, n) * (11 + 8 * QII_AS(size_t, n)))
 
 /* The same for the largest plant: enough for every plant. */
 #define QII_TABLE_BYTES_MAX 45319
@@ -186,23 +193,23 @@ enum qii_refusal {
 /* The code in decide's number: of enum qii_answer or enum qii_refusal. */
 static inline uint32_t qii_code(uint64_t decided)
 {
-    return (uint32_t)(decided >> 32);
+    return QII_AS(uint32_t, decided >> 32);
 }
 
 /* The passes in decide's number. */
 static inline uint32_t qii_passes(uint64_t decided)
 {
-    return (uint32_t)(decided & 0xFFFFFFFFu);
+    return QII_AS(uint32_t, decided & 0xFFFFFFFFu);
 }
 
 /* The length of the table file that decide has written. After an answer only. */
 static inline size_t qii_table_len(const uint8_t *table)
 {
-    size_t faces = (size_t)table[5] << 8 | table[6];
+    size_t faces = 256 * QII_AS(size_t, table[5]) + table[6];
     size_t face_len = 0;
 
     if (faces > 0)
-        face_len = 3 + ((size_t)table[8] << 8 | table[9]);
+        face_len = 3 + 256 * QII_AS(size_t, table[8]) + table[9];
     return 7 + faces * face_len;
 }
 

@@ -1,6 +1,6 @@
 /*
- * The header by itself, compiled as C99 and as C++: its numbers, and the functions that take
- * decide's number and table apart.
+ * The header by itself, compiled as C99 and as C++: its numbers, that one switch takes all of them,
+ * and the functions that take decide's number and table apart.
  */
 #include "qiifaduleh.h"
 
@@ -29,10 +29,54 @@ FACT(refusals_of_tables, QII_TABLE_FACE == 32 && QII_TABLE_GROWS == 33 && QII_TA
 FACT(answers,
      QII_SAFE == 100 && QII_UNKNOWN == 101 && QII_UNFINISHED == 102 && QII_ACCEPTED == 100);
 
+/* How many of the numbers 0 to 255 are in use: one switch over all enumerators of both enums. */
+static int numbers_in_use(void)
+{
+    uint32_t number;
+    int count = 0;
+
+    for (number = 0; number < 256; number++) {
+        switch (number) {
+        case QII_MODEL_HEAD:
+        case QII_VARIABLES:
+        case QII_LOCATIONS:
+        case QII_SWITCHES_OR_BOXES:
+        case QII_RECORD_TAG:
+        case QII_RECORD_LENGTH:
+        case QII_MODEL_END:
+        case QII_INVARIANT:
+        case QII_RATES:
+        case QII_START:
+        case QII_SWITCH_PLACE:
+        case QII_SWITCH_BOXES:
+        case QII_SWITCH_RESET:
+        case QII_SWITCH_SOURCE:
+        case QII_SWITCH_TARGET:
+        case QII_FORBIDDEN:
+        case QII_TABLE_FACE:
+        case QII_TABLE_GROWS:
+        case QII_TABLE_TOUCHES:
+        case QII_TABLE_HEAD:
+        case QII_FACE_FIELD:
+        case QII_FACE_PLACE:
+        case QII_TABLE_END:
+        case QII_TABLE_ROOM:
+        case QII_SAFE:
+        case QII_UNKNOWN:
+        case QII_UNFINISHED:
+            count++;
+            break;
+        default:
+            break;
+        }
+    }
+    return count;
+}
+
 static int takes_decided_apart(void)
 {
-    uint64_t safe = (uint64_t)100 << 32 | 4294967295u;
-    uint64_t refused = (uint64_t)39 << 32;
+    uint64_t safe = UINT64_C(100) << 32 | 4294967295u;
+    uint64_t refused = UINT64_C(39) << 32;
 
     return qii_code(safe) == QII_SAFE && qii_passes(safe) == 4294967295u &&
            qii_code(refused) == QII_TABLE_ROOM && qii_passes(refused) == 0;
@@ -50,8 +94,8 @@ static int measures_tables(void)
 
 int main(void)
 {
-    if (!takes_decided_apart() || !measures_tables()) {
-        printf("the header's functions are wrong\n");
+    if (numbers_in_use() != 27 || !takes_decided_apart() || !measures_tables()) {
+        printf("the header's numbers or functions are wrong\n");
         return 1;
     }
     return 0;
