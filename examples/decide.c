@@ -10,54 +10,15 @@
  *     ./decide models/plant-p.model
  */
 #include "qiifaduleh.h"
+#include "sample.h"
 
-#include <errno.h>
 #include <inttypes.h>
-#include <stdio.h>
-#include <stdlib.h>
-#include <string.h>
 
 #define USUAL_LIMIT 1000
-
-/* Exit status. */
-#define ANSWERED 0
-#define REFUSED 1
-#define CALLED_WRONGLY 2
 
 /* One byte more than the longest model file: a file that fills this is refused in any case. */
 static uint8_t model[QII_MODEL_BYTES_MAX + 1];
 static uint8_t table[QII_TABLE_BYTES_MAX];
-
-/* Reads the beginning of a file into model. Gives its length, or -1. */
-static long read_model(const char *name)
-{
-    FILE *file = fopen(name, "rb");
-    size_t len;
-    int failed;
-
-    if (file == NULL)
-        return -1;
-    len = fread(model, 1, sizeof model, file);
-    failed = ferror(file);
-    fclose(file);
-    return failed ? -1 : (long)len;
-}
-
-/* Takes a limit from its decimal digits. Gives 0 if there is none in 32 bits. */
-static int read_limit(const char *digits, uint32_t *limit)
-{
-    char *end;
-    unsigned long long value;
-
-    if (strspn(digits, "0123456789") == 0)
-        return 0;
-    errno = 0;
-    value = strtoull(digits, &end, 10);
-    if (*end != '\0' || errno != 0 || value > UINT32_MAX)
-        return 0;
-    *limit = (uint32_t)value;
-    return 1;
-}
 
 static const char *answer_word(uint32_t code)
 {
@@ -111,7 +72,7 @@ int main(int argc, char **argv)
         fprintf(stderr, "usage: %s MODEL [LIMIT]\n", argv[0]);
         return CALLED_WRONGLY;
     }
-    model_len = read_model(argv[1]);
+    model_len = read_file(argv[1], model, sizeof model);
     if (model_len < 0) {
         fprintf(stderr, "%s: cannot read %s\n", argv[0], argv[1]);
         return CALLED_WRONGLY;

@@ -1,13 +1,24 @@
 /*
  * qiifaduleh.h - can a plant reach a forbidden level?
  *
- *     decide   finds the answer for a model, and writes the table of reached faces behind it
- *     check    says whether a table, whoever made it, shows that a model is safe
+ * A plant is a model of locations, ranges for levels and rates, switches and forbidden boxes. The
+ * library says whether a run of the model can meet a forbidden box, with a table of reached faces
+ * behind the answer; and it checks a table that anyone made.
  *
- * If check accepts a table, no run of the model, of any length, meets a forbidden box. This is
- * proved (docs/PROMISES.md), and it does not rest on decide. Proved too: what the answers of
- * decide and check mean, what decide leaves in the table buffer, and that a refusal is the number
- * of the first question that is not yes.
+ *     On files:  decide            finds the answer, and writes the table's file
+ *                check             says whether a table's file shows that a model is safe
+ *     On words:  qii_analyse       finds the answer, and leaves the table
+ *                qii_desk          the same, charged to a desk of two counters
+ *                qii_check         says whether a table shows that a model is safe
+ *                qii_ceiling       the passes after which the analysis has always ended
+ *     Between:   qii_read_model    a model file's words
+ *                qii_read_table    a table file's words
+ *                qii_write_table   a table's file
+ *
+ * If check or qii_check accepts a table, no run of the model, of any length, meets a forbidden box.
+ * This is proved, and it does not rest on the analysis. Proved too, for every input: the number and
+ * the value that each call gives, and all memory that it leaves. docs/PROMISES.md says which
+ * theorem carries what.
  *
  *     uint8_t table[QII_TABLE_BYTES_MAX];
  *     uint64_t decided = decide(model, model_len, table, sizeof table, 1000);
@@ -15,21 +26,75 @@
  *     if (qii_code(decided) == QII_SAFE)
  *         keep(table, qii_table_len(table));
  *
- * What holds for both calls:
+ * The same on words, charged to a desk (examples/ has whole programs):
  *
- *     Input     Bytes of any number and content may be handed over. A call answers, or it refuses
- *               with the number of the first question that is not yes. It never fails in another
- *               way, and it always returns. docs/FORMATS.md describes the files.
- *     Memory    A call reads the model and the table file, decide writes its table buffer, and
- *               nothing else is touched: no heap, no file, no lock. Nothing is kept between calls.
- *     Buffers   They may lie anywhere, at any alignment. decide's table buffer must not overlap
- *               the model. A pointer must be valid for its length; with length 0 it may be NULL.
- *     Threads   Calls may run on several threads at once, as long as no thread uses a buffer that
+ *     static int32_t model[QII_MODEL_WORDS_MAX];
+ *     static int32_t table[QII_TABLE_WORDS_MAX], work[QII_TABLE_WORDS_MAX];
+ *     uint32_t jobs = 0, charged = 0;
+ *     uint64_t words, passes;
+ *
+ *     if (qii_read_model(file, file_len, model, QII_MODEL_WORDS_MAX, &words) == QII_DONE &&
+ *         qii_desk(&jobs, &charged, model, words, 1000, table, QII_TABLE_WORDS_MAX, work,
+ *                  QII_TABLE_WORDS_MAX, &passes) == QII_SAFE)
+ *         ...
+ *
+ * WHAT HOLDS FOR ALL CALLS
+ *
+ *     Input     Bytes or words of any number and content may be handed over. A call answers, or it
+ *               refuses with the number of the first question that is not yes. It fails in no other
+ *               way, and it always returns; under a high limit that can take long.
+ *     Numbers   Every call gives a number, of enum qii_answer or of enum qii_refusal; decide gives
+ *               it times 2^32, plus the passes. A number has one meaning, whichever call gives it.
+ *     Values    A call with a parameter value writes it in every case: 0 on a refusal.
+ *     Memory    A call reads what it is handed as const and writes what it is lent otherwise, no
+ *               more than is said below. No heap, no file, no lock. Nothing is kept between calls.
+ *     Pointers  A slice is a pointer and a length, in bytes of uint8_t or words of int32_t. The
+ *               pointer is valid for that length and aligned for its type; with length 0 it may be
+ *               NULL. value, jobs and passes point to a number each, and are not NULL.
+ *     Overlap   What is lent for writing, value, jobs and passes too, overlaps nothing else that
+ *               the call is handed. Slices that are only read may overlap.
+ *     Threads   Calls may run on several threads at once, as long as no thread uses memory that
  *               another's call is writing.
- *     Stack     A thread that makes a call needs a stack of QII_STACK_BYTES.
+ *     Stack     A thread that makes a call needs a stack of QII_STACK_BYTES, or for all calls but
+ *               decide and check of QII_STACK_BYTES_ON_WORDS; see there.
  *
- * For C99 and C++11 on x86-64 Linux. Link with libhost.a, whose only global names are decide and
- * check.
+ * WHAT THE WORDS SAY
+ *
+ *     n, L, E and B are the numbers of variables (1 to 6), locations (1 to 64), switches (0 to 128)
+ *     and forbidden boxes (0 to 64), all numbered from 0. A level lies in -1,000,000..1,000,000, a
+ *     rate in -1,000..1,000. A box is a low and a high for each variable, ends included: low 0,
+ *     high 0, low 1, high 1, ..; it is ordered if no low is above its high.
+ *
+ *     Model     n, L, E, B, then the records, one after the other:
+ *                 location    invariant box, rate box, start flag (1 or 0), start box (zeros if
+ *                             the flag is 0)
+ *                 switch      source location, target location, wall variable d, source side,
+ *                             target side (0 low, 1 high), reset mask (2^i for variable i), guard
+ *                             box, reset box
+ *                 forbidden   location, box
+ *     Wall      Wall (d, side) of a location is the low or high end of d in its invariant. Its face
+ *               has the number 2d + side.
+ *     Table     For each location its 2n faces, each a flag and a box: 1 and the reached part of
+ *               the wall, or all zeros where none is reached.
+ *     Pass      A pass widens each face by what can be reached in one step from the start boxes and
+ *               the faces before it, rounded outward. Table 0 is all zeros, table k is the table
+ *               after k passes.
+ *
+ *     Words past the end of a model or of a table are not part of it: a list may be longer.
+ *
+ * WHAT THE FILES SAY
+ *
+ *     A file is a row of fields: a byte for the tag, two bytes for the length of what follows, then
+ *     that many bytes, words of four bytes each; the highest byte comes first everywhere.
+ *
+ *     Model     tag 1: n, L, E, B; then L of tag 2, E of tag 3, B of tag 4, each one record.
+ *     Table     tag 6: the number of present faces; then for each a tag 5: location, face, box; by
+ *               location, then by face.
+ *
+ * docs/FORMATS.md has all of this in full, with an example byte by byte.
+ *
+ * For C99 and C++11 on x86-64 Linux. Link with libhost.a, whose only global names are the nine
+ * calls declared here. All other names of this header begin with qii_ or QII_.
  */
 #ifndef QIIFADULEH_H
 #define QIIFADULEH_H
@@ -37,7 +102,7 @@
 #include <stddef.h>
 #include <stdint.h>
 
-/* A number as a number of another type, without a C cast in C++. */
+/* A number as a number of another type, without a C cast in C++. For this header's own use. */
 #ifdef __cplusplus
 #define QII_AS(type, number) (static_cast<type>(number))
 extern "C" {
@@ -57,51 +122,194 @@ extern "C" {
  *     QII_SAFE          No run meets a forbidden box. check accepts the table.
  *     QII_UNKNOWN       A reached part touches a forbidden box, as far as boxes can tell. check
  *                       refuses every table for this model. A run need not meet the box.
- *     QII_UNFINISHED    Neither after limit passes. A higher limit may tell.
- *     a refusal         Of enum qii_refusal, with 0 passes.
+ *     QII_UNFINISHED    Neither after limit passes. A higher limit may tell; one of at least the
+ *                       model's ceiling always does (qii_ceiling).
+ *     a refusal         With 0 passes.
  *
- * After an answer, any of the three, the buffer begins with the file of the table after that many
- * passes (qii_table_len gives its length); the rest of the buffer is as it was. After a refusal
- * the whole buffer is as it was.
+ * Leaves in the buffer, after any of the three answers, the file of the table after that many
+ * passes (qii_table_len gives its length), and the rest as it was; after a refusal, all as it was.
  *
- * decide can refuse by these numbers, asked in this order: 1 to 4; 6 and 7 of each field in turn,
- * 8; 11 to 13 of each location, 14 to 18 of each switch, 19 of each forbidden box; 39.
+ * Asks, in this order: 1 to 4; 6 and 7 of each field in turn, 8; 11 to 13 of each location in turn,
+ * 14 to 18 of each switch, 19 of each forbidden box; 39.
  */
 uint64_t decide(const uint8_t *model, size_t model_len, uint8_t *table, size_t table_len,
                 uint32_t limit);
 
 /*
- * check - does a table show that a model is safe?
+ * check - does a table file show that a model is safe?
  *
  *     model, model_len    the bytes of a model file
  *     table, table_len    the bytes of a table file, whoever made it
  *
- * Gives QII_ACCEPTED, or a number of enum qii_refusal. It writes nothing.
+ * Gives QII_ACCEPTED, or a refusal. It writes nothing.
  *
- * check can refuse by these numbers, asked in this order: 1 to 4; 6 and 7 of each field in turn,
- * 8; 11 to 13 of each location, 14 to 18 of each switch, 19 of each forbidden box; 35, then 36 and
- * 37 of each face in turn, 38, 32, 33, 34.
+ * Asks, in this order: 1 to 4; 6 and 7 of each field in turn, 8; 11 to 13 of each location in turn,
+ * 14 to 18 of each switch, 19 of each forbidden box; 35, then 36 and 37 of each face's field in
+ * turn, 38, 32; 33, 34.
  */
 uint64_t check(const uint8_t *model, size_t model_len, const uint8_t *table, size_t table_len);
 
-/* The answers. No refusal has one of these numbers. Each number is one enumerator, so that a switch
-   can have a case for every one of them, and for every refusal. */
+/*
+ * qii_read_model - the words of a model file.
+ *
+ *     file, file_len      the bytes of a model file
+ *     words, words_len    a buffer for the words, of at least QII_MODEL_WORDS(n, L, E, B) words
+ *     value               how many words the model has
+ *
+ * Gives QII_DONE, or a refusal.
+ *
+ * Leaves in the buffer
+ *     after QII_DONE                the model's words, which pass all the model's questions, and
+ *                                   the rest as it was;
+ *     after 1 to 5                  all as it was;
+ *     after 6 to 8 and 11 to 19     zeros, over its whole length.
+ *
+ * Asks, in this order: 1 to 4; 5 of the buffer; 6 and 7 of each field in turn, 8; 11 to 13 of each
+ * location in turn, 14 to 18 of each switch, 19 of each forbidden box.
+ */
+uint32_t qii_read_model(const uint8_t *file, size_t file_len, int32_t *words, size_t words_len,
+                        uint64_t *value);
+
+/*
+ * THE MODEL'S QUESTIONS, which every call below asks first of the model's words, in this order: are
+ * there four words (5); 2, 3, 4; are there all the model's words (5); 11 to 13 of each location in
+ * turn, 14 to 18 of each switch, 19 of each forbidden box.
+ */
+
+/*
+ * qii_ceiling - the passes after which the analysis has always ended.
+ *
+ *     model, model_len    model words
+ *     value               the ceiling: at most 7,680,000,768, so more than 32 bits
+ *
+ * Gives QII_DONE, or a refusal. Under a limit of at least the ceiling, analysis and decide never
+ * answer QII_UNFINISHED. Most models end after far fewer passes.
+ *
+ * Asks the model's questions.
+ */
+uint32_t qii_ceiling(const int32_t *model, size_t model_len, uint64_t *value);
+
+/*
+ * qii_check - does a table show that a model is safe?
+ *
+ *     model, model_len    model words
+ *     table, table_len    any words, whoever made them
+ *
+ * Gives QII_ACCEPTED, or a refusal. It writes nothing.
+ *
+ * Asks, in this order: the model's questions; 20 of the table; 32, 33, 34.
+ */
+uint32_t qii_check(const int32_t *model, size_t model_len, const int32_t *table, size_t table_len);
+
+/*
+ * qii_analyse - is a model safe?
+ *
+ *     model, model_len    model words
+ *     limit               the most passes that the answer may have
+ *     table, table_len    a buffer for the table, of at least QII_TABLE_WORDS(L, n) words
+ *     work, work_len      a buffer to work in, of at least as many
+ *     value               the passes of the answer
+ *
+ * Gives QII_SAFE, QII_UNKNOWN or QII_UNFINISHED, which mean what decide says of them, or a refusal.
+ * What the buffers held before makes no difference.
+ *
+ * Leaves
+ *     after any of the three answers    in the table buffer the table after value passes, and the
+ *                                       rest as it was; in the work buffer zeros, over its whole
+ *                                       length;
+ *     after a refusal                   all as it was.
+ *
+ * Asks, in this order: the model's questions; 20 of the table buffer; 21 of the work buffer.
+ */
+uint32_t qii_analyse(const int32_t *model, size_t model_len, uint32_t limit, int32_t *table,
+                     size_t table_len, int32_t *work, size_t work_len, uint64_t *value);
+
+/*
+ * qii_desk - is a model safe? The answer is charged to a desk.
+ *
+ *     jobs, passes        the desk: two counters. A fresh desk has 0 in both.
+ *     the others          as qii_analyse takes them
+ *
+ * Gives what qii_analyse gives, or 22. Leaves the buffers as qii_analyse does, and
+ *     after any of the three answers    jobs 1 higher, passes higher by value;
+ *     after a refusal                   both counters as they were.
+ *
+ * So for every list of calls of one desk, from counters 0 on: jobs is the number of answered calls,
+ * and passes is the sum of the passes answered. The counters never wrap: a call whose limit the
+ * counter could not take is refused by 22 before any pass is made.
+ *
+ * The library keeps no desk: the counters are the caller's, and nothing but these calls may change
+ * them in between. Two threads need two desks, or a lock around the call.
+ *
+ * Asks, in this order: the model's questions; 20 of the table buffer; 21 of the work buffer; 22 of
+ * the counters and the limit.
+ */
+uint32_t qii_desk(uint32_t *jobs, uint32_t *passes, const int32_t *model, size_t model_len,
+                  uint32_t limit, int32_t *table, size_t table_len, int32_t *work, size_t work_len,
+                  uint64_t *value);
+
+/*
+ * qii_read_table - the words of a table file.
+ *
+ *     model, model_len    model words
+ *     file, file_len      the bytes of a table file
+ *     table, table_len    a buffer for the table, of at least QII_TABLE_WORDS(L, n) words
+ *     value               how many words the table has: QII_TABLE_WORDS(L, n)
+ *
+ * Gives QII_DONE, or a refusal. A file that reads is exactly the one that qii_write_table writes of
+ * its table.
+ *
+ * Leaves in the buffer
+ *     after QII_DONE                          the table, and the rest as it was;
+ *     after the model's refusals and 20       all as it was;
+ *     after 35 to 38 and 32                   zeros, over its whole length.
+ *
+ * Asks, in this order: the model's questions; 20 of the buffer; 35, then 36 and 37 of each face's
+ * field in turn, 38; 32 of the table.
+ */
+uint32_t qii_read_table(const int32_t *model, size_t model_len, const uint8_t *file,
+                        size_t file_len, int32_t *table, size_t table_len, uint64_t *value);
+
+/*
+ * qii_write_table - the file of a table.
+ *
+ *     model, model_len    model words
+ *     table, table_len    the table's words
+ *     file, file_len      a buffer for the file, of at least QII_TABLE_BYTES(L, n) bytes, however
+ *                         few faces the table has
+ *     value               how many bytes the file has
+ *
+ * Gives QII_DONE, or a refusal. qii_read_table reads the file as the same table. Any table with
+ * well-formed faces can be written, also one that qii_check refuses by 33 or 34.
+ *
+ * Leaves in the buffer, after QII_DONE, the file, and the rest as it was; after a refusal, all as
+ * it was.
+ *
+ * Asks, in this order: the model's questions; 20 of the table; 32; 39 of the buffer.
+ */
+uint32_t qii_write_table(const int32_t *model, size_t model_len, const int32_t *table,
+                         size_t table_len, uint8_t *file, size_t file_len, uint64_t *value);
+
+/*
+ * The answers. No refusal has one of these numbers. Each number is one enumerator, so that one
+ * switch can have a case for each of them, and for each refusal.
+ */
 enum qii_answer {
-    /* decide: no run meets a forbidden box. check: the table shows it. */
+    /* No run meets a forbidden box; the table is accepted; what was to be read or written is. */
     QII_SAFE = 100,
-    /* decide: a part of the table touches a forbidden box. */
+    /* A part of the table touches a forbidden box. */
     QII_UNKNOWN = 101,
-    /* decide: the limit came before an answer. */
+    /* The limit came before an answer. */
     QII_UNFINISHED = 102
 };
 
-/* The same number under the name that it has as check's answer. */
+/* Other names of QII_SAFE, as the answer of check and qii_check, and of the calls that only give a
+   value. A switch takes one of the three names. */
 #define QII_ACCEPTED QII_SAFE
+#define QII_DONE QII_SAFE
 
 /*
- * The refusals. A number has the same one meaning in both calls. n, L, E and B are the counts at
- * the head of a model file: variables, locations, switches, forbidden boxes. A level lies in
- * -1,000,000..1,000,000, a rate in -1,000..1,000; a box is ordered if no low is above its high.
+ * The refusals: the first question that is not yes. The numbers 9, 10 and 23 to 31 are not in use.
  */
 enum qii_refusal {
     /* The model file does not begin with a whole field of tag 1 and length 16. */
@@ -112,6 +320,8 @@ enum qii_refusal {
     QII_LOCATIONS = 3,
     /* E is not 0 to 128, or B is not 0 to 64. */
     QII_SWITCHES_OR_BOXES = 4,
+    /* The list of words, or the buffer for them, is too short for the model. */
+    QII_MODEL_SHORT = 5,
     /* Where a record is due, fewer than three bytes are left or another tag stands. */
     QII_RECORD_TAG = 6,
     /* A field has another length than its record, or is not all there. */
@@ -144,30 +354,31 @@ enum qii_refusal {
        no level. */
     QII_FORBIDDEN = 19,
 
-    /* check: a present face is not ordered, not inside its location's invariant, or not on its
-       wall. (Of words also: a flag is not 0 or 1, or an absent face is not all zeros; no file has
-       such a face.) */
+    /* The table, or the buffer for it, has fewer than QII_TABLE_WORDS(L, n) words. */
+    QII_TABLE_SHORT = 20,
+    /* The work buffer has fewer than QII_TABLE_WORDS(L, n) words. */
+    QII_WORK_SHORT = 21,
+    /* jobs + 1, or passes + limit, is above 4,294,967,295. */
+    QII_DESK_FULL = 22,
+
+    /* A face's flag is not 0 or 1, an absent face is not all zeros, or a present one is not
+       ordered, not inside its location's invariant, or not on its wall. */
     QII_TABLE_FACE = 32,
-    /* check: a pass changes the table. */
+    /* A pass changes the table. */
     QII_TABLE_GROWS = 33,
-    /* check: a part of the table touches a forbidden box. */
+    /* A start box or a face of the table touches a forbidden box. */
     QII_TABLE_TOUCHES = 34,
-    /* check: the table file does not begin with a whole field of tag 6 and length 4 whose count
-       is 0 to 2nL. */
+    /* The table file does not begin with a whole field of tag 6 and length 4 whose count is 0 to
+       2nL. */
     QII_TABLE_HEAD = 35,
-    /* check: a face's field is not whole, not of tag 5, or not of the due length. */
+    /* A face's field is not whole, not of tag 5, or not of the due length. */
     QII_FACE_FIELD = 36,
-    /* check: a face's location or number does not exist, or does not come after the one before. */
+    /* A face's location or number does not exist, or does not come after the one before. */
     QII_FACE_PLACE = 37,
-    /* check: the table file goes on after its last face. */
+    /* The table file goes on after its last face. */
     QII_TABLE_END = 38,
-
-    /* decide: the table buffer is shorter than QII_TABLE_BYTES(L, n). */
+    /* The buffer for the table file has fewer than QII_TABLE_BYTES(L, n) bytes. */
     QII_TABLE_ROOM = 39
-
-    /* Only the library's Rattle calls refuse by 5 (a list or buffer too short for the model's
-       words), 20 (for the table's words), 21 (the work buffer too short) and 22 (jobs + 1 or
-       passes + limit is above 4,294,967,295). The numbers 9, 10 and 23 to 31 are not in use. */
 };
 
 /* The counts of the largest plant. */
@@ -176,19 +387,31 @@ enum qii_refusal {
 #define QII_SWITCHES_MAX 128
 #define QII_FORBIDDEN_MAX 64
 
+/* The words of a model (5), and of the largest. A macro here uses its parameters more than once. */
+#define QII_MODEL_WORDS(n, L, E, B)                                                      \
+    (4 + QII_AS(size_t, L) * (6 * QII_AS(size_t, n) + 1) +                               \
+     QII_AS(size_t, E) * (6 + 4 * QII_AS(size_t, n)) +                                   \
+     QII_AS(size_t, B) * (1 + 2 * QII_AS(size_t, n)))
+#define QII_MODEL_WORDS_MAX 7044
+
+/* The words of a table, for L locations and n variables (20, 21), and of the largest. */
+#define QII_TABLE_WORDS(L, n) \
+    (QII_AS(size_t, L) * 2 * QII_AS(size_t, n) * (1 + 2 * QII_AS(size_t, n)))
+#define QII_TABLE_WORDS_MAX 9984
+
 /* The length of the longest model file. A longer one is refused, so a program that reads one byte
    more than this has read enough. */
 #define QII_MODEL_BYTES_MAX 28947
 
-/* The length of decide's table buffer, for a plant of L locations and n variables (39). */
+/* The room for a table file, for L locations and n variables (39), and for the largest plant. */
 #define QII_TABLE_BYTES(L, n) \
-    (7 + 2 * QII_AS(size_t, L) * QII_AS(size_t, n) * (11 + 8 * QII_AS(size_t, n)))
-
-/* The same for the largest plant: enough for every plant. */
+    (7 + QII_AS(size_t, L) * 2 * QII_AS(size_t, n) * (11 + 8 * QII_AS(size_t, n)))
 #define QII_TABLE_BYTES_MAX 45319
 
-/* The stack of a thread that makes either call. tests/c/stack.c measures what is used of it. */
+/* The stack of a thread that makes any call, and of one that makes any but decide and check.
+   tests/c/stack.c measures what is used of it. */
 #define QII_STACK_BYTES (160 * 1024)
+#define QII_STACK_BYTES_ON_WORDS (64 * 1024)
 
 /* The code in decide's number: of enum qii_answer or enum qii_refusal. */
 static inline uint32_t qii_code(uint64_t decided)
@@ -211,6 +434,77 @@ static inline size_t qii_table_len(const uint8_t *table)
     if (faces > 0)
         face_len = 3 + 256 * QII_AS(size_t, table[8]) + table[9];
     return 7 + faces * face_len;
+}
+
+/* A number's meaning in words, for people. */
+static inline const char *qii_meaning(uint32_t number)
+{
+    switch (number) {
+    case QII_SAFE:
+        return "safe, accepted or done";
+    case QII_UNKNOWN:
+        return "unknown: a reached part touches a forbidden box";
+    case QII_UNFINISHED:
+        return "unfinished: the limit came before an answer";
+    case QII_MODEL_HEAD:
+        return "the model file does not begin with a whole head field";
+    case QII_VARIABLES:
+        return "the number of variables is not 1 to 6";
+    case QII_LOCATIONS:
+        return "the number of locations is not 1 to 64";
+    case QII_SWITCHES_OR_BOXES:
+        return "the number of switches is not 0 to 128, or of forbidden boxes not 0 to 64";
+    case QII_MODEL_SHORT:
+        return "the list or buffer is too short for the model's words";
+    case QII_RECORD_TAG:
+        return "the model file has another tag, or ends, where a record is due";
+    case QII_RECORD_LENGTH:
+        return "a record of the model file has another length, or is not all there";
+    case QII_MODEL_END:
+        return "the model file goes on after its last record";
+    case QII_INVARIANT:
+        return "a location's invariant is not ordered or not in the range of levels";
+    case QII_RATES:
+        return "a location's rates are not ordered or not in the range of rates";
+    case QII_START:
+        return "a location's start flag is not 0 or 1, or its start box does not fit";
+    case QII_SWITCH_PLACE:
+        return "a switch names a location, variable, side or mask that does not exist";
+    case QII_SWITCH_BOXES:
+        return "a switch's guard or reset box is not ordered or not in the range of levels";
+    case QII_SWITCH_RESET:
+        return "a switch's reset range of a masked variable is not a single value";
+    case QII_SWITCH_SOURCE:
+        return "a switch's guard is not on the source wall";
+    case QII_SWITCH_TARGET:
+        return "a switch does not arrive on the target wall";
+    case QII_FORBIDDEN:
+        return "a forbidden box's location does not exist, or the box does not fit";
+    case QII_TABLE_SHORT:
+        return "the table or the table buffer is too short";
+    case QII_WORK_SHORT:
+        return "the work buffer is too short";
+    case QII_DESK_FULL:
+        return "the desk's counters cannot take another job or the limit";
+    case QII_TABLE_FACE:
+        return "a face of the table is not well formed, not inside its location or not on its wall";
+    case QII_TABLE_GROWS:
+        return "a pass changes the table: more can be reached than it says";
+    case QII_TABLE_TOUCHES:
+        return "a start box or a face of the table touches a forbidden box";
+    case QII_TABLE_HEAD:
+        return "the table file has no whole head field with a possible count of faces";
+    case QII_FACE_FIELD:
+        return "a face's field of the table file is not whole, or has another tag or length";
+    case QII_FACE_PLACE:
+        return "a face of the table file does not exist, or is not in order";
+    case QII_TABLE_END:
+        return "the table file goes on after its last face";
+    case QII_TABLE_ROOM:
+        return "the byte buffer is too short for the longest table file of the model";
+    default:
+        return "no call gives this number";
+    }
 }
 
 #ifdef __cplusplus

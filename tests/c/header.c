@@ -5,6 +5,7 @@
 #include "qiifaduleh.h"
 
 #include <stdio.h>
+#include <string.h>
 
 /* Refused by the compiler if the fact does not hold. */
 #define FACT(name, fact) typedef char name[(fact) ? 1 : -1]
@@ -16,9 +17,17 @@ FACT(longest_model_file,
      QII_MODEL_BYTES_MAX == 3 + 4 * 4 + QII_LOCATIONS_MAX * (3 + 4 * (6 * QII_VARIABLES_MAX + 1)) +
                                 QII_SWITCHES_MAX * (3 + 4 * (6 + 4 * QII_VARIABLES_MAX)) +
                                 QII_FORBIDDEN_MAX * (3 + 4 * (1 + 2 * QII_VARIABLES_MAX)));
+FACT(words_of_plant_p, QII_MODEL_WORDS(2, 1, 0, 1) == 22 && QII_TABLE_WORDS(1, 2) == 20);
+FACT(words_of_the_largest_model,
+     QII_MODEL_WORDS(QII_VARIABLES_MAX, QII_LOCATIONS_MAX, QII_SWITCHES_MAX, QII_FORBIDDEN_MAX) ==
+         QII_MODEL_WORDS_MAX);
+FACT(words_of_the_largest_table,
+     QII_TABLE_WORDS(QII_LOCATIONS_MAX, QII_VARIABLES_MAX) == QII_TABLE_WORDS_MAX);
 FACT(refusals_of_the_model_file, QII_MODEL_HEAD == 1 && QII_VARIABLES == 2 && QII_LOCATIONS == 3 &&
-                                     QII_SWITCHES_OR_BOXES == 4 && QII_RECORD_TAG == 6 &&
-                                     QII_RECORD_LENGTH == 7 && QII_MODEL_END == 8);
+                                     QII_SWITCHES_OR_BOXES == 4 && QII_MODEL_SHORT == 5 &&
+                                     QII_RECORD_TAG == 6 && QII_RECORD_LENGTH == 7 &&
+                                     QII_MODEL_END == 8);
+FACT(refusals_of_buffers, QII_TABLE_SHORT == 20 && QII_WORK_SHORT == 21 && QII_DESK_FULL == 22);
 FACT(refusals_of_records, QII_INVARIANT == 11 && QII_RATES == 12 && QII_START == 13 &&
                               QII_SWITCH_PLACE == 14 && QII_SWITCH_BOXES == 15 &&
                               QII_SWITCH_RESET == 16 && QII_SWITCH_SOURCE == 17 &&
@@ -26,8 +35,8 @@ FACT(refusals_of_records, QII_INVARIANT == 11 && QII_RATES == 12 && QII_START ==
 FACT(refusals_of_tables, QII_TABLE_FACE == 32 && QII_TABLE_GROWS == 33 && QII_TABLE_TOUCHES == 34 &&
                              QII_TABLE_HEAD == 35 && QII_FACE_FIELD == 36 && QII_FACE_PLACE == 37 &&
                              QII_TABLE_END == 38 && QII_TABLE_ROOM == 39);
-FACT(answers,
-     QII_SAFE == 100 && QII_UNKNOWN == 101 && QII_UNFINISHED == 102 && QII_ACCEPTED == 100);
+FACT(answers, QII_SAFE == 100 && QII_UNKNOWN == 101 && QII_UNFINISHED == 102);
+FACT(other_names_of_100, QII_ACCEPTED == 100 && QII_DONE == 100);
 
 /* How many of the numbers 0 to 255 are in use: one switch over all enumerators of both enums. */
 static int numbers_in_use(void)
@@ -41,6 +50,7 @@ static int numbers_in_use(void)
         case QII_VARIABLES:
         case QII_LOCATIONS:
         case QII_SWITCHES_OR_BOXES:
+        case QII_MODEL_SHORT:
         case QII_RECORD_TAG:
         case QII_RECORD_LENGTH:
         case QII_MODEL_END:
@@ -53,6 +63,9 @@ static int numbers_in_use(void)
         case QII_SWITCH_SOURCE:
         case QII_SWITCH_TARGET:
         case QII_FORBIDDEN:
+        case QII_TABLE_SHORT:
+        case QII_WORK_SHORT:
+        case QII_DESK_FULL:
         case QII_TABLE_FACE:
         case QII_TABLE_GROWS:
         case QII_TABLE_TOUCHES:
@@ -69,6 +82,25 @@ static int numbers_in_use(void)
         default:
             break;
         }
+    }
+    return count;
+}
+
+/* How many of the numbers 0 to 255 have a meaning of their own. */
+static int meanings(void)
+{
+    const char *none = qii_meaning(0);
+    uint32_t number, other;
+    int count = 0;
+
+    for (number = 0; number < 256; number++) {
+        const char *meaning = qii_meaning(number);
+
+        if (strcmp(meaning, none) == 0)
+            continue;
+        count++;
+        for (other = 0; other < number; other++)
+            count -= strcmp(meaning, qii_meaning(other)) == 0;
     }
     return count;
 }
@@ -94,7 +126,8 @@ static int measures_tables(void)
 
 int main(void)
 {
-    if (numbers_in_use() != 27 || !takes_decided_apart() || !measures_tables()) {
+    if (numbers_in_use() != 31 || meanings() != 31 || !takes_decided_apart() ||
+        !measures_tables()) {
         printf("the header's numbers or functions are wrong\n");
         return 1;
     }

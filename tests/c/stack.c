@@ -1,18 +1,17 @@
 /*
- * stack MODEL.. - both calls on a thread whose stack has exactly the header's QII_STACK_BYTES.
+ * stack MODEL.. - every call on a thread whose stack has exactly the bytes that the header states
+ * for it.
  *
- * The stack and a wide strip below it are painted beforehand. After the calls the strip must be
- * as it was painted, so that a call that needs more is found even where it jumps over a page
- * without touching it, and the calls must have given what they give on the main stack. Prints how
- * deep the deepest call went.
+ * The stack and a wide strip below it are painted beforehand. After the call the strip must be as
+ * it was painted, so that a call that needs more is found even where it jumps over a page without
+ * touching it, and the call must have given what it gives on the main stack. Prints how deep each
+ * call went on its deepest model, beyond what a thread needs that makes no call.
  */
 #define _POSIX_C_SOURCE 200809L
 
-#include "models.h"
-#include "qiifaduleh.h"
+#include "calls.h"
 
 #include <pthread.h>
-#include <string.h>
 
 #define PAGE 4096
 #define STRIP_BYTES (1024 * 1024)
@@ -20,86 +19,100 @@
 #define LIMIT 50
 
 struct job {
-    struct model model;
-    uint64_t decided;
-    uint64_t checked;
+    const struct call *call;
+    const struct inputs *in;
+    struct outcome *out;
 };
 
 /* A strip, then the stack; stacks grow down, towards the strip. */
 static uint8_t *painted;
 
-static uint8_t table[QII_TABLE_BYTES_MAX];
+static struct outcome on_thread, on_main;
 
-static void *call(void *argument)
+static size_t stack_of(int c)
+{
+    return c < CALLS_ON_FILES ? QII_STACK_BYTES : QII_STACK_BYTES_ON_WORDS;
+}
+
+static void *run(void *argument)
 {
     struct job *job = argument;
-    size_t table_len = 0;
 
-    job->decided = decide(job->model.bytes, job->model.len, table, sizeof table, LIMIT);
-    if (qii_code(job->decided) >= QII_SAFE)
-        table_len = qii_table_len(table);
-    job->checked = check(job->model.bytes, job->model.len, table, table_len);
+    if (job->call != NULL)
+        job->call->make(job->in, 0, job->out);
     return NULL;
 }
 
-/* Makes the calls on a thread with the painted stack. */
-static void call_on_stack(struct job *job)
+/* The bytes from the lowest one that was changed to the stack's top. */
+static size_t depth(size_t stack)
 {
+    size_t untouched = 0;
+
+    while (untouched < STRIP_BYTES + stack && painted[untouched] == PAINT)
+        untouched++;
+    return STRIP_BYTES + stack - untouched;
+}
+
+/* Makes a call on a thread with the painted stack; none if it is NULL. Gives the depth. */
+static size_t run_on_stack(const struct call *call, const struct inputs *in, size_t stack)
+{
+    struct job job = {call, in, &on_thread};
     pthread_attr_t attributes;
     pthread_t thread;
 
-    memset(painted, PAINT, STRIP_BYTES + QII_STACK_BYTES);
+    memset(&on_thread, OLD, sizeof on_thread);
+    memset(painted, PAINT, STRIP_BYTES + stack);
     pthread_attr_init(&attributes);
-    if (pthread_attr_setstack(&attributes, painted + STRIP_BYTES, QII_STACK_BYTES) != 0)
-        fail("the stack is not taken", job->model.name);
-    if (pthread_create(&thread, &attributes, call, job) != 0)
-        fail("no thread", job->model.name);
+    if (pthread_attr_setstack(&attributes, painted + STRIP_BYTES, stack) != 0)
+        fail("the stack is not taken", "stack");
+    if (pthread_create(&thread, &attributes, run, &job) != 0)
+        fail("no thread", "stack");
     pthread_join(thread, NULL);
     pthread_attr_destroy(&attributes);
+    return depth(stack);
 }
 
-/* The bytes from the lowest one that was changed to the stack's top. */
-static size_t depth(void)
+/* One call on all models. Gives whether it kept within its stack. */
+static int holds(int c, struct inputs **in, int models)
 {
-    size_t whole = STRIP_BYTES + QII_STACK_BYTES;
-    size_t untouched = 0;
+    size_t stack = stack_of(c);
+    size_t thread = run_on_stack(NULL, NULL, stack);
+    size_t deepest = 0;
+    int m;
 
-    while (untouched < whole && painted[untouched] == PAINT)
-        untouched++;
-    return whole - untouched;
-}
+    for (m = 0; m < models; m++) {
+        size_t deep = run_on_stack(&calls[c], in[m], stack);
 
-/* Both calls for one model, on the painted stack and on the main one. Gives the depth. */
-static size_t measure(const char *name)
-{
-    struct job job = {load(name), 0, 0};
-    struct job main_job = job;
-
-    call_on_stack(&job);
-    call(&main_job);
-    if (job.decided != main_job.decided || job.checked != main_job.checked)
-        fail("the thread's calls differ from the main stack's", name);
-    free(job.model.bytes);
-    return depth();
+        make(&calls[c], in[m], 0, &on_main);
+        if (memcmp(&on_thread, &on_main, sizeof on_main) != 0)
+            fail("the thread's call differs from the main stack's", calls[c].name);
+        if (deep > deepest)
+            deepest = deep;
+    }
+    printf("%s used %zu bytes on a stack of %zu, and the thread itself %zu\n", calls[c].name,
+           deepest - thread, stack, thread);
+    return deepest <= stack;
 }
 
 int main(int argc, char **argv)
 {
-    size_t deepest = 0;
+    int models = argc - 1;
+    struct inputs **in = calloc((size_t)(models + 1), sizeof *in);
     void *memory = NULL;
-    int i;
+    int c, m, wrong = 0;
 
-    if (argc < 2 || posix_memalign(&memory, PAGE, STRIP_BYTES + QII_STACK_BYTES) != 0)
+    if (models == 0 || in == NULL ||
+        posix_memalign(&memory, PAGE, STRIP_BYTES + QII_STACK_BYTES) != 0)
         fail("no models or no memory", "stack");
     painted = memory;
-    for (i = 1; i < argc; i++) {
-        size_t deep = measure(argv[i]);
-
-        if (deep > deepest)
-            deepest = deep;
-    }
-    printf("%d models decided and checked on a thread with a stack of %d bytes: %zu bytes used\n",
-           argc - 1, QII_STACK_BYTES, deepest);
+    for (m = 0; m < models; m++)
+        in[m] = inputs_of(argv[1 + m], LIMIT);
+    for (c = 0; c < CALLS; c++)
+        wrong += !holds(c, in, models);
+    printf("%d models, %d calls: %d went below their stack\n", models, CALLS, wrong);
+    for (m = 0; m < models; m++)
+        free_inputs(in[m]);
+    free(in);
     free(painted);
-    return deepest > QII_STACK_BYTES;
+    return wrong != 0;
 }

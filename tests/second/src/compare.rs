@@ -1,13 +1,16 @@
-//! Compares another implementation of the host's two calls with this one, on fixed cases
-//! (module `fixed`), random models and damaged inputs.
+//! Compares another implementation of the C calls with this one, on fixed cases (module `fixed`),
+//! random models and damaged inputs. decide and check are compared here, the others in module
+//! `lending`.
 
 use std::fmt;
 
 use crate::coverage::{note, Counts};
+use crate::desk::Desk;
+use crate::exports::{Call, Input, Lent};
 use crate::files::{field, model_file, parse_table, table_file};
 use crate::generate::{
-    close, damage_bytes, damage_faces, damaged_table_file, edited_model_file, pass_budget, random_limit, random_model,
-    random_table,
+    close, damage_bytes, damage_faces, damaged_table_file, edited_model_file, extreme_model, long_model, pass_budget,
+    random_limit, random_model, random_table,
 };
 use crate::host;
 use crate::model::Plant;
@@ -23,11 +26,17 @@ const MARGIN: usize = 32;
 /// Random runs on each model answered safe or unknown.
 const RUNS: u64 = 2;
 
-/// The two calls that are compared with this package's own.
+/// One model in so many has its levels and rates at both ends of what is allowed.
+const EXTREME_ONE_IN: u64 = 20;
+/// One model in so many takes thousands of passes; none where the comparison is tight.
+const LONG_ONE_IN: u64 = 150;
+
+/// The calls that are compared with this package's own.
 #[derive(Clone, Copy)]
 pub struct Tested {
     pub decide: fn(&[u8], &mut [u8], u32) -> u64,
     pub check: fn(&[u8], &[u8]) -> u64,
+    pub answer: fn(Call, &Input, &mut Lent) -> u32,
 }
 
 /// The first difference, with its whole input.
@@ -42,9 +51,15 @@ impl fmt::Debug for Difference {
 }
 
 pub struct Comparison {
-    tested: Tested,
+    pub(crate) tested: Tested,
     pub(crate) random: Random,
     pub counts: Counts,
+    /// A desk that stands through the whole comparison, with what its answers make of it.
+    pub(crate) desk: Desk,
+    pub(crate) answered: u64,
+    pub(crate) passes: u64,
+    /// The last models' words, for lists of desk calls.
+    pub(crate) recent: Vec<Vec<i32>>,
     /// Print every input before the tested call, for a program that stops within a call.
     pub trace: bool,
     /// Lend buffers that end where their heap block ends, for a run under a memory checker.
@@ -75,7 +90,17 @@ impl Placed {
 
 impl Comparison {
     pub fn new(tested: Tested, seed: u64) -> Comparison {
-        Comparison { tested, random: Random::new(seed), counts: Counts::default(), trace: false, tight: false }
+        Comparison {
+            tested,
+            random: Random::new(seed),
+            counts: Counts::default(),
+            desk: Desk::default(),
+            answered: 0,
+            passes: 0,
+            recent: Vec::new(),
+            trace: false,
+            tight: false,
+        }
     }
 
     fn placed(&mut self, bytes: &[u8]) -> Placed {
@@ -135,6 +160,7 @@ impl Comparison {
         }
         *self.counts.decide.entry((our_number >> 32) as u32).or_default() += 1;
         self.counts.most_passes = self.counts.most_passes.max(our_number as u32);
+        self.counts.extreme("decide of more than 1,500 passes", our_number as u32 > 1_500);
         Ok((our_number, theirs))
     }
 
@@ -169,14 +195,34 @@ impl Comparison {
     }
 
     /// One random model: decide, what the answer says of tables and runs, check of several
-    /// tables, then `damaged` damaged inputs.
+    /// tables, every other call, a list of desk calls, then `damaged` damaged inputs of decide and
+    /// check and as many of the other calls.
     pub fn random_case(&mut self, damaged: u64) -> Result<(), Difference> {
-        let words = random_model(&mut self.random).words();
+        let words = if self.random.chance(1, EXTREME_ONE_IN) {
+            extreme_model(&mut self.random).words()
+        } else {
+            random_model(&mut self.random).words()
+        };
         let plant = Plant::from_words(&words).expect("a random model passes its questions");
-        let model = model_file(&words);
-        let room = plant.sizes.table_file_room();
         let limit = random_limit(&mut self.random, &plant);
-        self.counts.note_model(&plant, limit);
+        self.model_case(&plant, limit, damaged)?;
+        self.keep_model(words);
+        if self.random.chance(1, 3) {
+            self.desk_list()?;
+        }
+        if !self.tight && self.random.chance(1, LONG_ONE_IN) {
+            let words = long_model(&mut self.random).words();
+            let plant = Plant::from_words(&words).expect("a long model passes its questions");
+            let limit = self.random.pick(&[u32::MAX, 100_000, 1_600]);
+            self.model_case(&plant, limit, 0)?;
+        }
+        Ok(())
+    }
+
+    fn model_case(&mut self, plant: &Plant, limit: u32, damaged: u64) -> Result<(), Difference> {
+        let model = model_file(plant.words());
+        let room = plant.sizes.table_file_room();
+        self.counts.note_model(plant, limit);
         let length = match self.random.below(10) {
             0 => self.random.below(room),
             1 => room - 1,
@@ -186,21 +232,23 @@ impl Comparison {
         let (number, buffer) = self.decide("a random model", &model, length, limit)?;
         let code = number >> 32;
         if code >= 100 {
-            self.answer_case(&plant, &model, code, written_table(&plant, &buffer))?;
+            self.answer_case(plant, &model, code, written_table(plant, &buffer))?;
         }
 
         let mut rest = vec![0; plant.sizes.table_words()];
-        close(&plant, &mut rest, pass_budget(&plant.sizes));
-        let mut other = random_table(&mut self.random, &plant);
+        close(plant, &mut rest, pass_budget(&plant.sizes));
+        let mut other = random_table(&mut self.random, plant);
         if self.random.chance(1, 2) {
-            close(&plant, &mut other, pass_budget(&plant.sizes).min(50));
+            close(plant, &mut other, pass_budget(&plant.sizes).min(50));
         }
         for (label, table) in [("the table at rest", &rest), ("a random table", &other)] {
-            let checked = self.check(label, &model, &table_file(&plant, table))?;
+            let checked = self.check(label, &model, &table_file(plant, table))?;
             self.hold_unknown(code, checked)?;
         }
+        self.calls_case(plant, limit, &rest, &other)?;
         for _ in 0..damaged {
-            self.damaged_case(&plant, &model, &rest, &other)?;
+            self.damaged_case(plant, &model, &rest, &other)?;
+            self.damaged_call(plant, &rest, &other)?;
         }
         Ok(())
     }
@@ -273,7 +321,7 @@ impl Comparison {
         note(&mut self.counts.damage, format!("{what}: {kind}"));
     }
 
-    fn damaged_table(&mut self, plant: &Plant, table: &[i32]) -> Vec<u8> {
+    pub(crate) fn damaged_table(&mut self, plant: &Plant, table: &[i32]) -> Vec<u8> {
         if self.random.chance(2, 3) {
             let (file, kind) = damaged_table_file(&mut self.random, plant, table);
             self.note_damage("table", kind);
@@ -288,7 +336,7 @@ impl Comparison {
         table_file(plant, &damaged)
     }
 
-    fn damaged_model(&mut self, plant: &Plant, model: &[u8]) -> Vec<u8> {
+    pub(crate) fn damaged_model(&mut self, plant: &Plant, model: &[u8]) -> Vec<u8> {
         let random = &mut self.random;
         match random.below(20) {
             0..=11 => {

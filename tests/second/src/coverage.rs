@@ -4,8 +4,10 @@
 use std::collections::BTreeMap;
 
 use crate::ceiling;
-use crate::generate::{BYTE_DAMAGE, FACES_DAMAGE, FIELD_DAMAGE};
-use crate::model::{ordered_inside, Plant, LEVEL, MAX_FORBIDDEN, MAX_LOCATIONS, MAX_SWITCHES, RATE};
+use crate::exports::Call;
+use crate::generate::{BYTE_DAMAGE, FACES_DAMAGE, FIELD_DAMAGE, TABLE_DAMAGE};
+use crate::lending::{DESK_CALLS, DESK_STARTS, LENGTH_KINDS};
+use crate::model::{ordered_inside, Location, Plant, LEVEL, MAX_FORBIDDEN, MAX_LOCATIONS, MAX_SWITCHES, RATE};
 use crate::simulate::Travelled;
 
 /// The numbers that each call can give: refusals, then answers.
@@ -37,6 +39,28 @@ pub const LIMIT_KINDS: [&str; 5] = ["0", "1 to 3", "4 to the ceiling", "above th
 pub const OTHER_DAMAGE: [&str; 4] =
     ["words at the edge of a question", "such words, then bytes", "random bytes", "a head and nothing else"];
 
+/// Damage to model words.
+pub const WORDS_DAMAGE: [&str; 5] = [
+    "cut anywhere",
+    "cut at the head",
+    "random words",
+    "edited, and words behind it",
+    "words at the edge of a question",
+];
+
+/// Extremes, and how often each must come up under the full counts.
+pub const EXTREMES: [(&str, u64); 9] = [
+    ("rates of -1,000 and 1,000 in one location", 300),
+    ("a variable from -1,000,000 to 1,000,000", 300),
+    ("such rates and such a variable in one location", 300),
+    ("a rate range of -1,000..1,000", 100),
+    ("a face from -1,000,000 to 1,000,000", 100),
+    ("a ceiling above 4,294,967,295", 20),
+    ("decide of more than 1,500 passes", 50),
+    ("qii_analyse of more than 1,500 passes", 50),
+    ("qii_desk of more than 1,500 passes", 50),
+];
+
 /// Counts by kind.
 pub type Tally = BTreeMap<String, u64>;
 
@@ -54,6 +78,15 @@ pub struct Counts {
     /// Calls by the number that decide or check gave.
     pub decide: BTreeMap<u32, u64>,
     pub check: BTreeMap<u32, u64>,
+    /// Calls by call and the number that it gave, of the others.
+    pub calls: BTreeMap<Call, BTreeMap<u32, u64>>,
+    /// The lengths of their slices, against those that are due.
+    pub lengths: Tally,
+    pub damaged_calls: u64,
+    /// Lists of desk calls, and what came up in them.
+    pub desk_lists: u64,
+    pub desks: Tally,
+    pub extremes: Tally,
     /// The most passes of an answer.
     pub most_passes: u32,
     /// Safe answers whose table was accepted.
@@ -76,7 +109,33 @@ impl Counts {
         for kind in model_kinds(plant) {
             note(&mut self.model_kinds, kind);
         }
+        self.note_extremes(plant);
         note(&mut self.limits, limit_kind(plant, limit));
+    }
+
+    /// Counts an extreme if it came up.
+    pub fn extreme(&mut self, kind: &str, is: bool) {
+        if is {
+            note(&mut self.extremes, kind);
+        }
+    }
+
+    fn note_extremes(&mut self, plant: &Plant) {
+        let locations = || (0..plant.sizes.locations).map(|l| plant.location(l));
+        let rates = |l: &Location| l.rates.contains(&RATE) && l.rates.contains(&-RATE);
+        let levels = |l: &Location| l.invariant.chunks_exact(2).any(|r| r == [-LEVEL, LEVEL]);
+        let wide_rates = |l: &Location| l.rates.chunks_exact(2).any(|r| r == [-RATE, RATE]);
+        self.extreme(EXTREMES[0].0, locations().any(|l| rates(&l)));
+        self.extreme(EXTREMES[1].0, locations().any(|l| levels(&l)));
+        self.extreme(EXTREMES[2].0, locations().any(|l| rates(&l) && levels(&l)));
+        self.extreme(EXTREMES[3].0, locations().any(|l| wide_rates(&l)));
+    }
+
+    /// Extremes that did not come up as often as they must under the full counts.
+    pub fn too_seldom(&self) -> Vec<String> {
+        let count = |kind: &str| self.extremes.get(kind).copied().unwrap_or(0);
+        let seldom = EXTREMES.iter().filter(|(kind, least)| count(kind) < *least);
+        seldom.map(|(kind, least)| format!("{kind} ({} of {least} times)", count(kind))).collect()
     }
 
     /// All that is listed and never came up.
@@ -89,6 +148,12 @@ impl Counts {
         };
         DECIDE_NUMBERS.iter().for_each(|n| expect(&format!("decide {n}"), self.decide.contains_key(n)));
         CHECK_NUMBERS.iter().for_each(|n| expect(&format!("check {n}"), self.check.contains_key(n)));
+        for call in Call::ALL {
+            let seen = |n: &u32| self.calls.get(&call).is_some_and(|numbers| numbers.contains_key(n));
+            call.numbers().iter().for_each(|n| expect(&format!("{} {n}", call.name()), seen(n)));
+        }
+        all_lengths().iter().for_each(|kind| expect(kind, self.lengths.contains_key(kind)));
+        DESK_STARTS.iter().chain(&DESK_CALLS).for_each(|kind| expect(kind, self.desks.contains_key(*kind)));
         (1..=6).for_each(|n| expect(&format!("n {n}"), self.by_n[n] > 0));
         MODEL_KINDS.iter().for_each(|kind| expect(kind, self.model_kinds.contains_key(*kind)));
         LIMIT_KINDS.iter().for_each(|kind| expect(&format!("limit {kind}"), self.limits.contains_key(*kind)));
@@ -105,7 +170,20 @@ impl Counts {
 pub fn all_damage() -> Vec<String> {
     let model = BYTE_DAMAGE.iter().chain(&OTHER_DAMAGE).map(|kind| format!("model: {kind}"));
     let table = BYTE_DAMAGE.iter().chain(FACES_DAMAGE).chain(&FIELD_DAMAGE).map(|kind| format!("table: {kind}"));
-    model.chain(table).collect()
+    let model_words = WORDS_DAMAGE.iter().map(|kind| format!("model words: {kind}"));
+    let table_words = TABLE_DAMAGE.iter().map(|kind| format!("table words: {kind}"));
+    model.chain(table).chain(model_words).chain(table_words).collect()
+}
+
+/// The kinds of lengths that must come up, of every slice of every call.
+pub fn all_lengths() -> Vec<String> {
+    let mut kinds = Vec::new();
+    for call in Call::ALL {
+        for slice in call.slices() {
+            kinds.extend(LENGTH_KINDS[..4].iter().map(|kind| format!("{} {slice:?} {kind}", call.name())));
+        }
+    }
+    kinds
 }
 
 fn limit_kind(plant: &Plant, limit: u32) -> &'static str {

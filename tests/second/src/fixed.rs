@@ -1,5 +1,6 @@
 //! The comparison's fixed cases: document 01's, source 000's examples, the sample models, and
-//! sweeps over every cut, every bit and every word of small files.
+//! sweeps over every cut, every bit and every word of small files. Those of the calls beside decide
+//! and check stand in `fixed_calls`.
 
 use crate::compare::{hex, written_table, Comparison, Difference, MOST_ROOM};
 use crate::draft::{Draft, LocationDraft};
@@ -13,7 +14,7 @@ use crate::samples;
 const P_ROOM: usize = 7 + 4 * (11 + 16);
 
 /// Words at the edges of the questions.
-const EDGES: [i32; 25] = [
+pub(crate) const EDGES: [i32; 25] = [
     i32::MIN,
     -LEVEL - 1,
     -LEVEL,
@@ -97,7 +98,8 @@ impl Comparison {
         self.sample_models()?;
         self.cuts_and_bits()?;
         self.words_of_a_model()?;
-        self.words_of_a_table()
+        self.words_of_a_table()?;
+        self.fixed_calls()
     }
 
     /// A decide call whose number the document gives.

@@ -22,6 +22,83 @@ pub fn random_model(random: &mut Random) -> Draft {
     draft
 }
 
+/// A random model whose levels and rates lie at both ends of what is allowed, or beside them.
+pub fn extreme_model(random: &mut Random) -> Draft {
+    const LEVELS: [i32; 7] = [-LEVEL, -LEVEL + 1, -1, 0, 1, LEVEL - 1, LEVEL];
+    const RATES: [i32; 9] = [-RATE, -RATE, 1 - RATE, -1, 0, 1, RATE - 1, RATE, RATE];
+    // Now and then so many locations and variables that the ceiling needs more than 32 bits.
+    let (n, locations) =
+        if random.chance(1, 12) { (6, 40 + random.below(25)) } else { (random_n(random), 1 + random.below(4)) };
+    let mut draft = Draft { n, ..Draft::default() };
+    for _ in 0..locations {
+        let mut ends = |list: &[i32]| -> Vec<i32> {
+            (0..n)
+                .flat_map(|_| {
+                    let (x, y) = (random.pick(list), random.pick(list));
+                    [x.min(y), x.max(y)]
+                })
+                .collect()
+        };
+        let rates = ends(&RATES);
+        let mut invariant = ends(&LEVELS);
+        for range in invariant.chunks_exact_mut(2) {
+            if random.chance(2, 3) {
+                range.copy_from_slice(&[-LEVEL, LEVEL]);
+            }
+        }
+        draft.locations.push(LocationDraft { invariant, rates, start: None });
+    }
+    for _ in 0..random.below(6) {
+        let switch = random_switch(random, &draft);
+        draft.switches.push(switch);
+    }
+    random_starts(random, &mut draft);
+    random_forbidden(random, &mut draft);
+    draft
+}
+
+/// A random plant whose table grows for thousands of passes, as `examples::dosing` does: a stroke x
+/// goes up and is set back, in one location or a ring of them, and the level y rises or falls
+/// meanwhile by a dose. Each of the many doses takes two passes.
+pub fn long_model(random: &mut Random) -> Draft {
+    let locations = 1 + random.below(3);
+    let stroke = random.range(1, 5) as i32;
+    let rate = random.pick(&[1, 2, RATE]);
+    let flow = random.range(1, (3 * rate / stroke).clamp(1, RATE) as i64) as i32;
+    // What a stroke adds, rounded up as the wall step does.
+    let dose = (flow * stroke + rate - 1) / rate;
+    let low = random.range(-5_000, 5_000) as i32;
+    let high = low + dose * random.range(800, 2_000) as i32;
+    let falls = random.chance(1, 2);
+    let (first, rates) = if falls { (high, [-flow, 0]) } else { (low, [0, flow]) };
+    let mut draft = Draft { n: 2, ..Draft::default() };
+    for l in 0..locations {
+        draft.locations.push(LocationDraft {
+            invariant: vec![0, stroke, low, high],
+            rates: vec![rate, rate, rates[0], rates[1]],
+            start: (l == 0).then(|| vec![0, 0, first, first]),
+        });
+        draft.switches.push(SwitchDraft {
+            source: l,
+            target: (l + 1) % locations,
+            d: 0,
+            source_side: 1,
+            target_side: 0,
+            mask: 0b01,
+            guard: vec![stroke, stroke, low, high],
+            reset: vec![0, 0, low, high],
+        });
+    }
+    // The far end of the level: forbidden where it is reached last, or where nothing reaches.
+    let far = if falls { low } else { high };
+    match random.below(3) {
+        0 => draft.forbidden.push((0, vec![0, stroke, far, far])),
+        1 => draft.forbidden.push((0, vec![0, stroke, high + 1, high + 2])),
+        _ => {}
+    }
+    draft
+}
+
 fn random_n(random: &mut Random) -> usize {
     random.pick(&[1, 1, 2, 2, 2, 2, 2, 3, 3, 3, 4, 4, 5, 6])
 }
@@ -532,15 +609,24 @@ pub fn model_edit(random: &mut Random, plant: &Plant) -> Vec<(usize, i32)> {
     }
 }
 
-/// The model file with one or two changes of `model_edit`.
-pub fn edited_model_file(random: &mut Random, plant: &Plant) -> Vec<u8> {
-    let mut bytes = model_file(plant.words());
+/// The model's words with one or two changes of `model_edit`.
+pub fn edited_words(random: &mut Random, plant: &Plant) -> Vec<i32> {
+    let mut words = plant.words().to_vec();
     let edits = if random.chance(1, 5) { 2 } else { 1 };
     for _ in 0..edits {
         for (index, word) in model_edit(random, plant) {
-            let place = byte_of_word(&plant.sizes, index);
-            bytes[place..place + 4].copy_from_slice(&word.to_be_bytes());
+            words[index] = word;
         }
+    }
+    words
+}
+
+/// The model file with such changes; its fields stay those of the model.
+pub fn edited_model_file(random: &mut Random, plant: &Plant) -> Vec<u8> {
+    let mut bytes = model_file(plant.words());
+    for (index, word) in edited_words(random, plant).into_iter().enumerate() {
+        let place = byte_of_word(&plant.sizes, index);
+        bytes[place..place + 4].copy_from_slice(&word.to_be_bytes());
     }
     bytes
 }

@@ -15,8 +15,9 @@
 //! * `simulate`  – random runs, from the section "Runs" alone
 //! * `generate`  – random models and damaged inputs; `random` is its number source
 //! * `examples`  – document 01's plant P, source 000's examples and more; `samples` names those in `models`
-//! * `compare`   – compares two implementations of the host calls; `fixed` has its fixed cases,
-//!   `coverage` counts what came up
+//! * `exports`   – the C calls beside decide and check: number, value, lent memory
+//! * `compare`   – compares two implementations of the C calls, `lending` those of `exports`;
+//!   `fixed` and `fixed_calls` have the fixed cases, `coverage` counts what came up
 //! * `host_ffi`  – the C calls of libhost.a (feature `host`), or a stand-in
 
 pub mod analysis;
@@ -29,12 +30,15 @@ pub mod delays;
 pub mod desk;
 pub mod draft;
 pub mod examples;
+pub mod exports;
 pub mod files;
 pub mod fixed;
+pub mod fixed_calls;
 pub mod fraction;
 pub mod generate;
 pub mod host;
 pub mod host_ffi;
+pub mod lending;
 pub mod listing;
 pub mod model;
 pub mod plain;

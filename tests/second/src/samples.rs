@@ -1,8 +1,13 @@
-//! The sample model files of the folder `models`.
+//! The sample model files and table files of the folder `models`.
 
+use crate::analysis::run;
 use crate::draft::Draft;
-use crate::examples::{dosing, figure_1, guarded_box, large_grid, plant_p, plant_p_unknown, two_tank, water_level};
-use crate::files::model_file;
+use crate::examples::{
+    dosing, figure_1, guarded_box, large_grid, plant_p, plant_p_table, plant_p_unknown, plant_p_wider, two_tank,
+    water_level,
+};
+use crate::files::{model_file, table_file};
+use crate::model::Plant;
 
 /// Every sample by name.
 pub fn all() -> Vec<(&'static str, Vec<u8>)> {
@@ -44,4 +49,35 @@ fn refused() -> Vec<(&'static str, Vec<u8>)> {
         ("refused-trailing", trailing),
         ("refused-level", model_file(&too_high.words())),
     ]
+}
+
+/// Sample tables, each with the number that check gives for it and its model, which is named by the
+/// words before the dot.
+pub fn tables() -> Vec<(&'static str, Vec<u8>, u64)> {
+    let table_of_p = |change: fn(&mut Vec<i32>)| {
+        let words = plant_p().words();
+        let mut table = plant_p_table();
+        change(&mut table);
+        table_file(&Plant::from_words(&words).expect("P passes its questions"), &table)
+    };
+    let whole = table_of_p(|_| {});
+    vec![
+        ("plant-p", whole.clone(), 100),
+        ("plant-p.wider", table_of_p(|table| *table = plant_p_wider()), 100),
+        ("plant-p.narrow", table_of_p(|table| table[16] = 3), 33),
+        ("plant-p.off-wall", table_of_p(|table| table[18] = 9), 32),
+        ("plant-p.cut", whole[..whole.len() - 1].to_vec(), 36),
+        ("plant-p-unknown", whole, 34),
+        ("two-tanks", answers_table(&two_tank(59)), 100),
+    ]
+}
+
+/// The file of a plant's table after all its passes.
+fn answers_table(draft: &Draft) -> Vec<u8> {
+    let words = draft.words();
+    let plant = Plant::from_words(&words).expect("a sample passes its questions");
+    let mut table = vec![0; plant.sizes.table_words()];
+    let mut work = table.clone();
+    run(&plant, 1_000, &mut table, &mut work);
+    table_file(&plant, &table)
 }

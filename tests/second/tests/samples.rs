@@ -36,6 +36,17 @@ fn first_lines() {
     }
 }
 
+/// What check gives for each sample table.
+#[test]
+fn tables() {
+    let models = samples::all();
+    for (name, table, number) in samples::tables() {
+        let model = name.split('.').next().unwrap();
+        let (_, file) = models.iter().find(|(name, _)| *name == model).expect("a table's model is a sample");
+        assert_eq!(second::host::check(file, &table), number, "{name}");
+    }
+}
+
 /// Runs of the water-level plant against its answer's table, or against no faces at all.
 fn travelled(lag: i32, with_table: bool) -> Travelled {
     let words = water_level(lag).words();

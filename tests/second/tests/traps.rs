@@ -5,6 +5,7 @@
 use std::cell::Cell;
 
 use second::compare::{Comparison, Tested};
+use second::exports::answer;
 use second::files::{model_of_file, parse_table, table_file};
 use second::host;
 use second::model::Plant;
@@ -298,7 +299,7 @@ fn check(model: &[u8], table: &[u8]) -> u64 {
 /// How many random models were compared until the mistake was found; None if it was not.
 fn found_after(trap: u8, models: u64) -> Option<u64> {
     TRAP.set(trap);
-    let tested = Tested { decide, check };
+    let tested = Tested { decide, check, answer };
     let mut comparison = Comparison::new(tested, 77);
     for number in 0..models {
         if comparison.random_case(2).is_err() {
@@ -361,12 +362,12 @@ fn wrong_memory_and_numbers_are_found() {
         }
     }
     for wrong in [clears_on_refusal, clears_the_rest, no_file_for_unknown, plain_refusal] {
-        let mut comparison = Comparison::new(Tested { decide: wrong, check: host::check }, 5);
+        let mut comparison = Comparison::new(Tested { decide: wrong, check: host::check, answer }, 5);
         assert!(comparison.all(300, 600).is_err());
     }
-    let mut comparison = Comparison::new(Tested { decide: host::decide, check: eight_for_six }, 5);
+    let mut comparison = Comparison::new(Tested { decide: host::decide, check: eight_for_six, answer }, 5);
     assert!(comparison.all(300, 600).is_err());
     // And the right ones are not.
-    let mut comparison = Comparison::new(Tested { decide: host::decide, check: host::check }, 5);
+    let mut comparison = Comparison::new(Tested { decide: host::decide, check: host::check, answer }, 5);
     comparison.all(300, 600).unwrap();
 }

@@ -1,14 +1,16 @@
-//! Compares decide and check of libhost.a with the second implementation.
+//! Compares every call of libhost.a with the second implementation.
 //!
 //!     HOST_LIB_DIR=<directory of libhost.a> \
 //!         cargo run --release --offline --features host --bin compare [models] [damaged] [seed]
 //!
-//! Exit status: 0 no difference; 1 a difference, printed with its input in hex; 2 some
-//! number that a call can give, or some kind of input, never came up under the full counts;
-//! 3 built without the library (then only `--dry` runs: the second implementation against
-//! itself). `--trace` prints every input to standard error before the tested call, for a
-//! program that stops within one. `--tight` lends buffers that end where their heap block
-//! ends, for a run under a memory checker; `--random-only` leaves the fixed cases out.
+//! Exit status: 0 no difference; 1 a difference, printed with its input; 2 some number that a call
+//! can give, or some kind of input, came up never or too seldom under the full counts; 3 built
+//! without the library (then only `--dry` runs: the second implementation against itself).
+//!
+//! `--trace` prints every input to standard error before the tested call, for a program that stops
+//! within one. `--tight` lends buffers that end where their heap block ends, for a run under a
+//! memory checker, and leaves out the models of thousands of passes. `--random-only` leaves the
+//! fixed cases out. `--every` wants every number and kind under fewer counts too.
 
 use second::compare::{Comparison, Tested};
 use second::coverage::{Counts, Tally};
@@ -28,10 +30,20 @@ fn print_counts(counts: &Counts) {
     println!("  with {}", listed(&counts.model_kinds));
     println!("  under limits {}", listed(&counts.limits));
     println!("  most passes of an answer: {}", counts.most_passes);
-    println!("damaged inputs compared: {}", counts.damaged);
+    println!("damaged inputs compared: {} of decide and check, {} of the others", counts.damaged, counts.damaged_calls);
     println!("  {}", listed(&counts.damage));
     println!("decide gave {:?}", counts.decide);
     println!("check gave {:?}", counts.check);
+    for (call, numbers) in &counts.calls {
+        println!("{} gave {numbers:?}", call.name());
+    }
+    println!(
+        "their slices by length: {} kinds, each at least {} times",
+        counts.lengths.len(),
+        counts.lengths.values().min().unwrap_or(&0)
+    );
+    println!("lists of desk calls: {}, with {}", counts.desk_lists, listed(&counts.desks));
+    println!("extremes: {}", listed(&counts.extremes));
     println!(
         "tables accepted of {} safe answers, {} tables refused for models answered unknown",
         counts.accepted, counts.refused
@@ -53,7 +65,8 @@ fn main() {
     let trace = arguments.iter().any(|a| a == "--trace");
     let tight = arguments.iter().any(|a| a == "--tight");
     let random_only = arguments.iter().any(|a| a == "--random-only");
-    arguments.retain(|a| !["--dry", "--trace", "--tight", "--random-only"].contains(&a.as_str()));
+    let every = arguments.iter().any(|a| a == "--every");
+    arguments.retain(|a| !a.starts_with("--"));
     let number = |place: usize, usual: u64| match arguments.get(place) {
         Some(text) => text.parse().unwrap_or_else(|_| panic!("not a number: {text}")),
         None => usual,
@@ -68,7 +81,7 @@ fn main() {
     }
     println!("seed {seed}, {models} random models, {damaged} damaged inputs");
 
-    let tested = Tested { decide: host_ffi::decide, check: host_ffi::check };
+    let tested = Tested { decide: host_ffi::decide, check: host_ffi::check, answer: host_ffi::answer };
     let mut comparison = Comparison::new(tested, seed);
     comparison.trace = trace;
     comparison.tight = tight;
@@ -79,12 +92,16 @@ fn main() {
         println!("DIFFERENCE\n{difference:?}");
         std::process::exit(1);
     }
-    let not_seen = counts.not_seen();
-    if not_seen.is_empty() {
-        println!("every number of both calls and every kind of input came up");
+    let full = models >= MODELS && damaged >= DAMAGED;
+    let mut missing = counts.not_seen();
+    if full {
+        missing.extend(counts.too_seldom());
+    }
+    if missing.is_empty() {
+        println!("every number of every call and every kind of input came up");
     } else {
-        println!("never came up: {}", not_seen.join(", "));
-        if models >= MODELS && damaged >= DAMAGED {
+        println!("did not come up, or not often enough: {}", missing.join(", "));
+        if full || every {
             std::process::exit(2);
         }
     }

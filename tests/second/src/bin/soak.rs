@@ -4,18 +4,21 @@
 //!     HOST_LIB_DIR=<directory of libhost.a> \
 //!         cargo run --release --offline --features host --bin soak [calls] [seed]
 //!
-//! A pool of valid and damaged inputs is made once, and the calls go through it over and over.
-//! Nothing is allocated between the calls. Exit status: 0 all held; 1 an answer changed or the
-//! memory grew; 3 built without the library.
+//! A pool of valid and damaged inputs of all calls is made once, and the calls go through it over
+//! and over. One desk stands all the while, from fresh on: its counters must be what the answers
+//! make them. Nothing is allocated between the calls. Exit status: 0 all held; 1 an answer changed,
+//! the desk's counters are wrong, or the memory grew; 3 built without the library.
 
 use std::collections::BTreeMap;
 use std::fs::File;
 use std::io::Read;
 
 use second::compare::MOST_ROOM;
+use second::exports::{Call, Input, Lent};
 use second::files::{model_file, table_file};
 use second::generate::{
-    close, damage_bytes, damaged_table_file, edited_model_file, pass_budget, random_limit, random_model, random_table,
+    close, damage_bytes, damage_table, damaged_table_file, edited_model_file, edited_words, pass_budget, random_limit,
+    random_model, random_table,
 };
 use second::host_ffi;
 use second::model::Plant;
@@ -29,63 +32,122 @@ const MODELS: usize = 1_000;
 const MOST_PASSES: u32 = 40;
 /// How often the resident memory is looked at: this many times, evenly.
 const LOOKS: u64 = 100;
-/// What decide's buffer holds before each call.
+/// What the buffers hold before each call.
 const OLD: u8 = 0xC3;
+const OLD_WORD: i32 = 0x3C3C_3C3C;
+/// Words of the largest model and the largest table.
+const MOST_WORDS: usize = 9_984;
 
-enum Call {
+/// One call with its input.
+enum Asked {
     Decide { model: Vec<u8>, length: usize, limit: u32 },
     Check { model: Vec<u8>, table: Vec<u8> },
+    Other { call: Call, model: Vec<i32>, table: Vec<i32>, file: Vec<u8>, limit: u32, words: usize, room: usize },
 }
 
-/// What a call gave: its number, and a sum over decide's buffer.
+/// What a call gave: number and value, and a sum over all lent buffers.
 #[derive(Clone, Copy, PartialEq)]
 struct Outcome {
     number: u64,
+    value: u64,
     sum: u64,
 }
 
-/// The sum of a buffer's bytes, in which every byte and its place count (FNV-1a).
-fn sum(bytes: &[u8]) -> u64 {
-    bytes.iter().fold(0xCBF2_9CE4_8422_2325, |sum, &b| (sum ^ b as u64).wrapping_mul(0x0100_0000_01B3))
+/// All memory that is lent, and the desk that stands.
+struct Memory {
+    file: Vec<u8>,
+    words: Vec<i32>,
+    work: Vec<i32>,
+    jobs: u32,
+    passes: u32,
 }
 
-/// Inputs made from one model: two that are answered, four that are damaged.
-fn inputs_of_a_model(random: &mut Random, pool: &mut Vec<Call>) {
+/// The sum of a buffer, in which every byte or word and its place count (FNV-1a).
+fn sum(start: u64, list: impl Iterator<Item = u64>) -> u64 {
+    list.fold(start, |sum, part| (sum ^ part).wrapping_mul(0x0100_0000_01B3))
+}
+
+/// Inputs made from one model: for every call one that is answered, for most a damaged one too.
+fn inputs_of_a_model(random: &mut Random, pool: &mut Vec<Asked>) {
     let words = random_model(random).words();
     let plant = Plant::from_words(&words).expect("a random model passes its questions");
     let model = model_file(&words);
     let length = plant.sizes.table_file_room();
+    let size = plant.sizes.table_words();
     let limit = random_limit(random, &plant).min(MOST_PASSES);
-    let mut table = if random.chance(1, 2) { vec![0; plant.sizes.table_words()] } else { random_table(random, &plant) };
+    let mut table = if random.chance(1, 2) { vec![0; size] } else { random_table(random, &plant) };
     close(&plant, &mut table, pass_budget(&plant.sizes));
     let mut broken = model.clone();
     damage_bytes(random, &mut broken);
     let short = random.below(length);
-    pool.push(Call::Check { model: model.clone(), table: table_file(&plant, &table) });
-    pool.push(Call::Check { model: model.clone(), table: damaged_table_file(random, &plant, &table).0 });
-    pool.push(Call::Decide { model: edited_model_file(random, &plant), length, limit });
-    pool.push(Call::Decide { model: broken, length, limit });
-    pool.push(Call::Decide { model: model.clone(), length: short, limit });
-    pool.push(Call::Decide { model, length, limit });
+    let file = table_file(&plant, &table);
+    pool.push(Asked::Check { model: model.clone(), table: file.clone() });
+    pool.push(Asked::Check { model: model.clone(), table: damaged_table_file(random, &plant, &table).0 });
+    pool.push(Asked::Decide { model: edited_model_file(random, &plant), length, limit });
+    pool.push(Asked::Decide { model: broken.clone(), length, limit });
+    pool.push(Asked::Decide { model: model.clone(), length: short, limit });
+    pool.push(Asked::Decide { model: model.clone(), length, limit });
+    for call in Call::ALL {
+        let (file, broken) = if call == Call::ReadModel {
+            (model.clone(), broken.clone())
+        } else {
+            (file.clone(), damaged_table_file(random, &plant, &table).0)
+        };
+        let due = if call == Call::ReadModel { words.len() } else { size };
+        let mut other = table.clone();
+        damage_table(random, &plant, &mut other);
+        let edited = if random.chance(1, 2) { edited_words(random, &plant) } else { words.clone() };
+        let some = due - random.below(2);
+        let (model, table) = (words.clone(), table.clone());
+        pool.push(Asked::Other { call, model, table, file, limit, words: due, room: length });
+        pool.push(Asked::Other { call, model: edited, table: other, file: broken, limit, words: some, room: length });
+    }
 }
 
-fn make(call: &Call, buffer: &mut [u8]) -> Outcome {
-    match call {
-        Call::Decide { model, length, limit } => {
-            let buffer = &mut buffer[..*length];
+/// Makes one call. A desk call goes to the standing desk.
+fn make(asked: &Asked, memory: &mut Memory) -> Outcome {
+    let seed = 0xCBF2_9CE4_8422_2325;
+    match asked {
+        Asked::Decide { model, length, limit } => {
+            let buffer = &mut memory.file[..*length];
             buffer.fill(OLD);
             let number = host_ffi::decide(model, buffer, *limit);
-            Outcome { number, sum: sum(buffer) }
+            Outcome { number, value: 0, sum: sum(seed, buffer.iter().map(|&b| b as u64)) }
         }
-        Call::Check { model, table } => Outcome { number: host_ffi::check(model, table), sum: 0 },
+        Asked::Check { model, table } => Outcome { number: host_ffi::check(model, table), value: 0, sum: 0 },
+        Asked::Other { call, model, table, file, limit, words, room } => {
+            let (buffer, work) = (&mut memory.words[..*words], &mut memory.work[..*words]);
+            let bytes = &mut memory.file[..*room];
+            buffer.fill(OLD_WORD);
+            work.fill(OLD_WORD);
+            bytes.fill(OLD);
+            let mut value = 0;
+            let input = Input { model, table, file, limit: *limit };
+            let number = {
+                let (jobs, passes) = (&mut memory.jobs, &mut memory.passes);
+                let mut lent = Lent { words: buffer, work, file: bytes, jobs, passes, value: &mut value };
+                host_ffi::answer(*call, &input, &mut lent) as u64
+            };
+            let left = sum(seed, memory.words[..*words].iter().map(|&w| w as u64));
+            let left = sum(left, memory.work[..*words].iter().map(|&w| w as u64));
+            Outcome { number, value, sum: sum(left, memory.file[..*room].iter().map(|&b| b as u64)) }
+        }
     }
 }
 
 /// The code of an answer or a refusal.
-fn code(call: &Call, outcome: Outcome) -> u64 {
-    match call {
-        Call::Decide { .. } => outcome.number >> 32,
-        Call::Check { .. } => outcome.number,
+fn code(asked: &Asked, outcome: Outcome) -> u64 {
+    match asked {
+        Asked::Decide { .. } => outcome.number >> 32,
+        _ => outcome.number,
+    }
+}
+
+/// What an answered desk call adds to both counters; nothing for any other call.
+fn charged(asked: &Asked, outcome: Outcome) -> (u64, u64) {
+    match asked {
+        Asked::Other { call: Call::Desk, .. } if outcome.number >= 100 => (1, outcome.value),
+        _ => (0, 0),
     }
 }
 
@@ -111,11 +173,15 @@ fn main() {
     for _ in 0..MODELS {
         inputs_of_a_model(&mut random, &mut pool);
     }
-    let mut buffer = vec![0; MOST_ROOM];
-    let first: Vec<Outcome> = pool.iter().map(|call| make(call, &mut buffer)).collect();
+    let mut memory =
+        Memory { file: vec![0; MOST_ROOM], words: vec![0; MOST_WORDS], work: vec![0; MOST_WORDS], jobs: 0, passes: 0 };
+    let first: Vec<Outcome> = pool.iter().map(|asked| make(asked, &mut memory)).collect();
     let mut codes: BTreeMap<u64, u64> = BTreeMap::new();
-    for (call, outcome) in pool.iter().zip(&first) {
-        *codes.entry(code(call, *outcome)).or_default() += 1;
+    let (mut jobs, mut passes) = (0, 0);
+    for (asked, outcome) in pool.iter().zip(&first) {
+        *codes.entry(code(asked, *outcome)).or_default() += 1;
+        let more = charged(asked, *outcome);
+        (jobs, passes) = (jobs + more.0, passes + more.1);
     }
     println!("seed {seed}, a pool of {} inputs; numbers of the first round {codes:?}", pool.len());
 
@@ -124,9 +190,12 @@ fn main() {
     let mut changed = 0u64;
     for number in 0..calls {
         let which = number as usize % pool.len();
-        if make(&pool[which], &mut buffer) != first[which] {
+        let outcome = make(&pool[which], &mut memory);
+        if outcome != first[which] {
             changed += 1;
         }
+        let more = charged(&pool[which], outcome);
+        (jobs, passes) = (jobs + more.0, passes + more.1);
         // The first tenth of the looks is the warm-up.
         let looks_every = (calls / LOOKS).max(1);
         if number % looks_every == looks_every - 1 && number >= calls / 10 {
@@ -135,8 +204,9 @@ fn main() {
         }
     }
     println!("{calls} calls: {changed} gave something else than at first");
+    println!("the desk has {} jobs and {} passes; its answers make {jobs} and {passes}", memory.jobs, memory.passes);
     println!("resident memory after the warm-up: {least} kB at least, {most} kB at most");
-    if changed > 0 || least != most {
+    if changed > 0 || least != most || (memory.jobs as u64, memory.passes as u64) != (jobs, passes) {
         println!("FAILED");
         std::process::exit(1);
     }

@@ -1,0 +1,321 @@
+//! Does the comparison find wrong C calls? Each function here is this package's own answer with one
+//! mistake, in a number, a value or lent memory; each must be found within few random models.
+
+use second::compare::{Comparison, Tested};
+use second::exports::{answer, Call, Input, Lent};
+use second::host;
+use second::model::Plant;
+use second::tables::well_formed;
+
+type Answer = fn(Call, &Input, &mut Lent) -> u32;
+
+fn refused(number: u32) -> bool {
+    number < 100
+}
+
+/// The words of the model's table, if the model passes its questions.
+fn table_words(input: &Input) -> Option<usize> {
+    Plant::from_words(input.model).ok().map(|plant| plant.sizes.table_words())
+}
+
+fn value_not_written_on_a_refusal(call: Call, input: &Input, lent: &mut Lent) -> u32 {
+    let old = *lent.value;
+    let number = answer(call, input, lent);
+    if refused(number) {
+        *lent.value = old;
+    }
+    number
+}
+
+fn limit_as_value_of_unknown(call: Call, input: &Input, lent: &mut Lent) -> u32 {
+    let number = answer(call, input, lent);
+    if call == Call::Desk && number == 101 {
+        *lent.value = input.limit as u64;
+    }
+    number
+}
+
+fn ceiling_of_32_bits(call: Call, input: &Input, lent: &mut Lent) -> u32 {
+    let number = answer(call, input, lent);
+    if call == Call::Ceiling {
+        *lent.value = *lent.value as u32 as u64;
+    }
+    number
+}
+
+fn longer_model_refused(call: Call, input: &Input, lent: &mut Lent) -> u32 {
+    let longer = Plant::from_words(input.model).is_ok_and(|plant| plant.words().len() < input.model.len());
+    if call == Call::Ceiling && longer {
+        *lent.value = 0;
+        return 5;
+    }
+    answer(call, input, lent)
+}
+
+fn longer_table_refused(call: Call, input: &Input, lent: &mut Lent) -> u32 {
+    if call == Call::Check && table_words(input).is_some_and(|size| size < input.table.len()) {
+        return 32;
+    }
+    answer(call, input, lent)
+}
+
+fn touching_asked_before_unchanged(call: Call, input: &Input, lent: &mut Lent) -> u32 {
+    let number = answer(call, input, lent);
+    if call == Call::Check && number == 33 {
+        let plant = Plant::from_words(input.model).expect("33 comes after the model's questions");
+        if second::tables::forbidden_touched(&plant, &input.table[..plant.sizes.table_words()]) {
+            return 34;
+        }
+    }
+    number
+}
+
+/// Read a model or a table, with something done to the word buffer afterwards.
+fn after_reading(call: Call, input: &Input, lent: &mut Lent, change: fn(u32, &[i32], &mut [i32])) -> u32 {
+    let before = lent.words.to_vec();
+    let number = answer(call, input, lent);
+    if matches!(call, Call::ReadModel | Call::ReadTable) {
+        change(number, &before, lent.words);
+    }
+    number
+}
+
+fn buffer_kept_on_8(call: Call, input: &Input, lent: &mut Lent) -> u32 {
+    after_reading(call, input, lent, |number, before, words| {
+        if number == 8 {
+            words.copy_from_slice(before);
+        }
+    })
+}
+
+fn buffer_kept_on_38(call: Call, input: &Input, lent: &mut Lent) -> u32 {
+    after_reading(call, input, lent, |number, before, words| {
+        if number == 38 {
+            words.copy_from_slice(before);
+        }
+    })
+}
+
+fn buffer_zeroed_on_5_and_20(call: Call, input: &Input, lent: &mut Lent) -> u32 {
+    after_reading(call, input, lent, |number, _, words| {
+        if number == 5 || number == 20 {
+            words.fill(0);
+        }
+    })
+}
+
+fn last_word_kept_where_zeroed(call: Call, input: &Input, lent: &mut Lent) -> u32 {
+    after_reading(call, input, lent, |number, before, words| {
+        if let (32 | 35..=38 | 6..=8 | 11..=19, Some(last)) = (number, words.last_mut()) {
+            *last = before[before.len() - 1];
+        }
+    })
+}
+
+fn rest_zeroed_when_read(call: Call, input: &Input, lent: &mut Lent) -> u32 {
+    let number = answer(call, input, lent);
+    if call == Call::ReadTable && number == 100 {
+        lent.words[*lent.value as usize..].fill(0);
+    }
+    number
+}
+
+fn rest_of_the_file_zeroed(call: Call, input: &Input, lent: &mut Lent) -> u32 {
+    let number = answer(call, input, lent);
+    if call == Call::WriteTable && number == 100 {
+        lent.file[*lent.value as usize..].fill(0);
+    }
+    number
+}
+
+fn room_asked_before_32(call: Call, input: &Input, lent: &mut Lent) -> u32 {
+    let number = answer(call, input, lent);
+    let short = Plant::from_words(input.model).is_ok_and(|plant| lent.file.len() < plant.sizes.table_file_room());
+    if call == Call::WriteTable && number == 32 && short {
+        return 39;
+    }
+    number
+}
+
+fn room_of_the_file_alone(call: Call, input: &Input, lent: &mut Lent) -> u32 {
+    let number = answer(call, input, lent);
+    if call == Call::WriteTable && number == 39 {
+        let plant = Plant::from_words(input.model).expect("39 comes after the model's questions");
+        let table = &input.table[..plant.sizes.table_words()];
+        assert!(well_formed(&plant, table));
+        let file = second::files::table_file(&plant, table);
+        if file.len() <= lent.file.len() {
+            lent.file[..file.len()].copy_from_slice(&file);
+            *lent.value = file.len() as u64;
+            return 100;
+        }
+    }
+    number
+}
+
+fn work_asked_before_table(call: Call, input: &Input, lent: &mut Lent) -> u32 {
+    let number = answer(call, input, lent);
+    let short = table_words(input).is_some_and(|size| lent.work.len() < size);
+    if call == Call::Analyse && number == 20 && short {
+        return 21;
+    }
+    number
+}
+
+fn work_zeroed_over_the_table(call: Call, input: &Input, lent: &mut Lent) -> u32 {
+    let before = lent.work.to_vec();
+    let number = answer(call, input, lent);
+    if matches!(call, Call::Analyse | Call::Desk) && !refused(number) {
+        let size = table_words(input).expect("an answer comes after the model's questions");
+        lent.work[size..].copy_from_slice(&before[size..]);
+    }
+    number
+}
+
+fn work_left_after_unknown(call: Call, input: &Input, lent: &mut Lent) -> u32 {
+    let before = lent.work.to_vec();
+    let number = answer(call, input, lent);
+    if call == Call::Desk && number == 101 {
+        lent.work.copy_from_slice(&before);
+    }
+    number
+}
+
+fn later_table_words_zeroed(call: Call, input: &Input, lent: &mut Lent) -> u32 {
+    let number = answer(call, input, lent);
+    if call == Call::Analyse && !refused(number) {
+        let size = table_words(input).expect("an answer comes after the model's questions");
+        lent.words[size..].fill(0);
+    }
+    number
+}
+
+/// The desk, with something done to its counters afterwards: number, limit, before and after.
+fn at_the_desk(call: Call, input: &Input, lent: &mut Lent, change: fn(u32, u32, (u32, u32), &mut Lent)) -> u32 {
+    let before = (*lent.jobs, *lent.passes);
+    let number = answer(call, input, lent);
+    if call == Call::Desk {
+        change(number, input.limit, before, lent);
+    }
+    number
+}
+
+fn passes_by_the_limit(call: Call, input: &Input, lent: &mut Lent) -> u32 {
+    at_the_desk(call, input, lent, |number, limit, before, lent| {
+        if !refused(number) {
+            *lent.passes = before.1 + limit;
+        }
+    })
+}
+
+fn refusal_counts_a_job(call: Call, input: &Input, lent: &mut Lent) -> u32 {
+    at_the_desk(call, input, lent, |number, _, before, lent| {
+        if refused(number) {
+            *lent.jobs = before.0.wrapping_add(1);
+        }
+    })
+}
+
+fn unfinished_not_charged(call: Call, input: &Input, lent: &mut Lent) -> u32 {
+    at_the_desk(call, input, lent, |number, _, before, lent| {
+        if number == 102 {
+            (*lent.jobs, *lent.passes) = before;
+        }
+    })
+}
+
+fn counters_exchanged(call: Call, input: &Input, lent: &mut Lent) -> u32 {
+    at_the_desk(call, input, lent, |number, _, _, lent| {
+        if !refused(number) {
+            std::mem::swap(lent.jobs, lent.passes);
+        }
+    })
+}
+
+fn jobs_not_asked(call: Call, input: &Input, lent: &mut Lent) -> u32 {
+    if call == Call::Desk && *lent.jobs == u32::MAX {
+        *lent.jobs -= 1;
+    }
+    answer(call, input, lent)
+}
+
+fn limit_cut_to_what_is_left(call: Call, input: &Input, lent: &mut Lent) -> u32 {
+    let limit = if call == Call::Desk { input.limit.min(u32::MAX - *lent.passes) } else { input.limit };
+    answer(call, &Input { limit, ..*input }, lent)
+}
+
+fn counters_asked_first(call: Call, input: &Input, lent: &mut Lent) -> u32 {
+    let full = *lent.jobs == u32::MAX || *lent.passes as u64 + input.limit as u64 > u32::MAX as u64;
+    let number = answer(call, input, lent);
+    if call == Call::Desk && (20..22).contains(&number) && full {
+        return 22;
+    }
+    number
+}
+
+fn fifteen_for_fourteen(call: Call, input: &Input, lent: &mut Lent) -> u32 {
+    let number = answer(call, input, lent);
+    if number == 14 {
+        15
+    } else {
+        number
+    }
+}
+
+const WRONG: [(&str, Answer); 26] = [
+    ("value not written on a refusal", value_not_written_on_a_refusal),
+    ("the limit as an unknown answer's value", limit_as_value_of_unknown),
+    ("ceiling of 32 bits", ceiling_of_32_bits),
+    ("longer model refused", longer_model_refused),
+    ("longer table refused", longer_table_refused),
+    ("34 before 33", touching_asked_before_unchanged),
+    ("buffer kept on 8", buffer_kept_on_8),
+    ("buffer kept on 38", buffer_kept_on_38),
+    ("buffer zeroed on 5 and 20", buffer_zeroed_on_5_and_20),
+    ("last word kept where zeroed", last_word_kept_where_zeroed),
+    ("rest zeroed when read", rest_zeroed_when_read),
+    ("rest of the file zeroed", rest_of_the_file_zeroed),
+    ("39 before 32", room_asked_before_32),
+    ("39 asks for the file alone", room_of_the_file_alone),
+    ("21 before 20", work_asked_before_table),
+    ("work zeroed over the table", work_zeroed_over_the_table),
+    ("work left after unknown", work_left_after_unknown),
+    ("later table words zeroed", later_table_words_zeroed),
+    ("passes by the limit", passes_by_the_limit),
+    ("a refusal counts a job", refusal_counts_a_job),
+    ("unfinished not charged", unfinished_not_charged),
+    ("counters exchanged", counters_exchanged),
+    ("jobs not asked", jobs_not_asked),
+    ("limit cut to what is left", limit_cut_to_what_is_left),
+    ("22 before 20", counters_asked_first),
+    ("15 for 14", fifteen_for_fourteen),
+];
+
+/// How many random models were compared until the mistake was found; None if it was not.
+fn found_after(answer: Answer, models: u64) -> Option<u64> {
+    let mut comparison = Comparison::new(Tested { decide: host::decide, check: host::check, answer }, 11);
+    (1..=models).find(|_| comparison.random_case(6).is_err())
+}
+
+#[test]
+fn every_wrong_call_is_found() {
+    for (name, wrong) in WRONG {
+        let found = found_after(wrong, 2_000);
+        println!("{name}: found with model {found:?}");
+        assert!(found.is_some(), "not found: {name}");
+    }
+}
+
+/// Writes past a lent buffer are found too: the margins are compared.
+#[test]
+fn writes_beside_a_buffer_are_found() {
+    fn beside(call: Call, input: &Input, lent: &mut Lent) -> u32 {
+        let number = answer(call, input, lent);
+        if call == Call::Analyse {
+            // SAFETY: not tight, so margins lie on both sides of the words.
+            unsafe { *lent.words.as_mut_ptr().add(lent.words.len()) = 77 };
+        }
+        number
+    }
+    assert!(found_after(beside, 20).is_some());
+}
