@@ -182,8 +182,8 @@ uint32_t qii_read_model(const uint8_t *file, size_t file_len, int32_t *words, si
  *     model, model_len    model words
  *     value               the ceiling: at most 7,680,000,768, so more than 32 bits
  *
- * Gives QII_DONE, or a refusal. Under a limit of at least the ceiling, analysis and decide never
- * answer QII_UNFINISHED. Most models end after far fewer passes.
+ * Gives QII_DONE, or a refusal. Under a limit of at least the ceiling, the analysis is never
+ * QII_UNFINISHED; most models end after far fewer passes. A ceiling can be above every limit.
  *
  * Asks the model's questions.
  */

@@ -1,6 +1,6 @@
 /*
  * The header by itself, compiled as C99 and as C++: its numbers, that one switch takes all of them,
- * and the functions that take decide's number and table apart.
+ * the functions that take decide's number and table apart, and that all its calls are there to link.
  */
 #include "qiifaduleh.h"
 
@@ -124,10 +124,28 @@ static int measures_tables(void)
            qii_table_len(most) == QII_TABLE_BYTES_MAX;
 }
 
+/* Every call, on nothing at all. */
+static int links(void)
+{
+    uint32_t jobs = 0, passes = 0;
+    uint64_t value = 1;
+
+    return qii_code(decide(NULL, 0, NULL, 0, 0)) == QII_MODEL_HEAD &&
+           check(NULL, 0, NULL, 0) == QII_MODEL_HEAD &&
+           qii_read_model(NULL, 0, NULL, 0, &value) == QII_MODEL_HEAD &&
+           qii_ceiling(NULL, 0, &value) == QII_MODEL_SHORT &&
+           qii_check(NULL, 0, NULL, 0) == QII_MODEL_SHORT &&
+           qii_analyse(NULL, 0, 0, NULL, 0, NULL, 0, &value) == QII_MODEL_SHORT &&
+           qii_read_table(NULL, 0, NULL, 0, NULL, 0, &value) == QII_MODEL_SHORT &&
+           qii_write_table(NULL, 0, NULL, 0, NULL, 0, &value) == QII_MODEL_SHORT &&
+           qii_desk(&jobs, &passes, NULL, 0, 0, NULL, 0, NULL, 0, &value) == QII_MODEL_SHORT &&
+           jobs == 0 && passes == 0 && value == 0;
+}
+
 int main(void)
 {
     if (numbers_in_use() != 31 || meanings() != 31 || !takes_decided_apart() ||
-        !measures_tables()) {
+        !measures_tables() || !links()) {
         printf("the header's numbers or functions are wrong\n");
         return 1;
     }

@@ -1,13 +1,13 @@
 /*
- * threads MODEL.. - several threads make every call on the same models at once, each with buffers
- * of its own. Every number, value, counter and buffer must be what the same call gives alone.
+ * threads ROUNDS MODEL.. - several threads make every call on the same models at once, so many
+ * rounds each, with buffers of their own. Every number, value, counter and buffer must be what the
+ * same call gives alone.
  */
 #include "calls.h"
 
 #include <pthread.h>
 
 #define THREADS 4
-#define ROUNDS 20
 #define LIMIT 200
 
 struct worker {
@@ -19,6 +19,7 @@ struct worker {
 static struct inputs **inputs;
 static struct outcome *alone;
 static int model_count;
+static int rounds;
 
 /* Goes through all models and calls in turn, each thread from another place on. */
 static void *work(void *argument)
@@ -30,7 +31,7 @@ static void *work(void *argument)
 
     if (outcome == NULL)
         fail("no memory", "threads");
-    for (turn = 0; turn < ROUNDS * all; turn++) {
+    for (turn = 0; turn < rounds * all; turn++) {
         int which = (turn + worker->number) % all;
 
         make(&calls[which % CALLS], inputs[which / CALLS], 0, outcome);
@@ -65,21 +66,22 @@ int main(int argc, char **argv)
     long differences;
     int i;
 
-    model_count = argc - 1;
-    if (model_count == 0)
-        fail("no models", "threads");
+    model_count = argc - 2;
+    if (model_count < 1)
+        fail("no rounds or no models", "threads");
+    rounds = atoi(argv[1]);
     inputs = calloc((size_t)model_count, sizeof *inputs);
     alone = calloc((size_t)(model_count * CALLS), sizeof *alone);
     if (inputs == NULL || alone == NULL)
         fail("no memory", "threads");
     for (i = 0; i < model_count; i++)
-        inputs[i] = inputs_of(argv[1 + i], LIMIT);
+        inputs[i] = inputs_of(argv[2 + i], LIMIT);
     for (i = 0; i < model_count * CALLS; i++)
         make(&calls[i % CALLS], inputs[i / CALLS], 0, &alone[i]);
     differences = run_workers();
     printf("%d threads at once, %d calls each, all %d calls over %d models: %ld differ from the "
            "calls made alone\n",
-           THREADS, ROUNDS * model_count * CALLS, CALLS, model_count, differences);
+           THREADS, rounds * model_count * CALLS, CALLS, model_count, differences);
     for (i = 0; i < model_count; i++)
         free_inputs(inputs[i]);
     free(inputs);

@@ -31,6 +31,9 @@ const EXTREME_ONE_IN: u64 = 20;
 /// One model in so many takes thousands of passes; none where the comparison is tight.
 const LONG_ONE_IN: u64 = 150;
 
+/// A list of desk calls after one model in so many.
+const DESK_LIST_ONE_IN: u64 = 6;
+
 /// The calls that are compared with this package's own.
 #[derive(Clone, Copy)]
 pub struct Tested {
@@ -207,7 +210,7 @@ impl Comparison {
         let limit = random_limit(&mut self.random, &plant);
         self.model_case(&plant, limit, damaged)?;
         self.keep_model(words);
-        if self.random.chance(1, 3) {
+        if self.random.chance(1, DESK_LIST_ONE_IN) {
             self.desk_list()?;
         }
         if !self.tight && self.random.chance(1, LONG_ONE_IN) {

@@ -81,6 +81,10 @@ impl Call {
         model.chain(more.iter().copied()).collect()
     }
 
+    pub fn takes(self, slice: Slice) -> bool {
+        self.slices().contains(&slice)
+    }
+
     /// The slices that it takes, in the order of its parameters.
     pub fn slices(self) -> &'static [Slice] {
         match self {
@@ -103,6 +107,18 @@ pub enum Slice {
     Words,
     Work,
     FileRoom,
+}
+
+impl<'a> Input<'a> {
+    /// What of it the call takes.
+    pub fn of(&self, call: Call) -> Input<'a> {
+        Input {
+            model: if call.takes(Slice::Model) { self.model } else { &[] },
+            table: if call.takes(Slice::Table) { self.table } else { &[] },
+            file: if call.takes(Slice::File) { self.file } else { &[] },
+            limit: self.limit,
+        }
+    }
 }
 
 /// Number and value of a reply.

@@ -26,6 +26,18 @@ pub struct Lengths {
     pub file: usize,
 }
 
+impl Lengths {
+    /// Those of the buffers that the call takes.
+    fn of(&self, call: Call) -> Lengths {
+        let taken = |slice: Slice, length: usize| if call.takes(slice) { length } else { 0 };
+        Lengths {
+            words: taken(Slice::Words, self.words),
+            work: taken(Slice::Work, self.work),
+            file: taken(Slice::FileRoom, self.file),
+        }
+    }
+}
+
 /// What the tested call gave, and left in the memory that was lent to it.
 pub struct Left {
     pub number: u32,
@@ -100,6 +112,15 @@ fn old_words(random: &mut Random, length: usize) -> Box<[i32]> {
         0 => (0..length).map(|_| random.range(-1, 2) as i32).collect(),
         1 => vec![1; length].into_boxed_slice(),
         _ => (0..length).map(|_| random.next() as i32).collect(),
+    }
+}
+
+/// The file that a call is handed for a model and one of its tables; none if it takes no file.
+fn file_for(call: Call, plant: &Plant, table: &[i32]) -> Vec<u8> {
+    match call {
+        Call::ReadModel => model_file(plant.words()),
+        Call::ReadTable => table_file(plant, table),
+        _ => Vec::new(),
     }
 }
 
@@ -192,6 +213,7 @@ fn input_text(call: Call, input: &Input, lengths: &Lengths, desk: Desk) -> Strin
 
 impl Comparison {
     /// Compares one call: its number, its value, all memory that it may write, and what it reads.
+    /// Slices that it does not take are left empty.
     pub(crate) fn call(
         &mut self,
         label: &str,
@@ -200,6 +222,7 @@ impl Comparison {
         lengths: &Lengths,
         desk: Desk,
     ) -> Result<Left, Difference> {
+        let (input, lengths) = (&input.of(call), &lengths.of(call));
         let margin = if self.tight { 0 } else { MARGIN };
         let random = &mut self.random;
         let (model, model_at) = placed(random, input.model);
@@ -269,10 +292,9 @@ impl Comparison {
         rest: &[i32],
         other: &[i32],
     ) -> Result<(), Difference> {
-        let model = model_file(plant.words());
         for call in Call::ALL {
             let table = if self.random.chance(1, 2) { rest } else { other };
-            let file = if call == Call::ReadModel { model.clone() } else { table_file(plant, table) };
+            let mut file = file_for(call, plant, table);
             let due = Due::new(plant, file.len());
             let random = &mut self.random;
             let mut length = |slice: Slice| random_length(random, due.of(call, slice));
@@ -282,12 +304,11 @@ impl Comparison {
             let file_length = length(Slice::File);
             let words = of_length(&mut self.random, plant.words(), model_length);
             let table = of_length(&mut self.random, table, table_length);
-            let mut file = file;
             file.resize(file_length, 0);
             let input = Input { model: &words, table: &table, file: &file, limit };
             self.sized_call("a random model", call, &input, &lengths, &due)?;
         }
-        self.program_case(plant, &model, limit)
+        self.program_case(plant, &model_file(plant.words()), limit)
     }
 
     /// As a program uses the calls: the model's file is read, the model analysed and charged to the
@@ -348,13 +369,12 @@ impl Comparison {
         self.counts.damaged_calls += 1;
         let call = Call::ALL[self.random.below(Call::ALL.len())];
         let table = if self.random.chance(2, 3) { rest } else { other };
-        let model = model_file(plant.words());
-        let slices: Vec<Slice> =
-            call.slices().iter().copied().filter(|s| matches!(s, Slice::Model | Slice::Table | Slice::File)).collect();
+        let read = |slice: &Slice| matches!(slice, Slice::Model | Slice::Table | Slice::File);
+        let slices: Vec<Slice> = call.slices().iter().copied().filter(read).collect();
         let chosen = self.random.pick(&slices);
         let mut words = plant.words().to_vec();
         let mut list = table.to_vec();
-        let mut file = if call == Call::ReadModel { model.clone() } else { table_file(plant, table) };
+        let mut file = file_for(call, plant, table);
         let due = Due::new(plant, file.len());
         match chosen {
             Slice::Model => words = self.damaged_words(plant),
@@ -364,7 +384,7 @@ impl Comparison {
                     note(&mut self.counts.damage, format!("table words: {kind}"));
                 }
             }
-            _ if call == Call::ReadModel => file = self.damaged_model(plant, &model),
+            _ if call == Call::ReadModel => file = self.damaged_model(plant, &file),
             _ => file = self.damaged_table(plant, table),
         }
         let random = &mut self.random;

@@ -159,6 +159,37 @@ fn resident(text: &mut [u8]) -> u64 {
     line.iter().filter(|b| b.is_ascii_digit()).fold(0, |number, b| 10 * number + (b - b'0') as u64)
 }
 
+/// What came of going through the pool.
+struct Soaked {
+    /// Calls that gave something else than at first.
+    changed: u64,
+    /// What the answers make of the desk's counters.
+    charged: (u64, u64),
+    /// The resident memory after the warm-up, in kilobytes.
+    least: u64,
+    most: u64,
+}
+
+/// Goes through the pool over and over.
+fn soak(pool: &[Asked], first: &[Outcome], memory: &mut Memory, calls: u64) -> Soaked {
+    let mut soaked = Soaked { changed: 0, charged: (0, 0), least: u64::MAX, most: 0 };
+    let mut text = [0u8; 4096];
+    let looks_every = (calls / LOOKS).max(1);
+    for number in 0..calls {
+        let which = number as usize % pool.len();
+        let outcome = make(&pool[which], memory);
+        soaked.changed += (outcome != first[which]) as u64;
+        let (jobs, passes) = charged(&pool[which], outcome);
+        soaked.charged = (soaked.charged.0 + jobs, soaked.charged.1 + passes);
+        // The first tenth of the looks is the warm-up.
+        if number % looks_every == looks_every - 1 && number >= calls / 10 {
+            let now = resident(&mut text);
+            (soaked.least, soaked.most) = (soaked.least.min(now), soaked.most.max(now));
+        }
+    }
+    soaked
+}
+
 fn main() {
     if !host_ffi::LINKED {
         println!("built without the feature `host`: nothing under test is linked in");
@@ -185,24 +216,9 @@ fn main() {
     }
     println!("seed {seed}, a pool of {} inputs; numbers of the first round {codes:?}", pool.len());
 
-    let mut text = [0u8; 4096];
-    let (mut least, mut most) = (u64::MAX, 0);
-    let mut changed = 0u64;
-    for number in 0..calls {
-        let which = number as usize % pool.len();
-        let outcome = make(&pool[which], &mut memory);
-        if outcome != first[which] {
-            changed += 1;
-        }
-        let more = charged(&pool[which], outcome);
-        (jobs, passes) = (jobs + more.0, passes + more.1);
-        // The first tenth of the looks is the warm-up.
-        let looks_every = (calls / LOOKS).max(1);
-        if number % looks_every == looks_every - 1 && number >= calls / 10 {
-            let now = resident(&mut text);
-            (least, most) = (least.min(now), most.max(now));
-        }
-    }
+    let soaked = soak(&pool, &first, &mut memory, calls);
+    let (jobs, passes) = (jobs + soaked.charged.0, passes + soaked.charged.1);
+    let (changed, least, most) = (soaked.changed, soaked.least, soaked.most);
     println!("{calls} calls: {changed} gave something else than at first");
     println!("the desk has {} jobs and {} passes; its answers make {jobs} and {passes}", memory.jobs, memory.passes);
     println!("resident memory after the warm-up: {least} kB at least, {most} kB at most");
