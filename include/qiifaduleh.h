@@ -74,6 +74,11 @@
  *                 forbidden   location, box
  *     Wall      Wall (d, side) of a location is the low or high end of d in its invariant. Its face
  *               has the number 2d + side.
+ *     Run       Starts in the start box of a location with start flag 1. A delay of t moves each
+ *               level by at least t times its low rate and at most t times its high rate. A switch
+ *               leads from levels in its guard to levels in its reset box, with the masked
+ *               variables set to their reset value and the others unchanged. The levels always lie
+ *               in the location's invariant. Levels and delays need not be whole numbers.
  *     Table     For each location its 2n faces, each a flag and a box: 1 and the reached part of
  *               the wall, or all zeros where none is reached.
  *     Pass      A pass widens each face by what can be reached in one step from the start boxes and
@@ -81,6 +86,23 @@
  *               after k passes.
  *
  *     Words past the end of a model or of a table are not part of it: a list may be longer.
+ *
+ *     A plant of one location with the levels x and y, in 22 words:
+ *
+ *         static const int32_t model[] = {
+ *             2, 1, 0, 1,            n, L, E, B
+ *             0, 10, 0, 10,          location 0: invariant x 0..10, y 0..10
+ *             1, 1, 1, 2,                        rates x 1..1, y 1..2
+ *             1, 0, 0, 2, 5,                     start flag 1, start box x 0..0, y 2..5
+ *             0, 9, 10, 0, 4,        forbidden in location 0: x 9..10, y 0..4
+ *         };
+ *
+ *     qii_analyse gives QII_SAFE after 1 pass, with this table of 20 words:
+ *
+ *             1, 0, 0, 2, 5,         face 0, x at 0: y 2..5
+ *             0, 0, 0, 0, 0,         face 1, x at 10: not reached
+ *             0, 0, 0, 0, 0,         face 2, y at 0: not reached
+ *             1, 2, 8, 10, 10,       face 3, y at 10: x 2..8
  *
  * WHAT THE FILES SAY
  *

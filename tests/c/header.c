@@ -1,6 +1,7 @@
 /*
  * The header by itself, compiled as C99 and as C++: its numbers, that one switch takes all of them,
- * the functions that take decide's number and table apart, and that all its calls are there to link.
+ * the functions that take decide's number and table apart, that all its calls are there to link,
+ * and its example.
  */
 #include "qiifaduleh.h"
 
@@ -142,10 +143,23 @@ static int links(void)
            jobs == 0 && passes == 0 && value == 0;
 }
 
+/* The header's example. */
+static int answers_its_example(void)
+{
+    static const int32_t model[] = {2, 1, 0, 1, 0, 10, 0, 10, 1, 1, 1, 2, 1, 0, 0, 2, 5,
+                                    0, 9, 10, 0, 4};
+    static const int32_t due[] = {1, 0, 0, 2, 5, 0, 0, 0, 0, 0, 0, 0, 0, 0, 0, 1, 2, 8, 10, 10};
+    int32_t table[QII_TABLE_WORDS(1, 2)], work[QII_TABLE_WORDS(1, 2)];
+    uint64_t passes = 0;
+
+    return qii_analyse(model, 22, 1000, table, 20, work, 20, &passes) == QII_SAFE && passes == 1 &&
+           memcmp(table, due, sizeof due) == 0;
+}
+
 int main(void)
 {
     if (numbers_in_use() != 31 || meanings() != 31 || !takes_decided_apart() ||
-        !measures_tables() || !links()) {
+        !measures_tables() || !links() || !answers_its_example()) {
         printf("the header's numbers or functions are wrong\n");
         return 1;
     }
