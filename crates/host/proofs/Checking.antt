@@ -11,11 +11,12 @@ use Rattle.integers.proofs.Counted.{is-true}
 use Rattle.plant.specs.Ask.{orElse, _then_}
 use Rattle.plant.specs.Questions.{modelQuestions}
 use Rattle.plant.specs.Tables.{tableSize, tableOk}
-use Rattle.plant.specs.Calls.{refused, certificateQuestions, checkBy, ReadOutcome, zeroed}
+use Rattle.plant.specs.declared.Count.the-variants.{Done, Refused}
+use Rattle.plant.specs.Calls.{certificateQuestions, checkBy, ReadOutcome, readReply, zeroed}
 use Rattle.plant.proofs.Asks.{ask-yes, then-both}
 use Rattle.plant.proofs.Reading.{done}
-use Rattle.plant.proofs.Passed.{Passed, passed}
-use Rattle.plant.proofs.Tables.{filled, face-inside, table-length}
+use Rattle.plant.proofs.Passed.{passed}
+use Rattle.plant.proofs.Tables.{filled, table-length}
 use Rattle.table_files.specs.TableFile.{count#, fileFace, fileTable, tableFileQuestions, readFaces}
 use Rattle.table_files.proofs.TableBack.{table-le}
 use Rattle.host.specs.Hosts.{modelOf, modelFileQuestions, certificateFileQuestions, hostCheckCall}
@@ -29,33 +30,28 @@ module _ (m : List ℤ) (asks : modelQuestions m ≡ 0) (t : List ℕ) where
   unfolding fileTable
   length-table = table-length m (filled m (passed m asks)) (fileFace m t (count# t))
 
-  table-positive : 0 < tableSize m
-  table-positive =
-      let ok : Passed m = passed m asks in
-      omega (arith, face-inside m (filled m ok) 0 0 (ok .L-positive) (omega (arith, ok .n-positive)))
-
   module _ (held : List ℤ) (fits : tableSize m ≤ length held) where
     abbrev all : ReadOutcome
-    all = record { reply = record { code = 100; value = tableSize m }; words = onto (fileTable m t) held }
+    all = record { count = Done (tableSize m); words = onto (fileTable m t) held }
 
     -- a refusal is the number of the file's questions
-    pub table-refused : {q : ℕ} {x : List ℤ} → _≡_ {A = ReadOutcome} (record { reply = refused q; words = x }) (readFaces m t held) → (q ≡ tableFileQuestions m t) × (tableFileQuestions m t ≡ 0 → ⊥)
-    table-refused {q} e = refused-number (tableFileQuestions m t) (zeroed held) all q table-positive (ap (λ (o : ReadOutcome). o .reply) e)
+    pub table-refused : {q : ℕ} {x : List ℤ} → _≡_ {A = ReadOutcome} (record { count = Refused q; words = x }) (readFaces m t held) → (q ≡ tableFileQuestions m t) × (tableFileQuestions m t ≡ 0 → ⊥)
+    table-refused {q} e = refused-number (tableFileQuestions m t) (zeroed held) all (tableSize m) q refl (ap (λ (o : ReadOutcome). o .count) e)
 
     -- else all of them are yes, and the words are the file's table
-    module _ {size : ℕ} {x : List ℤ} (e : _≡_ {A = ReadOutcome} (record { reply = record { code = 100; value = size }; words = x }) (readFaces m t held)) where
+    module _ {size : ℕ} {x : List ℤ} (e : _≡_ {A = ReadOutcome} (record { count = Done size; words = x }) (readFaces m t held)) where
       read-done : (tableFileQuestions m t ≡ 0) × (readFaces m t held ≡ all)
-      read-done = done (tableFileQuestions m t) (zeroed held) all (omega (arith, table-le m t)) (sym (ap (λ (o : ReadOutcome). o .reply .code) e))
+      read-done = done (tableFileQuestions m t) (zeroed held) all (omega (arith, table-le m t)) (sym (ap (λ (o : ReadOutcome). readReply o .code) e))
 
       pub table-yes : tableFileQuestions m t ≡ 0
       table-yes = read-done .0
 
-      read-all : _≡_ {A = ReadOutcome} (record { reply = record { code = 100; value = size }; words = x }) all
+      read-all : _≡_ {A = ReadOutcome} (record { count = Done size; words = x }) all
       read-all = e ∙ read-done .1
 
       pub table-front : Front x size (fileTable m t)
       table-front =
-          let is-size : size ≡ tableSize m = ap (λ (o : ReadOutcome). o .reply .value) read-all in
+          let is-size : size ≡ tableSize m = ap (λ (o : ReadOutcome). readReply o .value) read-all in
           front held (ap (λ (o : ReadOutcome). o .words) read-all) (length-table ∙ sym is-size) (omega (arith, is-size, fits))
 
       pub table-sized : length (take size x) ≡ tableSize m

@@ -1,25 +1,24 @@
 -- Decide's number and its byte buffer, from what the calls below it say.
 use mathlib.Core.Path.{_≡_, refl, sym, ap, _∙_}
 use mathlib.Core.List.{List}
-use Prim.Native.Nat.{ℕ, zero, suc, _≤_, _<_}
+use Prim.Native.Nat.{ℕ, zero, suc, _≤_}
 use native.Mathlib.Omega.{arith}
-use lib.Dec.{leb, le→leb}
-use borrow.Author.Tests.{lt-leb}
+use lib.Dec.{leb, leb→le}
 use lib.IntN.{ℤ, pos}
 use lib.ListN.{length, take, replicate, length-replicate}
 use Rattle.integers.specs.Words.{onto}
 use Rattle.plant.specs.declared.Answer.{Answer}
 use Rattle.plant.specs.Ask.{orElse, _then_}
 use Rattle.plant.specs.Questions.{modelQuestions}
-use Rattle.plant.specs.Tables.{tableSize}
-use Rattle.plant.specs.Calls.{refused, answerReply, Analysed, replyOf, analysis, answerTable, answered, passesOf}
-use Rattle.plant.proofs.Asks.{ask-intro}
+use Rattle.plant.specs.Tables.{tableSize, longestTableFile}
+use Rattle.plant.specs.Calls.{refused, answerReply, Analysed, replyOf, analysis, answerTable, answered, passesOf, bytesQuestion}
+use Rattle.plant.proofs.Asks.{ask-yes}
 use Rattle.plant.proofs.Passed.{passed}
 use Rattle.plant.proofs.Keeps.{after-length}
 use Rattle.model.proofs.Passing.{head-ready}
 use Rattle.tables.proofs.Faces.{table-most}
-use Rattle.table_files.specs.TableFile.{tableFile, longestTableFile}
-use Rattle.host.specs.Hosts.{modelOf, modelFileQuestions, packed, Decided, decided, decideBy, roomQuestion, decideCall}
+use Rattle.table_files.specs.TableFile.{tableFile}
+use Rattle.host.specs.Hosts.{modelOf, modelFileQuestions, packed, Decided, decided, decideBy, decideCall}
 use Rattle.host.proofs.Held.{Front, front}
 
 -- ---- once all questions are yes
@@ -52,11 +51,18 @@ module _ (m : List ℤ) (asks : modelQuestions m ≡ 0) (limit : ℕ) where
 -- ---- 39
 
 module _ (m : List ℤ) (file : List ℕ) (limit : ℕ) where
-  pub no-room : {number : ℕ} → number ≡ packed (refused 39) → length file < longestTableFile m → _≡_ {A = Decided} (record { number = number; file = file }) (decideBy (roomQuestion m file) m file limit)
-  no-room p h = rw (p, lt-leb _ _ h) refl
+  refused-by : (k : ℕ) → (k ≡ 0 → ⊥) → _≡_ {A = Decided} (record { number = packed (refused k); file = file }) (decideBy k m file limit)
+  refused-by zero n = absurd (n refl)
+  refused-by (suc k) n = refl
 
-  pub room : {d : Decided} → longestTableFile m ≤ length file → d ≡ decided m (analysis m limit) file → d ≡ decideBy (roomQuestion m file) m file limit
-  room h e = rw (ask-intro (leb (longestTableFile m) (length file)) 39 (le→leb _ _ h)) e
+  pub no-room : {q number : ℕ} → number ≡ packed (refused q) → q ≡ bytesQuestion m (length file) → (q ≡ 0 → ⊥) → _≡_ {A = Decided} (record { number = number; file = file }) (decideBy (bytesQuestion m (length file)) m file limit)
+  no-room {q} p e n = ap (λ (k : ℕ). record { number = k; file = file }) p ∙ refused-by q n ∙ ap (λ (k : ℕ). decideBy k m file limit) e
+
+  pub has-room : bytesQuestion m (length file) ≡ 0 → longestTableFile m ≤ length file
+  has-room e = leb→le (longestTableFile m) (length file) (ask-yes (leb (longestTableFile m) (length file)) 39 (omega arith) e)
+
+  pub room : {q : ℕ} {d : Decided} → q ≡ bytesQuestion m (length file) → q ≡ 0 → d ≡ decided m (analysis m limit) file → d ≡ decideBy (bytesQuestion m (length file)) m file limit
+  room e z d = d ∙ ap (λ (k : ℕ). decideBy k m file limit) (sym z ∙ e)
 
 -- ---- the whole call
 
@@ -69,8 +75,8 @@ module _ (s file : List ℕ) (limit : ℕ) where
   -- a refused file changes nothing
   pub decide-refused : {q number : ℕ} → number ≡ packed (refused q) → q ≡ modelFileQuestions s → (modelFileQuestions s ≡ 0 → ⊥) → _≡_ {A = Decided} (record { number = number; file = file }) (decideCall s file limit)
   unfolding decideCall
-  decide-refused p e n = rw (p, e) (refuses (modelFileQuestions s) (roomQuestion (modelOf s) file) n)
+  decide-refused p e n = rw (p, e) (refuses (modelFileQuestions s) (bytesQuestion (modelOf s) (length file)) n)
 
-  pub decide-words : {d : Decided} {m : List ℤ} → modelFileQuestions s ≡ 0 → m ≡ modelOf s → d ≡ decideBy (roomQuestion m file) m file limit → d ≡ decideCall s file limit
+  pub decide-words : {d : Decided} {m : List ℤ} → modelFileQuestions s ≡ 0 → m ≡ modelOf s → d ≡ decideBy (bytesQuestion m (length file)) m file limit → d ≡ decideCall s file limit
   unfolding decideCall orElse
   decide-words {d} {m} z w e = rw z (rw w at e)

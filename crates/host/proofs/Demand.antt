@@ -8,13 +8,13 @@ use native.Mathlib.Omega.{arith}
 use lib.Dec.{T, leb, le→leb, leb→le}
 use lib.IntN.{ℤ}
 use lib.ListN.{length, take, drop}
-use Rattle.integers.specs.Words.{onto}
+use Rattle.integers.specs.Words.{AreBytes, onto}
 use Rattle.integers.proofs.Buffers.{onto-all, take-onto}
 use Rattle.plant.specs.declared.Answer.{Answer}
 use Rattle.plant.specs.Ask.{_then_}
 use Rattle.plant.specs.Questions.{modelQuestions}
-use Rattle.plant.specs.Tables.{tableSize, tableOk, tableAfter}
-use Rattle.plant.specs.Calls.{answerReply, certificateQuestions, tableQuestions, checkerQuestions, checkBy, checkCall, analysis, answerTable, passesOf, Analysed, replyOf, answered, analyseCall}
+use Rattle.plant.specs.Tables.{tableSize, longestTableFile, tableOk, tableAfter}
+use Rattle.plant.specs.Calls.{answerReply, certificateQuestions, tableQuestions, checkerQuestions, checkBy, checkCall, analysis, answerTable, passesOf, Analysed, replyOf, answered, analyseCall, bytesQuestion}
 use Rattle.plant.specs.Demands.{Accepts, ceiling, answers, NoRunMeets, ThirdDemand}
 use Rattle.plant.proofs.Asks.{ask-intro, ask-le, ask-yes, asked, then-both, then-intro, then-le}
 use Rattle.plant.proofs.Passed.{passed}
@@ -25,10 +25,10 @@ use Rattle.model.proofs.Passing.{head-ready}
 use Rattle.analysis.proofs.Front.{front, questions-front}
 use Rattle.analysis.proofs.Counting.{after-ok}
 use Rattle.analysis.proofs.Calls.{all-yes, analyse-answered}
-use Rattle.table_files.specs.TableFile.{tableFile, fileLength, fileTable, tableFileQuestions, longestTableFile}
+use Rattle.table_files.specs.TableFile.{tableFile, fileLength, fileTable, tableFileQuestions}
 use Rattle.table_files.proofs.TableWriting.{bytes-fit}
-use Rattle.table_files.proofs.TableBack.{table-le, file-asked, file-table, file-told}
-use Rattle.host.specs.Hosts.{modelOf, modelFileQuestions, Decided, decided, decideBy, roomQuestion, decideCall, certificateFileQuestions, hostCheckCall}
+use Rattle.table_files.proofs.TableBack.{table-le, file-asked, file-table, file-told, file-bytes}
+use Rattle.host.specs.Hosts.{modelOf, modelFileQuestions, Decided, decided, decideBy, decideCall, certificateFileQuestions, hostCheckCall}
 use Rattle.host.specs.HostDemand.{AcceptableFile, code, passes, answerFile, Decides, HostDemand}
 use Rattle.host.proofs.Reading.{questions-le, longest-model, model-asked, is-model, file-passes}
 use Rattle.host.proofs.Deciding.{length-answer}
@@ -93,7 +93,7 @@ module _ (s : List ℕ) where
     a = analysis m limit
 
     questions : ℕ
-    questions = modelFileQuestions s then roomQuestion m file
+    questions = modelFileQuestions s then bytesQuestion m (length file)
 
     few : questions ≤ 39
     unfolding questions
@@ -158,9 +158,13 @@ module _ (s : List ℕ) where
       written : decideCall s file limit .file ≡ onto (tableFile m t) file
       written = ap (λ (d : Decided). d .file) is-decided
 
+      good : T (tableOk m t)
+      unfolding answerTable
+      good = subst T (sym (after-ok m (passed m asks) (passesOf a))) tt
+
       told : fileLength (onto (tableFile m t) file) ≡ length (tableFile m t)
-      unfolding onto answerTable
-      told = file-told m t asks long (subst T (sym (after-ok m (passed m asks) (passesOf a))) tt) (drop (length (tableFile m t)) file)
+      unfolding onto
+      told = file-told m t asks long good (drop (length (tableFile m t)) file)
 
       file-is : answerFile s file limit ≡ tableFile m t
       file-is = ap (λ (b : List ℕ). take (fileLength b) b) written ∙ take-onto (tableFile m t) file (fileLength (onto (tableFile m t) file)) (sym told)
@@ -202,7 +206,7 @@ module _ (s : List ℕ) where
           by (inr (inr h)) = absurd (never-unfinished u h)
 
       safe-acceptable : code s file limit ≡ 100 → AcceptableFile s
-      safe-acceptable h = record { table = answerFile s file limit; accepts = safe-accepted h }
+      safe-acceptable h = record { table = answerFile s file limit; are-bytes = subst AreBytes (sym file-is) (file-bytes m t asks long good); accepts = safe-accepted h }
 
       none-unknown : ceiling m ≤ limit → (AcceptableFile s → ⊥) → code s file limit ≡ 101
       none-unknown u none = by three

@@ -9,25 +9,21 @@ use lib.Dec.{T, leb, le→leb, leb→le}
 use lib.IntN.{ℤ, pos}
 use lib.ListN.{length, take, replicate, length-replicate}
 use lib.Seq.{length-take-le}
-use Rattle.integers.specs.Words.{onto}
+use Rattle.integers.specs.Words.{AreWords, AreBytes, onto}
 use Rattle.integers.proofs.Buffers.{take-onto}
-use Rattle.wire.specs.Fields.{fieldAt, isField}
-use Rattle.wire.proofs.Words.{AreBytes, AreWords}
-use Rattle.plant.specs.Ask.{ask, orElse, _then_}
+use Rattle.plant.specs.Ask.{orElse, _then_}
 use Rattle.plant.specs.Model.{n#, L#, E#, B#, headSize, modelSize}
 use Rattle.plant.specs.Questions.{rangesQuestions, recordsQuestions, modelQuestions}
 use Rattle.plant.specs.declared.Count.{Count}
 use Rattle.plant.specs.declared.Count.the-variants.{Done, Refused}
-use Rattle.plant.specs.Calls.{Reply, refused, countReply, ReadOutcome, wordsRead, unlessRefused, zeroed}
-use Rattle.plant.proofs.Asks.{ask-le, ask-intro, asked, then-both, then-le}
-use Rattle.plant.proofs.Numbers.{records-le, ranges-le}
+use Rattle.plant.specs.Calls.{countReply, ReadOutcome, readReply, wordsRead, unlessRefused, zeroed}
+use Rattle.plant.proofs.Asks.{ask-intro, asked, then-both, then-le}
 use Rattle.plant.proofs.Reading.{done}
-use Rattle.records.proofs.Positions.{head-first}
 use Rattle.model.proofs.Passing.{head-passed}
-use Rattle.model_files.specs.ModelFile.{modelFile, headWords, headQuestions, fileEnd, bodyQuestions, fileWords, readModelCall}
+use Rattle.model_files.specs.ModelFile.{modelFile, headWords, headQuestions, bufferQuestion, fileEnd, bodyQuestions, fileWords, recordsFileQuestions, readModelCall}
 use Rattle.model_files.specs.ModelFilesExact.{IsModelFile}
 use Rattle.model_files.proofs.ModelReading.{body-passed, switches-at, forbiddens-at, words-end, length-file, length-head}
-use Rattle.model_files.proofs.ModelRoundTrip.{body-le, read-passes, model-files-exact}
+use Rattle.model_files.proofs.ModelRoundTrip.{head-le, records-file-le, read-passes, file-read, model-files-exact}
 use Rattle.host.specs.Hosts.{modelOf, modelFileQuestions}
 use Rattle.host.proofs.Held.{Front, front}
 
@@ -65,15 +61,14 @@ most-bytes h there e = let a = head-passed h there e in rw (file-end h) (few (mo
 
 -- ---- two chains of questions, one after the other
 
--- a question after r that is yes wherever r is may be left out
-left-out : (a r five y : ℕ) → (r ≡ 0 → five ≡ 0) → ((a then (r then five)) then y) ≡ (a then (r then y))
+-- a question after a that is yes wherever a is may be left out
+left-out : (a five y : ℕ) → (a ≡ 0 → five ≡ 0) → ((a then five) then y) ≡ (a then y)
 unfolding orElse
-left-out zero zero five y h = ap (λ (x : ℕ). x then y) (h refl)
-left-out zero (suc r) five y h = refl
-left-out (suc a) r five y h = refl
+left-out zero five y h = ap (λ (x : ℕ). x then y) (h refl)
+left-out (suc a) five y h = refl
 
--- the reply to both chains is that to the two as one
-one-chain : (x y : ℕ) (u v : List ℤ) (next : ReadOutcome) → unlessRefused x u (unlessRefused y v next) .reply ≡ unlessRefused (x then y) v next .reply
+-- the answer to both chains is that to the two as one
+one-chain : (x y : ℕ) (u v : List ℤ) (next : ReadOutcome) → unlessRefused x u (unlessRefused y v next) .count ≡ unlessRefused (x then y) v next .count
 unfolding orElse unlessRefused
 one-chain zero y u v next = refl
 one-chain (suc x) y u v next = refl
@@ -84,21 +79,17 @@ both-yes zero zero u v next e = refl
 both-yes zero (suc y) u v next e = absurd (omega arith)
 both-yes (suc x) y u v next e = absurd (omega arith)
 
--- ---- what a reader's refusal tells: it has no value
+-- ---- what a reader's refusal tells
 
-pub refused-number : (k : ℕ) (words : List ℤ) (next : ReadOutcome) (q : ℕ) → 0 < next .reply .value → refused q ≡ unlessRefused k words next .reply → (q ≡ k) × (k ≡ 0 → ⊥)
+pub refused-number : (k : ℕ) (words : List ℤ) (next : ReadOutcome) (v q : ℕ) → next .count ≡ Done v → Refused q ≡ unlessRefused k words next .count → (q ≡ k) × (k ≡ 0 → ⊥)
 unfolding unlessRefused
-refused-number zero words next q l e = absurd (omega (arith, ap (λ (r : Reply). r .value) e))
-refused-number (suc k) words next q l e = (ap (λ (r : Reply). r .code) e, λ z. omega arith)
+refused-number zero words next v q d e = absurd (let z : _≡_ {A = ℕ} 0 1 = cc in omega arith)
+refused-number (suc k) words next v q d e = (ap (λ (c : Count). countReply c .code) e, λ z. omega arith)
 
 -- ---- a reader's answer, by its case
 
-module _ {r : Count} {k : ℕ} {x : List ℤ} {o : ReadOutcome} where
-  pub when-done : r ≡ Done k → _≡_ {A = ReadOutcome} (record { reply = countReply r; words = x }) o → _≡_ {A = ReadOutcome} (record { reply = record { code = 100; value = k }; words = x }) o
-  when-done e h = subst (λ (c : Count). _≡_ {A = ReadOutcome} (record { reply = countReply c; words = x }) o) e h
-
-  pub when-refused : r ≡ Refused k → _≡_ {A = ReadOutcome} (record { reply = countReply r; words = x }) o → _≡_ {A = ReadOutcome} (record { reply = refused k; words = x }) o
-  when-refused e h = subst (λ (c : Count). _≡_ {A = ReadOutcome} (record { reply = countReply c; words = x }) o) e h
+pub when : {r c : Count} {x : List ℤ} {o : ReadOutcome} → r ≡ c → _≡_ {A = ReadOutcome} (record { count = r; words = x }) o → _≡_ {A = ReadOutcome} (record { count = c; words = x }) o
+when {x = x} {o = o} e h = subst (λ (c : Count). _≡_ {A = ReadOutcome} (record { count = c; words = x }) o) e h
 
 -- ---- what the reader of a model tells
 
@@ -106,70 +97,79 @@ module _ (s : List ℕ) where
   abbrev h : List ℤ
   h = headWords s
 
-  abbrev body : ℕ
-  body = bodyQuestions s h then recordsQuestions (fileWords s h)
-
   abbrev all : ReadOutcome
-  all = record { reply = record { code = 100; value = modelSize h }; words = onto (fileWords s h) held }
+  all = record { count = Done (modelSize h); words = onto (fileWords s h) held }
 
-  questions-are : (headQuestions s (length held) then body) ≡ modelFileQuestions s
-  unfolding headQuestions modelFileQuestions modelOf
+  -- 1 to 5
+  abbrev front-questions : ℕ
+  front-questions = headQuestions s then bufferQuestion h (length held)
+
+  -- n, L, E and B are allowed, so there is room for the words
+  ranges-yes : headQuestions s ≡ 0 → rangesQuestions h ≡ 0
+  unfolding headQuestions
+  ranges-yes e = then-both _ (rangesQuestions h) e .1
+
+  has-room : headQuestions s ≡ 0 → modelSize h ≤ length held
+  has-room e = omega (arith, most-words h (omega (arith, length-head s)) (ranges-yes e), length-replicate 7044 (pos 0))
+
+  questions-are : (front-questions then recordsFileQuestions s h) ≡ modelFileQuestions s
+  unfolding modelFileQuestions
   questions-are =
-      left-out (ask (isField (fieldAt s 0) 1 16) 1) (rangesQuestions h) (ask (leb (modelSize h) (length held)) 5) body
-      (λ e. ask-intro (leb (modelSize h) (length held)) 5 (le→leb (modelSize h) (length held) (omega (arith, most-words h (omega (arith, length-head s)) e, length-replicate 7044 (pos 0)))))
+      left-out (headQuestions s) (bufferQuestion h (length held)) (recordsFileQuestions s h)
+      (λ e. ask-intro (leb (modelSize h) (length held)) 5 (le→leb (modelSize h) (length held) (has-room e)))
 
   pub questions-le : modelFileQuestions s ≤ 19
-  unfolding modelFileQuestions modelOf
-  questions-le =
-      then-le _ _ 19 (omega (arith, ask-le (isField (fieldAt s 0) 1 16) 1))
-      (then-le _ _ 19 (ranges-le h) (then-le _ _ 19 (body-le s h) (records-le (fileWords s h))))
+  unfolding modelFileQuestions
+  questions-le = then-le _ _ 19 (head-le s) (records-file-le s h)
 
-  reply-is : readModelCall s held .reply ≡ unlessRefused (modelFileQuestions s) (zeroed held) all .reply
+  count-is : readModelCall s held .count ≡ unlessRefused (modelFileQuestions s) (zeroed held) all .count
   unfolding readModelCall
-  reply-is = one-chain (headQuestions s (length held)) body held (zeroed held) all ∙ ap (λ (q : ℕ). unlessRefused q (zeroed held) all .reply) questions-are
+  count-is = one-chain front-questions (recordsFileQuestions s h) held (zeroed held) all ∙ ap (λ (q : ℕ). unlessRefused q (zeroed held) all .count) questions-are
 
   -- a refusal is the number of the file's questions
-  pub read-refused : {q : ℕ} {x : List ℤ} → _≡_ {A = ReadOutcome} (record { reply = refused q; words = x }) (readModelCall s held) → (q ≡ modelFileQuestions s) × (modelFileQuestions s ≡ 0 → ⊥)
-  read-refused {q} e = refused-number (modelFileQuestions s) (zeroed held) all q (omega (arith, head-first h)) (ap (λ (o : ReadOutcome). o .reply) e ∙ reply-is)
+  pub read-refused : {q : ℕ} {x : List ℤ} → _≡_ {A = ReadOutcome} (record { count = Refused q; words = x }) (readModelCall s held) → (q ≡ modelFileQuestions s) × (modelFileQuestions s ≡ 0 → ⊥)
+  read-refused {q} e = refused-number (modelFileQuestions s) (zeroed held) all (modelSize h) q refl (ap (λ (o : ReadOutcome). o .count) e ∙ count-is)
 
   -- where all of them are yes, the words are the model's
   module _ (yes : modelFileQuestions s ≡ 0) where
+    each-yes : (headQuestions s ≡ 0) × (bodyQuestions s h ≡ 0) × (recordsQuestions (fileWords s h) ≡ 0)
+    unfolding modelFileQuestions recordsFileQuestions
+    each-yes =
+        let a : (headQuestions s ≡ 0) × (recordsFileQuestions s h ≡ 0) = then-both (headQuestions s) (recordsFileQuestions s h) yes in
+        let b : (bodyQuestions s h ≡ 0) × (recordsQuestions (fileWords s h) ≡ 0) = then-both (bodyQuestions s h) (recordsQuestions (fileWords s h)) (a .1) in
+        (a .0, b .0, b .1)
+
     fits : modelSize h ≤ length held
-    unfolding modelFileQuestions
-    fits = omega (arith, most-words h (omega (arith, length-head s)) (then-both _ _ (then-both _ _ yes .1) .0), length-replicate 7044 (pos 0))
+    fits = has-room (each-yes .0)
 
     reads : readModelCall s held ≡ all
     unfolding readModelCall
-    reads = both-yes (headQuestions s (length held)) body held (zeroed held) all (questions-are ∙ yes)
+    reads = both-yes front-questions (recordsFileQuestions s h) held (zeroed held) all (questions-are ∙ yes)
 
     pub longest-model : length s ≤ 28947
-    unfolding modelFileQuestions
-    longest-model =
-        let r = then-both _ _ (then-both _ _ yes .1) in
-        let there : 4 ≤ length h = omega (arith, length-head s) in
-        rw (body-passed s h (then-both _ _ (r .1) .0) .ended) (most-bytes h there (r .0))
+    longest-model = rw (body-passed s h (each-yes .1) .ended) (most-bytes h (omega (arith, length-head s)) (ranges-yes (each-yes .0)))
 
     pub model-asked : modelQuestions (modelOf s) ≡ 0
-    unfolding modelFileQuestions modelOf
-    model-asked = let r = then-both _ _ (then-both _ _ yes .1) in read-passes s (r .0) (then-both _ _ (r .1) .1)
+    unfolding modelOf
+    model-asked = read-passes s (ranges-yes (each-yes .0)) (each-yes .2)
 
     pub is-model : AreBytes s → IsModelFile s (modelOf s)
     unfolding modelOf
     is-model bytes =
         subst (IsModelFile s) (ap wordsRead reads ∙ take-onto (fileWords s h) held (modelSize h) (length-file s h (length-head s)))
-        (model-files-exact .read-is-file s held bytes (ap (λ (o : ReadOutcome). o .reply .code) reads))
+        (model-files-exact .read-is-file s held bytes (ap (λ (o : ReadOutcome). readReply o .code) reads))
 
-  module _ {size : ℕ} {x : List ℤ} (e : _≡_ {A = ReadOutcome} (record { reply = record { code = 100; value = size }; words = x }) (readModelCall s held)) where
+  module _ {size : ℕ} {x : List ℤ} (e : _≡_ {A = ReadOutcome} (record { count = Done size; words = x }) (readModelCall s held)) where
     pub read-yes : modelFileQuestions s ≡ 0
-    read-yes = done (modelFileQuestions s) (zeroed held) all (omega (arith, questions-le)) (sym (ap (λ (o : ReadOutcome). o .reply .code) e ∙ ap (λ (r : Reply). r .code) reply-is)) .0
+    read-yes = done (modelFileQuestions s) (zeroed held) all (omega (arith, questions-le)) (sym (ap (λ (o : ReadOutcome). readReply o .code) e ∙ ap (λ (c : Count). countReply c .code) count-is)) .0
 
-    read-all : _≡_ {A = ReadOutcome} (record { reply = record { code = 100; value = size }; words = x }) all
+    read-all : _≡_ {A = ReadOutcome} (record { count = Done size; words = x }) all
     read-all = e ∙ reads read-yes
 
     pub read-front : Front x size (modelOf s)
     unfolding modelOf
     read-front =
-        let is-size : size ≡ modelSize h = ap (λ (o : ReadOutcome). o .reply .value) read-all in
+        let is-size : size ≡ modelSize h = ap (λ (o : ReadOutcome). readReply o .value) read-all in
         front held (ap (λ (o : ReadOutcome). o .words) read-all) (length-file s h (length-head s) ∙ sym is-size) (omega (arith, is-size, fits read-yes))
 
     pub model-passes : modelQuestions (take size x) ≡ 0
@@ -183,5 +183,5 @@ file-passes m asks words =
     let b : (rangesQuestions m ≡ 0) × _ = then-both (rangesQuestions m) _ (a .1) in
     let whole : modelSize m ≤ length m = leb→le (modelSize m) (length m) (asked (leb (modelSize m) (length m)) 5 _ (omega arith) (b .1) .0) in
     let fit : modelSize m ≤ length held = omega (arith, most-words m (leb→le headSize (length m) (a .0)) (b .0), length-replicate 7044 (pos 0)) in
-    let e = sym (model-files-exact .file-reads m held asks words fit) in
+    let e = file-read m held asks words fit in
     (read-yes (modelFile m) e, sym (read-front (modelFile m) e .are) ∙ take-onto (take (modelSize m) m) held (modelSize m) (length-take-le (modelSize m) m whole))

@@ -4,24 +4,23 @@ use mathlib.Core.Logic.{_↔_, _⊎_}
 use mathlib.Core.List.{List}
 use Prim.Native.Nat.{ℕ, suc, _/_, _%_, _<_, _≤_}
 use lib.IntN.{ℤ}
-use lib.ListN.{length, getD, take}
-use mir.Syntax.{w32}
-use mir.Val.{SFits}
-use Rattle.integers.specs.Words.{word, onto}
+use lib.ListN.{length, take}
+use Rattle.integers.specs.Words.{AreWords, AreBytes, onto}
 use Rattle.plant.specs.Ask.{_then_}
 use Rattle.plant.specs.Model.{modelSize}
 use Rattle.plant.specs.Questions.{modelQuestions}
-use Rattle.plant.specs.Tables.{tableAfter}
-use Rattle.plant.specs.Calls.{answerReply, analysis}
+use Rattle.plant.specs.Tables.{longestTableFile, tableAfter}
+use Rattle.plant.specs.Calls.{answerReply, analysis, bytesQuestion}
 use Rattle.plant.specs.Demands.{Accepts, ceiling, NoRunMeets}
 use Rattle.model_files.specs.ModelFile.{modelFile}
 use Rattle.model_files.specs.ModelFilesExact.{IsModelFile}
-use Rattle.table_files.specs.TableFile.{tableFile, fileLength, fileTable, longestTableFile}
-use Rattle.host.specs.Hosts.{modelOf, modelFileQuestions, roomQuestion, decideCall, certificateFileQuestions, hostCheckCall}
+use Rattle.table_files.specs.TableFile.{tableFile, fileLength, fileTable}
+use Rattle.host.specs.Hosts.{modelOf, modelFileQuestions, decideCall, certificateFileQuestions, hostCheckCall}
 
 -- some bytes are accepted as a table file
 pub record AcceptableFile (s : List ℕ) : Type 0 where
   pub table : List ℕ
+  pub are-bytes : AreBytes table
   pub accepts : hostCheckCall s table ≡ 100
 
 -- ---- a call of decide
@@ -43,7 +42,7 @@ module _ (s file : List ℕ) (limit : ℕ) where
     pub answered : modelFileQuestions s ≡ 0 → longestTableFile (modelOf s) ≤ length file → (code ≡ 100) ⊎ ((code ≡ 101) ⊎ (code ≡ 102))
     -- only such a file is answered; every other gets the number of the first question that it fails
     pub only-passing : 100 ≤ code → (modelFileQuestions s ≡ 0) × (longestTableFile (modelOf s) ≤ length file)
-    pub refused-by : (q : ℕ) → (modelFileQuestions s then roomQuestion (modelOf s) file) ≡ suc q → code ≡ suc q
+    pub refused-by : (q : ℕ) → (modelFileQuestions s then bytesQuestion (modelOf s) (length file)) ≡ suc q → code ≡ suc q
     -- a refusal has no passes, and leaves the buffer as it was
     pub refused : code < 100 → (passes ≡ 0) × (decideCall s file limit .file ≡ file)
     -- second: an answer is the analysis's, of at most limit passes; the buffer begins with the file of the table after them
@@ -70,9 +69,9 @@ module _ (s file : List ℕ) (limit : ℕ) where
 
 pub record HostDemand : Type 0 where
   -- the file of every model that passes its questions passes, and is taken for that model
-  pub model-passes : (m : List ℤ) → modelQuestions m ≡ 0 → ((i : ℕ) → SFits w32 (word m i)) → (modelFileQuestions (modelFile m) ≡ 0) × (modelOf (modelFile m) ≡ take (modelSize m) m)
+  pub model-passes : (m : List ℤ) → modelQuestions m ≡ 0 → AreWords m → (modelFileQuestions (modelFile m) ≡ 0) × (modelOf (modelFile m) ≡ take (modelSize m) m)
   -- and bytes that pass are the file of the model that they are taken for
-  pub is-model : (s : List ℕ) → ((i : ℕ) → getD s i 0 < 256) → modelFileQuestions s ≡ 0 → IsModelFile s (modelOf s)
+  pub is-model : (s : List ℕ) → AreBytes s → modelFileQuestions s ≡ 0 → IsModelFile s (modelOf s)
   -- no model file is longer than 28,947 bytes, and 45,319 bytes are room for every table file
   pub longest-model : (s : List ℕ) → modelFileQuestions s ≡ 0 → length s ≤ 28947
   pub longest-table : (s : List ℕ) → modelFileQuestions s ≡ 0 → longestTableFile (modelOf s) ≤ 45319

@@ -2,18 +2,14 @@
 -- every input. Both hold words of their own, always long enough for 5, 20 and 21: these are not asked.
 use mathlib.Core.List.{List}
 use Prim.Native.Nat.{ℕ, zero, suc, _+_, _*_}
-use lib.Dec.{leb}
 use lib.IntN.{ℤ}
 use lib.ListN.{length}
 use Rattle.integers.specs.Words.{onto}
-use Rattle.wire.specs.Fields.{fieldAt, isField}
 use Rattle.plant.specs.declared.Answer.{Answer}
-use Rattle.plant.specs.Ask.{ask, _then_}
-use Rattle.plant.specs.Model.{headSize}
-use Rattle.plant.specs.Questions.{rangesQuestions, recordsQuestions}
-use Rattle.plant.specs.Calls.{Reply, refused, answerReply, certificateQuestions, checkBy, analysis, answerTable}
-use Rattle.model_files.specs.ModelFile.{headWords, bodyQuestions, fileWords}
-use Rattle.table_files.specs.TableFile.{tableFile, tableFileQuestions, fileTable, longestTableFile}
+use Rattle.plant.specs.Ask.{_then_}
+use Rattle.plant.specs.Calls.{Reply, refused, answerReply, certificateQuestions, checkBy, analysis, answerTable, bytesQuestion}
+use Rattle.model_files.specs.ModelFile.{headWords, headQuestions, fileWords, recordsFileQuestions}
+use Rattle.table_files.specs.TableFile.{tableFile, tableFileQuestions, fileTable}
 
 -- ---- the model
 
@@ -21,13 +17,9 @@ use Rattle.table_files.specs.TableFile.{tableFile, tableFileQuestions, fileTabl
 unfoldable pub modelOf : List ℕ → List ℤ
 modelOf s = fileWords s (headWords s)
 
--- the questions of a model file: 1, 2 to 4, 6 to 8, 11 to 19
+-- the questions of a model file without 5: 1 to 4, then 6 to 8 and 11 to 19
 unfoldable pub modelFileQuestions : List ℕ → ℕ
-modelFileQuestions s =
-    ask (isField (fieldAt s 0) 1 (4 * headSize)) 1
-    then rangesQuestions (headWords s)
-    then bodyQuestions s (headWords s)
-    then recordsQuestions (modelOf s)
+modelFileQuestions s = headQuestions s then recordsFileQuestions s (headWords s)
 
 -- ---- decide
 
@@ -49,12 +41,9 @@ abbrev pub decideBy : ℕ → (m : List ℤ) (file : List ℕ) (limit : ℕ) →
 decideBy zero m file limit = decided m (analysis m limit) file
 decideBy (suc k) m file limit = record { number = packed (refused (suc k)); file = file }
 
--- byte buffer of at least 7 + L × 2n × (11 + 8n)? 39
-abbrev pub roomQuestion : (m : List ℤ) (file : List ℕ) → ℕ
-roomQuestion m file = ask (leb (longestTableFile m) (length file)) 39
-
+-- the model's questions, then 39
 unfoldable pub decideCall : (s file : List ℕ) (limit : ℕ) → Decided
-decideCall s file limit = decideBy (modelFileQuestions s then roomQuestion (modelOf s) file) (modelOf s) file limit
+decideCall s file limit = decideBy (modelFileQuestions s then bytesQuestion (modelOf s) (length file)) (modelOf s) file limit
 
 -- ---- check
 

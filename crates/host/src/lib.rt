@@ -4,11 +4,10 @@ ghost use mathlib.Core.Bool.{true};
 ghost use Prim.Native.Nat.{_≤_};
 ghost use lib.ListN.{length};
 ghost use Rattle.plant.specs.Questions.{modelQuestions};
-ghost use Rattle.plant.specs.Tables.{tableSize};
+ghost use Rattle.plant.specs.Tables.{tableSize, longestTableFile};
 ghost use Rattle.plant.specs.Calls as C;
-ghost use Rattle.plant.specs.Calls.{answerReply, checkBy};
-ghost use Rattle.table_files.specs.TableFile.{longestTableFile};
-ghost use Rattle.host.specs.Hosts.{packed, decided, decideBy, roomQuestion, decideCall, certificateFileQuestions, hostCheckCall};
+ghost use Rattle.plant.specs.Calls.{answerReply, checkBy, bytesQuestion};
+ghost use Rattle.host.specs.Hosts.{packed, decided, decideBy, decideCall, certificateFileQuestions, hostCheckCall};
 use plant::Answer;
 use plant::Count;
 
@@ -69,10 +68,11 @@ fn answer_file(model: &[i32], file: &mut [u8], limit: u32) -> u64
 // The words of a model that passes its questions: 39, then the answer.
 fn decide_words(model: &[i32], file: &mut [u8], limit: u32) -> u64
     requires { ⌜ modelQuestions (now model) ≡ 0 ⌝ }
-    ensures { λ r. ⌜ record { number = r; file = now (file .exit) } ≡ decideBy (roomQuestion (now (model .entry)) (now (file .entry))) (now (model .entry)) (now (file .entry)) limit ⌝ }
+    ensures { λ r. ⌜ record { number = r; file = now (file .exit) } ≡ decideBy (bytesQuestion (now (model .entry)) (length (now (file .entry)))) (now (model .entry)) (now (file .entry)) limit ⌝ }
 {
-    if file.len() < table_files::longest_file(model) {
-        return pack(39, 0);
+    let q = table_files::bytes_question(model, file.len());
+    if q != 0 {
+        return pack(q, 0);
     }
     answer_file(model, file, limit)
 }

@@ -2,8 +2,9 @@
 // (document 01, "Plant P and other cases"). Decide gives both, the table as a file. That file's fields are the lines, so which
 // faces are present, how many and in which order is proved where the file is written.
 ghost use mathlib.Core.Path.{_≡_};
-ghost use Prim.Native.Nat.{ℕ, _+_, _*_, _≤_, _<_};
+ghost use Prim.Native.Nat.{ℕ, _+_, _≤_, _<_};
 ghost use lib.ListN.{length};
+ghost use Rattle.wire.specs.Fields.{payloadLength, fieldLength};
 ghost use Rattle.host.specs.Hosts.{packed, decideCall};
 use libc::STDIN_FILENO;
 use libc::STDOUT_FILENO;
@@ -60,19 +61,22 @@ fn print_end(last: bool) {
 
 // A line of as many words, from a position of the file on.
 fn print_line(file: &[u8], from: usize, count: usize)
-    requires { ⌜ from + 4 * count ≤ length (now file) ⌝ }
+    requires { ⌜ from + payloadLength count ≤ length (now file) ⌝ }
 {
     let mut i: usize = 0;
     while i < count {
-        print_word(wire::word_at(file, from + 4 * i));
+        print_word(wire::word_at(file, from + wire::WORD_SIZE * i));
         i = i + 1;
         print_end(i == count);
     }
 }
 
+// How many words the first field of a table's file has: the count of its faces.
+const COUNT_SIZE: usize = 1;
+
 // A line for each of as many fields of a table's file behind the first.
 fn print_faces(file: &[u8], count: u64) {
-    let mut at: usize = 7;
+    let mut at = wire::field_length(COUNT_SIZE);
     let mut i: u64 = 0;
     while i < count {
         let field = wire::next_field(file, at);
@@ -85,7 +89,7 @@ fn print_faces(file: &[u8], count: u64) {
         else {
             return;
         };
-        print_line(file, start, len / 4);
+        print_line(file, start, len / wire::WORD_SIZE);
         at = next;
         i = i + 1;
     }
@@ -93,10 +97,10 @@ fn print_faces(file: &[u8], count: u64) {
 
 // How many faces a table's file has, which its first field says, as the end of line one; then their lines.
 fn print_table(file: &[u8])
-    requires { ⌜ 7 ≤ length (now file) ⌝ }
+    requires { ⌜ fieldLength 1 ≤ length (now file) ⌝ }
 {
-    print_line(file, 3, 1);
-    let faces = integers::magnitude(wire::word_at(file, 3) as i64);
+    print_line(file, wire::HEADER_SIZE, COUNT_SIZE);
+    let faces = integers::magnitude(wire::word_at(file, wire::HEADER_SIZE) as i64);
     print_faces(file, faces);
 }
 
@@ -110,7 +114,7 @@ fn print_answer(code: u64) {
 }
 
 fn print_listing(number: u64, table: &[u8])
-    requires { ⌜ 7 ≤ length (now table) ⌝ }
+    requires { ⌜ fieldLength 1 ≤ length (now table) ⌝ }
 {
     let code = code(number);
     if code < 100 {

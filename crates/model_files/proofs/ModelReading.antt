@@ -1,38 +1,39 @@
 -- Laws of reading a model's file: what a yes to its questions tells, how the words are filled in, and how a call ends.
 use mathlib.Core.Path.{_≡_, refl, sym, ap, _∙_}
 use mathlib.Core.List.{List, _++_, append-assoc}
-use Prim.Native.Nat.{ℕ, _+_, _*_, _≤_, _<_}
-use native.Mathlib.Nat.{mul-le-mul}
+use Prim.Native.Nat.{ℕ, zero, suc, _+_, _*_, _≤_, _<_}
 use native.Mathlib.Omega.{arith}
-use lib.Dec.{leb, eqb, eqb→eq, leb→le}
+use lib.Dec.{T, leb, eqb, eqb→eq, leb→le}
 use lib.IntN.{ℤ, pos}
 use lib.ListN.{length, take, length-append, List·getD-append}
 use Rattle.integers.specs.Words.{word, onto}
+use Rattle.integers.specs.Counted.{cat}
 use Rattle.integers.proofs.Buffers.{onto-start, onto-all, onto-part, cat-none, length-cat, cat-turn, take-onto}
 use Rattle.wire.specs.Bytes.{wordsAt}
-use Rattle.wire.specs.Fields.{fieldAt, fieldPlace, isField}
+use Rattle.wire.specs.Fields.{payloadLength, fieldPlace, fieldAt, isField}
 use Rattle.wire.proofs.Words.{length-words}
-use Rattle.wire.proofs.Fields.{Due, due}
-use Rattle.plant.specs.Ask.{ask}
-use Rattle.plant.specs.Model.{n#, L#, E#, B#, locationAt, switchAt, forbiddenAt, modelSize}
+use Rattle.wire.proofs.Fields.{Due, due, place-small}
+use Rattle.plant.specs.Ask.{ask, orElse, _then_}
+use Rattle.wire.specs.declared.Field.{Field}
+use Rattle.plant.specs.Model.{n#, L#, E#, B#, locationSize, switchSize, forbiddenSize, locationAt, switchAt, forbiddenAt, modelSize}
 use Rattle.plant.specs.Questions.{rangesQuestions}
 use Rattle.plant.proofs.Asks.{ask-yes, or-right, then-both, first-each}
 use Rattle.records.specs.Whole as model
 use Rattle.records.proofs.Positions.{head-first}
-use Rattle.model_files.specs.ModelFile.{hasTag, fieldQuestions, runQuestions, switchesFrom, forbiddensFrom, fileEnd, headWords, sizesQuestions, bodyQuestions, runWords, fileWords}
+use Rattle.model_files.specs.ModelFile.{headFieldSize, hasTag, fieldQuestions, runQuestions, locationsFrom, switchesFrom, forbiddensFrom, fileEnd, headWords, headQuestions, bufferQuestion, bodyQuestions, runWords, fileWords}
+use Rattle.model_files.specs.Room.{RunReady}
 
 -- ---- fields
 
-pub field-passed : (s : List ℕ) (at tag len : ℕ) → fieldQuestions (fieldAt s at) tag len ≡ 0 → Due s at tag len
-field-passed s at tag len e =
-    due s at tag len (ask-yes (isField (fieldAt s at) tag len) 7 (omega arith) (or-right (ask (hasTag (fieldAt s at) tag) 6) (ask (isField (fieldAt s at) tag len) 7) e))
+pub field-passed : (f : Field) (tag len : ℕ) → fieldQuestions f tag len ≡ 0 → T (isField f tag len)
+field-passed f tag len e = ask-yes (isField f tag len) 7 (omega arith) (or-right (ask (hasTag f tag) 6) (ask (isField f tag len) 7) e)
 
 -- ---- runs of fields
 
-pub run-passed : (s : List ℕ) (from count tag w : ℕ) → runQuestions s from count tag w ≡ 0 → (i : ℕ) → i < count → Due s (fieldPlace from w i) tag (4 * w)
+pub run-passed : (s : List ℕ) (from count tag w : ℕ) → runQuestions s from count tag w ≡ 0 → (i : ℕ) → i < count → T (isField (fieldAt s (fieldPlace from w i)) tag (payloadLength w))
 unfolding runQuestions
 run-passed s from count tag w e i l =
-    field-passed s (fieldPlace from w i) tag (4 * w) (first-each count (λ i. fieldQuestions (fieldAt s (fieldPlace from w i)) tag (4 * w)) e i l)
+    field-passed (fieldAt s (fieldPlace from w i)) tag (payloadLength w) (first-each count (λ i. fieldQuestions (fieldAt s (fieldPlace from w i)) tag (payloadLength w)) e i l)
 
 pub length-run : (s : List ℕ) (from count w : ℕ) → length (runWords s from count w) ≡ count * w
 unfolding runWords
@@ -43,16 +44,18 @@ pub run-start : (s : List ℕ) (from w to : ℕ) (d : List ℤ) → to ≤ lengt
 unfolding runWords
 run-start s from w to d h = onto-start to d h ∙ ap (λ (l : List ℤ). onto (take to d ++ l) d) (sym (cat-none (λ i. wordsAt s (fieldPlace from w i + 3) w)))
 
-pub run-turn : (s : List ℕ) (from w to i at next : ℕ) (d x y : List ℤ) → x ≡ onto (take to d ++ runWords s from i w) d → to ≤ length d → at ≡ fieldPlace from w i → next ≡ to + i * w
-    → y ≡ onto (take next x ++ wordsAt s (at + 3) w) x → y ≡ onto (take to d ++ runWords s from (i + 1) w) d
+pub run-turn : (s : List ℕ) (from w to i start place : ℕ) (d x y : List ℤ) → x ≡ onto (take to d ++ runWords s from i w) d → to ≤ length d → start ≡ fieldPlace from w i + 3 → place ≡ to + i * w
+    → y ≡ onto (take place x ++ wordsAt s start w) x → y ≡ onto (take to d ++ runWords s from (i + 1) w) d
 unfolding runWords
-run-turn s from w to i at next d x y e h ea en f =
-    rw (f, ea) (cat-turn (λ i. wordsAt s (fieldPlace from w i + 3) w) to i next d x e h (omega (arith, length-run s from i w)))
+run-turn s from w to i start place d x y e h es ep f =
+    rw (f, es) (cat-turn (λ i. wordsAt s (fieldPlace from w i + 3) w) to i place d x e h (omega (arith, length-run s from i w)))
+
+-- a run of one field
+pub run-one : (s : List ℕ) (from w : ℕ) → runWords s from 1 w ≡ wordsAt s (from + 3) w
+unfolding runWords cat
+run-one s from w = ap (λ (at : ℕ). wordsAt s at w) (omega arith)
 
 -- ---- places, which are small
-
-pub place-small : (w i : ℕ) (most steps : ℕ) → i ≤ steps → w ≤ most → i * (3 + 4 * w) ≤ steps * (3 + 4 * most)
-place-small w i most steps h k = let f : 3 + 4 * w ≤ 3 + 4 * most = omega arith in mul-le-mul h f
 
 module _ (h : List ℤ) (ok : model.Head h) where
   pub switches-small : switchesFrom h ≤ 9683
@@ -61,7 +64,11 @@ module _ (h : List ℤ) (ok : model.Head h) where
   pub forbiddens-small : forbiddensFrom h ≤ 25427
   forbiddens-small = omega (arith, switches-small, place-small (6 + 4 * n# h) (E# h) 30 128 (ok .E-small) (omega (arith, ok .n-small)))
 
--- where the words of the switches and of the forbidden boxes begin
+-- where the words of the locations, the switches and the forbidden boxes begin
+pub locations-at : (h : List ℤ) → locationAt h 0 ≡ 4
+unfolding locationAt
+locations-at h = omega arith
+
 pub switches-at : (h : List ℤ) → switchAt h 0 ≡ 4 + L# h * (6 * n# h + 1)
 unfolding switchAt locationAt
 switches-at h = omega arith
@@ -73,21 +80,6 @@ forbiddens-at h = omega arith
 pub words-end : (h : List ℤ) → modelSize h ≡ forbiddenAt h 0 + B# h * (1 + 2 * n# h)
 unfolding modelSize forbiddenAt
 words-end h = omega arith
-
--- what the copying of the three runs asks of a file and of words that are long enough
-pub record Fits (h : List ℤ) (file words : ℕ) : Type 0 where
-  pub locations-fit : (switchesFrom h ≤ file) × (4 + L# h * (6 * n# h + 1) ≤ words) × (6 * n# h + 1 ≤ 37)
-  pub switches-fit : (forbiddensFrom h ≤ file) × (switchAt h 0 + E# h * (6 + 4 * n# h) ≤ words) × (6 + 4 * n# h ≤ 37)
-  pub forbiddens-fit : (fileEnd h ≤ file) × (forbiddenAt h 0 + B# h * (1 + 2 * n# h) ≤ words) × (1 + 2 * n# h ≤ 37)
-
-pub fits : (h : List ℤ) → model.Head h → (file words : ℕ) → fileEnd h ≤ file → modelSize h ≤ words → Fits h file words
-fits h ok file words p q =
-    let n : n# h ≤ 6 = ok .n-small in
-    record {
-      locations-fit = (omega arith, omega (arith, switches-at h, forbiddens-at h, words-end h), omega arith);
-      switches-fit = (omega arith, omega (arith, forbiddens-at h, words-end h), omega arith);
-      forbiddens-fit = (p, omega (arith, words-end h), omega arith);
-    }
 
 -- ---- two lists with the same head words
 
@@ -187,28 +179,29 @@ unfolding headWords
 length-head s = length-words s 3 4
 
 -- the head words of a file, read into four places
-pub head-read : (s : List ℕ) (d x : List ℤ) → length d ≡ 4 → x ≡ onto (take 0 d ++ wordsAt s 3 4) d → x ≡ headWords s
+pub head-read : (s : List ℕ) (d x : List ℤ) → length d ≡ 4 → x ≡ onto (take 0 d ++ runWords s 0 1 4) d → x ≡ headWords s
 unfolding headWords
-head-read s d x l e = e ∙ onto-all (wordsAt s 3 4) d (length-words s 3 4 ∙ sym l)
+head-read s d x l e = e ∙ ap (λ (r : List ℤ). onto r d) (run-one s 0 4) ∙ onto-all (wordsAt s 3 4) d (length-words s 3 4 ∙ sym l)
 
-pub head-filled : (s : List ℕ) (h d x : List ℤ) → h ≡ headWords s → x ≡ onto (take 0 d ++ wordsAt s 3 4) d → x ≡ onto h d
+pub head-filled : (s : List ℕ) (h d x : List ℤ) → h ≡ headWords s → x ≡ onto (take 0 d ++ runWords s 0 1 4) d → x ≡ onto h d
 unfolding headWords
-head-filled s h d x e f = rw e f
+head-filled s h d x e f = f ∙ ap (λ (r : List ℤ). onto r d) (run-one s 0 4 ∙ sym e)
 
 -- ---- what a yes tells
 
-pub head-there : (s : List ℕ) → ask (isField (fieldAt s 0) 1 16) 1 ≡ 0 → 19 ≤ length s
-head-there s e = due s 0 1 16 (ask-yes (isField (fieldAt s 0) 1 16) 1 (omega arith) e) .there
+-- questions in a row are asked in their order, however they are taken together
+pub then-assoc : (a b c : ℕ) → ((a then b) then c) ≡ (a then (b then c))
+unfolding orElse
+then-assoc zero b c = refl
+then-assoc (suc a) b c = refl
 
-pub sizes-room : (h : List ℤ) (room : ℕ) → sizesQuestions h room ≡ 0 → (rangesQuestions h ≡ 0) × (modelSize h ≤ room)
-sizes-room h room e =
-    let a : (rangesQuestions h ≡ 0) × (ask (leb (modelSize h) room) 5 ≡ 0) = then-both (rangesQuestions h) (ask (leb (modelSize h) room) 5) e in
-    (a .0, leb→le (modelSize h) room (ask-yes (leb (modelSize h) room) 5 (omega arith) (a .1)))
+pub buffer-room : (h : List ℤ) (room : ℕ) → bufferQuestion h room ≡ 0 → modelSize h ≤ room
+buffer-room h room e = leb→le (modelSize h) room (ask-yes (leb (modelSize h) room) 5 (omega arith) e)
 
 pub record BodyPassed (s : List ℕ) (h : List ℤ) : Type 0 where
-  pub locations-due : (i : ℕ) → i < L# h → Due s (fieldPlace 19 (6 * n# h + 1) i) 2 (4 * (6 * n# h + 1))
-  pub switches-due : (i : ℕ) → i < E# h → Due s (fieldPlace (switchesFrom h) (6 + 4 * n# h) i) 3 (4 * (6 + 4 * n# h))
-  pub forbiddens-due : (i : ℕ) → i < B# h → Due s (fieldPlace (forbiddensFrom h) (1 + 2 * n# h) i) 4 (4 * (1 + 2 * n# h))
+  pub locations-whole : (i : ℕ) → i < L# h → T (isField (fieldAt s (fieldPlace 19 (6 * n# h + 1) i)) 2 (4 * (6 * n# h + 1)))
+  pub switches-whole : (i : ℕ) → i < E# h → T (isField (fieldAt s (fieldPlace (switchesFrom h) (6 + 4 * n# h) i)) 3 (4 * (6 + 4 * n# h)))
+  pub forbiddens-whole : (i : ℕ) → i < B# h → T (isField (fieldAt s (fieldPlace (forbiddensFrom h) (1 + 2 * n# h) i)) 4 (4 * (1 + 2 * n# h)))
   pub ended : length s ≡ fileEnd h
 
 pub body-passed : (s : List ℕ) (h : List ℤ) → bodyQuestions s h ≡ 0 → BodyPassed s h
@@ -218,8 +211,23 @@ body-passed s h e =
     let b : (runQuestions s (switchesFrom h) (E# h) 3 (6 + 4 * n# h) ≡ 0) × _ = then-both (runQuestions s (switchesFrom h) (E# h) 3 (6 + 4 * n# h)) _ (a .1) in
     let c : (runQuestions s (forbiddensFrom h) (B# h) 4 (1 + 2 * n# h) ≡ 0) × _ = then-both (runQuestions s (forbiddensFrom h) (B# h) 4 (1 + 2 * n# h)) _ (b .1) in
     record {
-      locations-due = run-passed s 19 (L# h) 2 (6 * n# h + 1) (a .0);
-      switches-due = run-passed s (switchesFrom h) (E# h) 3 (6 + 4 * n# h) (b .0);
-      forbiddens-due = run-passed s (forbiddensFrom h) (B# h) 4 (1 + 2 * n# h) (c .0);
+      locations-whole = run-passed s 19 (L# h) 2 (6 * n# h + 1) (a .0);
+      switches-whole = run-passed s (switchesFrom h) (E# h) 3 (6 + 4 * n# h) (b .0);
+      forbiddens-whole = run-passed s (forbiddensFrom h) (B# h) 4 (1 + 2 * n# h) (c .0);
       ended = eqb→eq (length s) (fileEnd h) (ask-yes (eqb (length s) (fileEnd h)) 8 (omega arith) (c .1));
     }
+
+-- what the copying of the runs asks of a file that passes, and of words that are long enough
+module _ (s : List ℕ) (h : List ℤ) (ok : model.Head h) (y : BodyPassed s h) (words : List ℤ) (room : modelSize h ≤ length words) where
+  pub locations-ready : RunReady s locationsFrom (L# h) (locationSize (n# h)) words (locationAt h 0)
+  locations-ready = record { tag = 2; whole = y .locations-whole; room = omega (arith, locations-at h, switches-at h, forbiddens-at h, words-end h); w-small = omega (arith, ok .n-small) }
+
+  pub switches-ready : RunReady s (switchesFrom h) (E# h) (switchSize (n# h)) words (switchAt h 0)
+  switches-ready = record { tag = 3; whole = y .switches-whole; room = omega (arith, forbiddens-at h, words-end h); w-small = omega (arith, ok .n-small) }
+
+  pub forbiddens-ready : RunReady s (forbiddensFrom h) (B# h) (forbiddenSize (n# h)) words (forbiddenAt h 0)
+  forbiddens-ready = record { tag = 4; whole = y .forbiddens-whole; room = omega (arith, words-end h); w-small = omega (arith, ok .n-small) }
+
+-- the first field is a run of one
+pub head-ready : (s : List ℕ) (words : List ℤ) → T (isField (fieldAt s 0) 1 (payloadLength headFieldSize)) → headFieldSize ≤ length words → RunReady s 0 1 headFieldSize words 0
+head-ready s words e l = record { tag = 1; whole = λ i u. let z : i ≡ 0 = omega arith in rw z e; room = omega arith; w-small = omega arith }

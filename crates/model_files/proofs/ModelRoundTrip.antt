@@ -11,31 +11,31 @@ use lib.ListN.{length, getD, take, drop, length-append, take-append-drop}
 use lib.Seq.{take-add, take-at, drop-at, take-all, length-take-le, getD-take}
 use mir.Syntax.{w32}
 use mir.Val.{SFits}
-use Rattle.integers.specs.Words.{word, onto}
+use Rattle.integers.specs.Words.{word, AreWords, AreBytes, onto}
 use Rattle.integers.specs.Counted.{cat}
-use Rattle.integers.proofs.Tests.{and-intro}
 use Rattle.integers.proofs.Buffers.{cat-ext, cat-at, cat-parts, length-cat, take-onto}
 use Rattle.wire.specs.Bytes.{wordsAt, wordsBytes, part}
 use Rattle.wire.specs.Fields.{fieldAt, field, fieldPlace, isField}
 use Rattle.wire.specs.declared.Field.{Field}
 use Rattle.wire.specs.declared.Field.the-variants.{Whole}
-use Rattle.wire.proofs.Words.{AreBytes, AreWords, length-bytes, length-part, length-words, part-words, all-bytes-back}
-use Rattle.wire.proofs.Fields.{length-field, field-back, field-words-back, field-part, length-fields, fields-back, fields-words-back, fields-stand, Due, due}
+use Rattle.wire.proofs.Words.{length-bytes, length-part, length-words, part-words, all-bytes-back}
+use Rattle.wire.proofs.Fields.{length-field, field-back, field-words-back, field-part, length-fields, fields-back, fields-words-back, fields-stand, Due, due, whole-is}
 use Rattle.plant.specs.Ask.{ask, _then_}
 use Rattle.plant.specs.Model.{n#, L#, E#, B#, locationAt, switchAt, forbiddenAt, modelSize}
 use Rattle.plant.specs.Questions.{rangesQuestions, recordsQuestions, modelQuestions}
 use Rattle.plant.proofs.Asks.{ask-intro, ask-le, asked, then-both, then-intro, then-le, first-intro, first-le}
 use Rattle.plant.proofs.Numbers.{records-le, ranges-le}
 use Rattle.plant.proofs.Passed.{Passed, passed}
-use Rattle.plant.specs.Calls.{wordsRead}
+use Rattle.plant.specs.declared.Count.the-variants.{Done}
+use Rattle.plant.specs.Calls.{ReadOutcome, readReply, wordsRead}
 use Rattle.plant.proofs.Reading.{past, done}
 use Rattle.records.specs.Whole as model
 use Rattle.records.proofs.Positions.{head-first, location-within, switch-within, forbidden-within}
 use Rattle.model.proofs.Passing.{whole-passed}
-use Rattle.model_files.specs.ModelFile.{recordField, modelFile, hasTag, fieldQuestions, runQuestions, headWords, sizesQuestions, headQuestions, switchesFrom, forbiddensFrom, fileEnd, bodyQuestions, runWords, fileWords, readModelCall}
+use Rattle.model_files.specs.ModelFile.{recordField, modelFile, hasTag, fieldQuestions, runQuestions, headWords, headQuestions, bufferQuestion, recordsFileQuestions, switchesFrom, forbiddensFrom, fileEnd, bodyQuestions, runWords, fileWords, readModelCall}
 use Rattle.model_files.specs.ModelFilesExact.{IsModelFile, ModelFilesExact}
 use Rattle.model_files.proofs.Beginning.{records-yes}
-use Rattle.model_files.proofs.ModelReading.{SameHead, same-size, same-ranges, same-body, same-words, same-allowed, same-file, length-file, length-head, length-run, BodyPassed, body-passed, switches-at, forbiddens-at, words-end, sizes-room}
+use Rattle.model_files.proofs.ModelReading.{SameHead, same-size, same-ranges, same-body, same-words, same-allowed, same-file, length-file, length-head, length-run, BodyPassed, body-passed, switches-at, forbiddens-at, words-end, buffer-room}
 
 -- ---- lists in four parts
 
@@ -61,14 +61,11 @@ module _ {A : Type 0} where
 
 -- ---- a run of fields that is written is read back
 
-field-yes : (f : Field) (tag start len next : ℕ) → f ≡ Whole tag start len next → T (isField f tag len)
-field-yes f tag start len next e = rw e (and-intro (eqb tag tag) (eqb len len) (eqb-refl tag) (eqb-refl len))
-
 tag-yes : (f : Field) (tag start len next : ℕ) → f ≡ Whole tag start len next → T (hasTag f tag)
 tag-yes f tag start len next e = rw e (eqb-refl tag)
 
 questions-yes : (f : Field) (tag start len next : ℕ) → f ≡ Whole tag start len next → fieldQuestions f tag len ≡ 0
-questions-yes f tag start len next e = then-intro (ask-intro (hasTag f tag) 6 (tag-yes f tag start len next e)) (ask-intro (isField f tag len) 7 (field-yes f tag start len next e))
+questions-yes f tag start len next e = then-intro (ask-intro (hasTag f tag) 6 (tag-yes f tag start len next e)) (ask-intro (isField f tag len) 7 (whole-is f tag start len next e))
 
 module _ (s p : List ℕ) (tag : ℕ) (zs : ℕ → List ℤ) (k w : ℕ) (q : List ℕ) (at : ℕ) (es : s ≡ p ++ (cat k (λ i. field tag (wordsBytes (zs i))) ++ q)) (ep : length p ≡ at) (ew : (i : ℕ) → i < k → length (zs i) ≡ w) where
   run-yes : 4 * w < 65536 → runQuestions s at k tag w ≡ 0
@@ -165,7 +162,7 @@ module _ (m : List ℤ) (ok : Passed m) (f : AreWords m) where
       (ask-intro (eqb (length s) (fileEnd m)) 8 (rw length-all (eqb-refl (fileEnd m))))))
 
   head-yes : T (isField (fieldAt s 0) 1 16)
-  head-yes = field-yes (fieldAt s 0) 1 3 16 19 (field-back [] 1 (wordsBytes (part m 0 4)) (locations ++ (switches ++ forbiddens)) 0 16 refl length-payload (omega arith))
+  head-yes = whole-is (fieldAt s 0) 1 3 16 19 (field-back [] 1 (wordsBytes (part m 0 4)) (locations ++ (switches ++ forbiddens)) 0 16 refl length-payload (omega arith))
 
   -- the words
 
@@ -222,13 +219,13 @@ module _ (m : List ℤ) (ok : Passed m) (f : AreWords m) where
   front-records h = records-yes (take (modelSize m) m) (drop (modelSize m) m) front-whole (ap recordsQuestions (take-append-drop (modelSize m) m) ∙ h)
 
   reads : (words : List ℤ) → rangesQuestions m ≡ 0 → recordsQuestions m ≡ 0 → modelSize m ≤ length words
-      → record { reply = record { code = 100; value = modelSize m }; words = onto (take (modelSize m) m) words } ≡ readModelCall s words
-  unfolding readModelCall headQuestions
+      → record { count = Done (modelSize m); words = onto (take (modelSize m) m) words } ≡ readModelCall s words
+  unfolding readModelCall headQuestions recordsFileQuestions
   reads words ranges records room =
       let size : modelSize (headWords s) ≡ modelSize m = same-size (headWords s) m same in
       past _
-      (then-intro (ask-intro (isField (fieldAt s 0) 1 16) 1 head-yes)
-      (then-intro (same-ranges (headWords s) m same ∙ ranges) (ask-intro (leb (modelSize (headWords s)) (length words)) 5 (le→leb (modelSize (headWords s)) (length words) (omega (arith, size))))))
+      (then-intro (then-intro (ask-intro (isField (fieldAt s 0) 1 16) 1 head-yes) (same-ranges (headWords s) m same ∙ ranges))
+      (ask-intro (leb (modelSize (headWords s)) (length words)) 5 (le→leb (modelSize (headWords s)) (length words) (omega (arith, size)))))
       (past _ (then-intro (same-body (headWords s) m same s ∙ body-yes) (ap recordsQuestions words-are ∙ front-records records))
       (rw (size, words-are) refl))
 
@@ -245,20 +242,21 @@ module _ (s : List ℕ) where
       let f : Field = fieldAt s (fieldPlace from w i) in
       then-le _ _ 19 (asks (hasTag f tag) 6 (omega arith)) (asks (isField f tag (4 * w)) 7 (omega arith)))
 
-  pub head-le : (room : ℕ) → headQuestions s room ≤ 19
+  pub head-le : headQuestions s ≤ 19
   unfolding headQuestions
-  head-le room =
-      then-le _ _ 19 (asks (isField (fieldAt s 0) 1 16) 1 (omega arith))
-      (then-le _ _ 19 (ranges-le (headWords s))
-      (asks (leb (modelSize (headWords s)) room) 5 (omega arith)))
+  head-le = then-le _ _ 19 (asks (isField (fieldAt s 0) 1 16) 1 (omega arith)) (ranges-le (headWords s))
 
-  pub body-le : (h : List ℤ) → bodyQuestions s h ≤ 19
+  body-le : (h : List ℤ) → bodyQuestions s h ≤ 19
   unfolding bodyQuestions
   body-le h =
       then-le _ _ 19 (run-le 19 (L# h) 2 (6 * n# h + 1))
       (then-le _ _ 19 (run-le (switchesFrom h) (E# h) 3 (6 + 4 * n# h))
       (then-le _ _ 19 (run-le (forbiddensFrom h) (B# h) 4 (1 + 2 * n# h))
       (asks (eqb (length s) (fileEnd h)) 8 (omega arith))))
+
+  pub records-file-le : (h : List ℤ) → recordsFileQuestions s h ≤ 19
+  unfolding recordsFileQuestions
+  records-file-le h = then-le _ _ 19 (body-le h) (records-le (fileWords s h))
 
 -- ---- bytes that are read are the file of the words that they give
 
@@ -273,12 +271,12 @@ file-by a b e = rw (e 0 (omega arith), e 1 (omega arith), e 2 (omega arith), e 3
 
 -- the fields of a run are the file's part that is read
 run-stands : (s : List ℕ) (b : AreBytes s) (a p : List ℤ) (q : List ℤ) (from count tag w at : ℕ) → a ≡ p ++ (runWords s from count w ++ q) → length p ≡ at
-    → ((i : ℕ) → i < count → Due s (fieldPlace from w i) tag (4 * w)) → cat count (λ i. recordField tag a (at + i * w) w) ≡ part s from (count * (3 + 4 * w))
+    → ((i : ℕ) → i < count → T (isField (fieldAt s (fieldPlace from w i)) tag (4 * w))) → cat count (λ i. recordField tag a (at + i * w) w) ≡ part s from (count * (3 + 4 * w))
 unfolding runWords
-run-stands s b a p q from count tag w at ea ep dues =
+run-stands s b a p q from count tag w at ea ep whole =
     cat-ext count (λ i. recordField tag a (at + i * w) w) (λ i. field tag (wordsBytes (wordsAt s (fieldPlace from w i + 3) w)))
     (λ i l. ap (λ (x : List ℤ). field tag (wordsBytes x)) (ap (λ (x : List ℤ). part x (at + i * w) w) ea ∙ part-of-cat p (λ i. wordsAt s (fieldPlace from w i + 3) w) q count w at i ep (λ j u. length-words s (fieldPlace from w j + 3) w) l))
-    ∙ sym (fields-stand s b from tag w count (λ i l. dues i l .field-is))
+    ∙ sym (fields-stand s b from tag w count (λ i l. due s (fieldPlace from w i) tag (4 * w) (whole i l) .field-is))
 
 -- the words of a file pass the questions of words
 module _ (s : List ℕ) where
@@ -299,7 +297,7 @@ module _ (s : List ℕ) where
       (then-intro (same-ranges a (headWords s) same-read ∙ ranges)
       (then-intro (ask-intro (leb (modelSize a) (length a)) 5 (le→leb (modelSize a) (length a) (omega (arith, length-read, read-size)))) records))
 
-module _ (s : List ℕ) (b : AreBytes s) (first-due : Due s 0 1 16) (due-all : BodyPassed s (headWords s)) where
+module _ (s : List ℕ) (b : AreBytes s) (first-due : Due s 0 1 16) (y : BodyPassed s (headWords s)) where
   abbrev h : List ℤ
   h = headWords s
 
@@ -345,42 +343,45 @@ module _ (s : List ℕ) (b : AreBytes s) (first-due : Due s 0 1 16) (due-all : B
   is-file =
       sym (file-by a h (same-file s h (length-head s))
       ∙ ap₂ (λ (x y : List ℕ). x ++ y) head-stands
-      (ap₂ (λ (x y : List ℕ). x ++ y) (run-stands s b a h (switchRun ++ forbiddenRun) 19 (L# h) 2 (6 * n# h + 1) 4 around-locations (length-head s) (due-all .locations-due))
-      (ap₂ (λ (x y : List ℕ). x ++ y) (run-stands s b a (h ++ locationRun) forbiddenRun (switchesFrom h) (E# h) 3 (6 + 4 * n# h) (4 + L# h * (6 * n# h + 1)) around-switch-run length-two (due-all .switches-due))
-      (run-stands s b a ((h ++ locationRun) ++ switchRun) [] (forbiddensFrom h) (B# h) 4 (1 + 2 * n# h) (4 + L# h * (6 * n# h + 1) + E# h * (6 + 4 * n# h)) around-forbidden-run length-three (due-all .forbiddens-due))))
+      (ap₂ (λ (x y : List ℕ). x ++ y) (run-stands s b a h (switchRun ++ forbiddenRun) 19 (L# h) 2 (6 * n# h + 1) 4 around-locations (length-head s) (y .locations-whole))
+      (ap₂ (λ (x y : List ℕ). x ++ y) (run-stands s b a (h ++ locationRun) forbiddenRun (switchesFrom h) (E# h) 3 (6 + 4 * n# h) (4 + L# h * (6 * n# h + 1)) around-switch-run length-two (y .switches-whole))
+      (run-stands s b a ((h ++ locationRun) ++ switchRun) [] (forbiddensFrom h) (B# h) 4 (1 + 2 * n# h) (4 + L# h * (6 * n# h + 1) + E# h * (6 + 4 * n# h)) around-forbidden-run length-three (y .forbiddens-whole))))
       ∙ four-parts s 19 (L# h * (3 + 4 * (6 * n# h + 1))) (E# h * (3 + 4 * (6 + 4 * n# h))) (B# h * (3 + 4 * (1 + 2 * n# h)))
-      ∙ take-all (fileEnd h) s (omega (arith, due-all .ended)))
+      ∙ take-all (fileEnd h) s (omega (arith, y .ended)))
 
   pub read-file : rangesQuestions h ≡ 0 → recordsQuestions a ≡ 0 → IsModelFile s a
   read-file ranges records = record { is-file = is-file; passes = read-passes s ranges records; no-more = length-read s ∙ sym (read-size s) }
 
-head-passed : (s : List ℕ) (room : ℕ) → headQuestions s room ≡ 0 → Due s 0 1 16 × (rangesQuestions (headWords s) ≡ 0)
+head-passed : (s : List ℕ) → headQuestions s ≡ 0 → Due s 0 1 16 × (rangesQuestions (headWords s) ≡ 0)
 unfolding headQuestions
-head-passed s room e =
-    let x : T (isField (fieldAt s 0) 1 16) × (sizesQuestions (headWords s) room ≡ 0) = asked (isField (fieldAt s 0) 1 16) 1 (sizesQuestions (headWords s) room) (omega arith) e in
-    (due s 0 1 16 (x .0), sizes-room (headWords s) room (x .1) .0)
+head-passed s e =
+    let x : T (isField (fieldAt s 0) 1 16) × (rangesQuestions (headWords s) ≡ 0) = asked (isField (fieldAt s 0) 1 16) 1 (rangesQuestions (headWords s)) (omega arith) e in
+    (due s 0 1 16 (x .0), x .1)
 
 -- ---- the theorem
 
-file-reads : (m words : List ℤ) → modelQuestions m ≡ 0 → ((i : ℕ) → SFits w32 (word m i)) → modelSize m ≤ length words
-    → readModelCall (modelFile m) words ≡ record { reply = record { code = 100; value = modelSize m }; words = onto (take (modelSize m) m) words }
+pub file-read : (m words : List ℤ) → modelQuestions m ≡ 0 → AreWords m → modelSize m ≤ length words
+    → record { count = Done (modelSize m); words = onto (take (modelSize m) m) words } ≡ readModelCall (modelFile m) words
 unfolding modelFile modelQuestions
-file-reads m words e f room =
+file-read m words e f room =
     let x : _ × _ = asked (leb 4 (length m)) 5 _ (omega arith) e in
     let y : (rangesQuestions m ≡ 0) × _ = then-both (rangesQuestions m) _ (x .1) in
     let z : _ × (recordsQuestions m ≡ 0) = asked (leb (modelSize m) (length m)) 5 (recordsQuestions m) (omega arith) (y .1) in
-    sym (reads m (passed m e) f words (y .0) (z .1) room)
+    reads m (passed m e) f words (y .0) (z .1) room
 
-read-is-file : (s : List ℕ) (words : List ℤ) → ((i : ℕ) → getD s i 0 < 256) → readModelCall s words .reply .code ≡ 100 → IsModelFile s (wordsRead (readModelCall s words))
-unfolding readModelCall
+read-is-file : (s : List ℕ) (words : List ℤ) → AreBytes s → readReply (readModelCall s words) .code ≡ 100 → IsModelFile s (wordsRead (readModelCall s words))
+unfolding readModelCall recordsFileQuestions
 read-is-file s words b e =
     let h : List ℤ = headWords s in
-    let x = done (headQuestions s (length words)) _ _ (omega (arith, head-le s (length words))) e in
-    let y = done (bodyQuestions s h then recordsQuestions (fileWords s h)) _ _ (omega (arith, then-le _ _ 19 (body-le s h) (records-le (fileWords s h)))) (rw (x .1) at e) in
+    let x = done (headQuestions s then bufferQuestion h (length words)) _ _ (omega (arith, then-le _ _ 19 (head-le s) (asks (leb (modelSize h) (length words)) 5 (omega arith)))) e in
+    let y = done (recordsFileQuestions s h) _ _ (omega (arith, records-file-le s h)) (rw (x .1) at e) in
     let z : (bodyQuestions s h ≡ 0) × (recordsQuestions (fileWords s h) ≡ 0) = then-both (bodyQuestions s h) (recordsQuestions (fileWords s h)) (y .0) in
-    let k = head-passed s (length words) (x .0) in
+    let k = head-passed s (then-both (headQuestions s) _ (x .0) .0) in
     rw (x .1 ∙ y .1, take-onto (fileWords s h) words (modelSize h) (length-file s h (length-head s)))
     (read-file s b (k .0) (body-passed s h (z .0)) (k .1) (z .1))
 
 pub model-files-exact : ModelFilesExact
-model-files-exact = record { file-reads = file-reads; read-is-file = read-is-file }
+model-files-exact = record {
+  file-reads = λ m words e f room. let r = sym (file-read m words e f room) in record { number = ap readReply r; buffer = ap (λ (o : ReadOutcome). o .words) r };
+  read-is-file = read-is-file;
+}

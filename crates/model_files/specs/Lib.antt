@@ -1,2 +1,3 @@
 pub mod ModelFile
+pub mod Room
 pub mod ModelFilesExact

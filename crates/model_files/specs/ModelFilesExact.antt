@@ -1,15 +1,13 @@
 -- A model's file is read exactly if it is the file of words that pass the questions, and then gives those words.
 use mathlib.Core.Path.{_≡_}
 use mathlib.Core.List.{List}
-use Prim.Native.Nat.{ℕ, _<_, _≤_}
+use Prim.Native.Nat.{ℕ, _≤_}
 use lib.IntN.{ℤ}
-use lib.ListN.{length, getD, take}
-use mir.Syntax.{w32}
-use mir.Val.{SFits}
-use Rattle.integers.specs.Words.{word, onto}
+use lib.ListN.{length, take}
+use Rattle.integers.specs.Words.{AreWords, AreBytes, onto}
 use Rattle.plant.specs.Model.{modelSize}
 use Rattle.plant.specs.Questions.{modelQuestions}
-use Rattle.plant.specs.Calls.{wordsRead}
+use Rattle.plant.specs.Calls.{readReply, wordsRead, Reads}
 use Rattle.model_files.specs.ModelFile.{modelFile, readModelCall}
 
 -- the bytes s are the file of the words m, which pass the questions and are a model's and no more
@@ -20,7 +18,7 @@ pub record IsModelFile (s : List ℕ) (m : List ℤ) : Type 0 where
 
 pub record ModelFilesExact : Type 0 where
   -- the file of words that pass is read into every buffer that is long enough, and gives them
-  pub file-reads : (m words : List ℤ) → modelQuestions m ≡ 0 → ((i : ℕ) → SFits w32 (word m i)) → modelSize m ≤ length words
-      → readModelCall (modelFile m) words ≡ record { reply = record { code = 100; value = modelSize m }; words = onto (take (modelSize m) m) words }
+  pub file-reads : (m words : List ℤ) → modelQuestions m ≡ 0 → AreWords m → modelSize m ≤ length words
+      → Reads (readModelCall (modelFile m) words) (modelSize m) (onto (take (modelSize m) m) words)
   -- bytes that are read are the file of the words that they give
-  pub read-is-file : (s : List ℕ) (words : List ℤ) → ((i : ℕ) → getD s i 0 < 256) → readModelCall s words .reply .code ≡ 100 → IsModelFile s (wordsRead (readModelCall s words))
+  pub read-is-file : (s : List ℕ) (words : List ℤ) → AreBytes s → readReply (readModelCall s words) .code ≡ 100 → IsModelFile s (wordsRead (readModelCall s words))

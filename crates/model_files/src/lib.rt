@@ -2,14 +2,17 @@
 use plant::Count;
 ghost use mathlib.Core.Path.{_≡_};
 ghost use mathlib.Core.List.{_++_};
-ghost use Prim.Native.Nat.{_+_, _*_, _≤_};
+ghost use Prim.Native.Nat.{_≤_};
 ghost use lib.ListN.{length, take};
 ghost use Rattle.integers.specs.Words.{onto};
-ghost use Rattle.wire.specs.Fields.{fieldPlace};
-ghost use Rattle.plant.specs.Model.{modelSize};
-ghost use Rattle.plant.specs.Calls.{countReply};
+ghost use Rattle.plant.specs.Ask.{_then_};
+ghost use Rattle.plant.specs.Questions.{rangesQuestions};
 ghost use Rattle.records.specs.Whole.{Head};
-ghost use Rattle.model_files.specs.ModelFile.{hasTag, fieldQuestions, runQuestions, headWords, switchesFrom, forbiddensFrom, fileEnd, bodyQuestions, runWords, fileWords, readRecords, readModelCall, sizesQuestions};
+ghost use Rattle.model_files.specs.ModelFile.{headFieldSize, hasTag, fieldQuestions, runQuestions, bufferQuestion, locationsFrom, switchesFrom, forbiddensFrom, fileEnd, bodyQuestions, runWords, fileWords, readRecords, readModelCall};
+ghost use Rattle.model_files.specs.Room.{RunReady, HeadRead};
+
+// How many words the first field has.
+const HEAD_FIELD_SIZE: usize = 4;
 
 // ---- the questions of a file
 
@@ -38,14 +41,19 @@ fn run_questions(file: &[u8], from: usize, count: usize, tag: u8, w: usize) -> u
     requires { ⌜ w ≤ 37 ⌝ }
     ensures { λ r. ⌜ r ≡ runQuestions (now (file .entry)) from count tag w ⌝ }
 {
+    let len = wire::payload_length(w);
     let mut at = from;
     let mut i: usize = 0;
     while i < count {
-        let r = field_questions(wire::next_field(file, at), tag, 4 * w);
+        let field = wire::next_field(file, at);
+        let r = field_questions(field, tag, len);
         if r != 0 {
             return r;
         }
-        at = at + 3 + 4 * w;
+        let wire::Field::Whole { next, .. } = field else {
+            return r;
+        };
+        at = next;
         i = i + 1;
     }
     0
@@ -53,8 +61,8 @@ fn run_questions(file: &[u8], from: usize, count: usize, tag: u8, w: usize) -> u
 
 // n, L, E and B allowed, and the words of such a model not more than there is room for?
 fn sizes_questions(head: &[i32], room: usize) -> u32
-    requires { ⌜ 4 ≤ length (now head) ⌝ }
-    ensures { λ r. ⌜ r ≡ sizesQuestions (now (head .entry)) room ⌝ }
+    requires { ⌜ headFieldSize ≤ length (now head) ⌝ }
+    ensures { λ r. ⌜ r ≡ (rangesQuestions (now (head .entry)) then bufferQuestion (now (head .entry)) room) ⌝ }
 {
     let q = model::ranges_questions(head);
     if q != 0 {
@@ -65,21 +73,19 @@ fn sizes_questions(head: &[i32], room: usize) -> u32
 
 // ---- where the fields begin
 
-// Field i of a run of fields with a payload of w words.
-fn field_place(from: usize, w: usize, i: usize) -> usize
-    requires { ⌜ (from ≤ 30000) × (w ≤ 37) × (i ≤ 128) ⌝ }
-    ensures { λ r. ⌜ r ≡ fieldPlace from w i ⌝ }
+fn locations_from() -> usize
+    ensures { λ r. ⌜ r ≡ locationsFrom ⌝ }
 {
-    from + i * (3 + 4 * w)
+    wire::field_place(0, HEAD_FIELD_SIZE, 1)
 }
 
 fn switches_from(head: &[i32]) -> usize
     requires { ⌜ Head (now head) ⌝ }
     ensures { λ r. ⌜ r ≡ switchesFrom (now (head .entry)) ⌝ }
 {
-    field_place(
-        19,
-        6 * records::variables(head) + 1,
+    wire::field_place(
+        locations_from(),
+        records::location_size(records::variables(head)),
         records::locations(head),
     )
 }
@@ -88,9 +94,9 @@ fn forbiddens_from(head: &[i32]) -> usize
     requires { ⌜ Head (now head) ⌝ }
     ensures { λ r. ⌜ r ≡ forbiddensFrom (now (head .entry)) ⌝ }
 {
-    field_place(
+    wire::field_place(
         switches_from(head),
-        6 + 4 * records::variables(head),
+        records::switch_size(records::variables(head)),
         records::switches(head),
     )
 }
@@ -99,9 +105,9 @@ fn file_end(head: &[i32]) -> usize
     requires { ⌜ Head (now head) ⌝ }
     ensures { λ r. ⌜ r ≡ fileEnd (now (head .entry)) ⌝ }
 {
-    field_place(
+    wire::field_place(
         forbiddens_from(head),
-        1 + 2 * records::variables(head),
+        records::forbidden_size(records::variables(head)),
         records::forbidden_boxes(head),
     )
 }
@@ -112,20 +118,26 @@ fn body_questions(file: &[u8], head: &[i32]) -> u32
     ensures { λ r. ⌜ r ≡ bodyQuestions (now (file .entry)) (now (head .entry)) ⌝ }
 {
     let n = records::variables(head);
-    let locations = run_questions(file, 19, records::locations(head), 2, 6 * n + 1);
+    let locations = run_questions(
+        file,
+        locations_from(),
+        records::locations(head),
+        2,
+        records::location_size(n),
+    );
     let switches = run_questions(
         file,
         switches_from(head),
         records::switches(head),
         3,
-        6 + 4 * n,
+        records::switch_size(n),
     );
     let forbiddens = run_questions(
         file,
         forbiddens_from(head),
         records::forbidden_boxes(head),
         4,
-        1 + 2 * n,
+        records::forbidden_size(n),
     );
     let ended = model::ask(file.len() == file_end(head), 8);
     model::or_else(
@@ -138,33 +150,44 @@ fn body_questions(file: &[u8], head: &[i32]) -> u32
 
 // Copies the payloads of `count` fields of w words each, from a position on, to a place of the words.
 fn copy_run(file: &[u8], from: usize, count: usize, w: usize, words: &mut [i32], to: usize)
-    requires { ⌜ (fieldPlace from w count ≤ length (now file)) × (to + count * w ≤ length (now words)) × (w ≤ 37) ⌝ }
+    requires { ⌜ RunReady (now file) from count w (now words) to ⌝ }
     ensures { λ _. ⌜ now (words .exit) ≡ onto (take to (now (words .entry)) ++ runWords (now (file .entry)) from count w) (now (words .entry)) ⌝ }
 {
     let mut at = from;
-    let mut next = to;
+    let mut place = to;
     let mut i: usize = 0;
     while i < count {
-        wire::copy_words(file, at + 3, w, words, next);
-        at = at + 3 + 4 * w;
-        next = next + w;
+        let field = wire::next_field(file, at);
+        let wire::Field::Whole { start, next, .. } = field else {
+            return;
+        };
+        wire::copy_words(file, start, w, words, place);
+        at = next;
+        place = place + w;
         i = i + 1;
     }
 }
 
 // Copies all words of a file that passes its questions.
 fn fill(file: &[u8], head: &[i32], words: &mut [i32])
-    requires { ⌜ Head (now head) × (now head ≡ headWords (now file)) × (fileEnd (now head) ≤ length (now file)) × (modelSize (now head) ≤ length (now words)) ⌝ }
+    requires { ⌜ HeadRead (now file) (now head) (now words) × (bodyQuestions (now file) (now head) ≡ 0) ⌝ }
     ensures { λ _. ⌜ now (words .exit) ≡ onto (fileWords (now (file .entry)) (now (head .entry))) (now (words .entry)) ⌝ }
 {
     let n = records::variables(head);
-    wire::copy_words(file, 3, 4, words, 0);
-    copy_run(file, 19, records::locations(head), 6 * n + 1, words, 4);
+    copy_run(file, 0, 1, HEAD_FIELD_SIZE, words, 0);
+    copy_run(
+        file,
+        locations_from(),
+        records::locations(head),
+        records::location_size(n),
+        words,
+        records::location_at(head, 0),
+    );
     copy_run(
         file,
         switches_from(head),
         records::switches(head),
-        6 + 4 * n,
+        records::switch_size(n),
         words,
         records::switch_at(head, 0),
     );
@@ -172,7 +195,7 @@ fn fill(file: &[u8], head: &[i32], words: &mut [i32])
         file,
         forbiddens_from(head),
         records::forbidden_boxes(head),
-        1 + 2 * n,
+        records::forbidden_size(n),
         words,
         records::forbidden_at(head, 0),
     )
@@ -182,8 +205,8 @@ fn fill(file: &[u8], head: &[i32], words: &mut [i32])
 
 // Reads the records of a file whose head is accepted.
 fn read_records(file: &[u8], head: &[i32], words: &mut [i32]) -> Count
-    requires { ⌜ Head (now head) × (now head ≡ headWords (now file)) × (modelSize (now head) ≤ length (now words)) ⌝ }
-    ensures { λ r. ⌜ record { reply = countReply r; words = now (words .exit) } ≡ readRecords (now (file .entry)) (now (head .entry)) (now (words .entry)) ⌝ }
+    requires { ⌜ HeadRead (now file) (now head) (now words) ⌝ }
+    ensures { λ r. ⌜ record { count = r; words = now (words .exit) } ≡ readRecords (now (file .entry)) (now (head .entry)) (now (words .entry)) ⌝ }
 {
     let q = body_questions(file, head);
     if q != 0 {
@@ -202,14 +225,18 @@ fn read_records(file: &[u8], head: &[i32], words: &mut [i32]) -> Count
 
 // Reads a model file into the words: how many they are, or a refusal's number.
 pub fn read_model(file: &[u8], words: &mut [i32]) -> Count
-    ensures { λ r. ⌜ record { reply = countReply r; words = now (words .exit) } ≡ readModelCall (now (file .entry)) (now (words .entry)) ⌝ }
+    ensures { λ r. ⌜ record { count = r; words = now (words .exit) } ≡ readModelCall (now (file .entry)) (now (words .entry)) ⌝ }
 {
-    let q1 = model::ask(wire::is_field(wire::next_field(file, 0), 1, 16), 1);
+    let first = wire::next_field(file, 0);
+    let q1 = model::ask(
+        wire::is_field(first, 1, wire::payload_length(HEAD_FIELD_SIZE)),
+        1,
+    );
     if q1 != 0 {
         return Count::Refused(q1);
     }
-    let mut head: [i32; 4] = [0; 4];
-    wire::copy_words(file, 3, 4, &mut head, 0);
+    let mut head = [0i32; HEAD_FIELD_SIZE];
+    copy_run(file, 0, 1, HEAD_FIELD_SIZE, &mut head, 0);
     let q = sizes_questions(&head, words.len());
     if q != 0 {
         return Count::Refused(q);

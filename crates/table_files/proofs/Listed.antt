@@ -11,7 +11,7 @@ use borrow.Author.Tests.{eq-eqb}
 use lib.Dec.{T, eqb, eqb→eq}
 use lib.IntN.{ℤ, pos}
 use lib.ListN.{length, getD, length-append}
-use Rattle.integers.specs.Words.{num}
+use Rattle.integers.specs.Words.{num, AreWords}
 use Rattle.integers.specs.Counted.{cat}
 use Rattle.integers.proofs.Counted.{split}
 use Rattle.integers.proofs.Buffers.{cat-ext}
@@ -19,7 +19,7 @@ use Rattle.integers.proofs.Signed.{fits32}
 use Rattle.wire.specs.Bytes.{wordsAt, wordBytes, wordsBytes}
 use Rattle.wire.specs.Fields.{lengthAt, fieldAt, field}
 use Rattle.wire.specs.declared.Field.the-variants.{Whole}
-use Rattle.wire.proofs.Words.{AreWords, length-word, word-back}
+use Rattle.wire.proofs.Words.{length-word, word-back}
 use Rattle.wire.proofs.Fields.{length-field, field-back, field-lies, length-fields, fields-back, fields-words-back}
 use Rattle.plant.specs.Box.{low, high, boxBy, boxAt, Face, absent, present}
 use Rattle.plant.specs.Model.{n#, L#}

@@ -3,23 +3,23 @@ use mathlib.Core.Path.{_≡_, refl, sym, ap, _∙_}
 use mathlib.Core.List.{List, _++_}
 use Prim.Native.Nat.{ℕ, suc, _+_, _*_, _-_, _<_, _≤_}
 use native.Mathlib.Omega.{arith}
-use lib.Dec.{T, eqb, eqb→eq, ltb→lt}
+use lib.Dec.{T, leb, leb→le, eqb, eqb→eq}
 use lib.IntN.{ℤ, pos, negsuc, natAbs}
 use lib.ListN.{length, take, drop, length-drop, take-append-drop}
 use lib.Seq.{take-all}
-use Rattle.integers.specs.Words.{word, num, within}
+use Rattle.integers.specs.Words.{word, num, AreBytes, within}
 use Rattle.integers.specs.Counted.{cat}
 use Rattle.integers.proofs.Tests.{and-yes}
 use Rattle.integers.proofs.Counted.{within-abs}
 use Rattle.wire.specs.Bytes.{wordBytes, wordsBytes}
 use Rattle.wire.specs.Fields.{fieldAt, field, isField}
 use Rattle.wire.specs.declared.Field.the-variants.{Whole}
-use Rattle.wire.proofs.Words.{AreBytes, bytes-back}
+use Rattle.wire.proofs.Words.{bytes-back}
 use Rattle.wire.proofs.Fields.{Lies, field-lies, field-part, fields-stand, due}
 use Rattle.plant.specs.Ask.{first}
 use Rattle.plant.specs.Model.{n#, L#}
 use Rattle.plant.proofs.Asks.{ask-yes, asked, then-both, first-each}
-use Rattle.table_files.specs.TableFile.{faceFieldSize, facePlace, countWord, countQuestion, faceFieldWords, faceKey, afterOk, placeOk, faceQuestions, count#, fieldsQuestions}
+use Rattle.table_files.specs.TableFile.{faceFieldSize, facePlace, countWord, countQuestion, faceFieldWords, faceKey, leastKey, placeOk, faceQuestion, faceQuestions, count#, fieldsQuestions}
 use Rattle.table_files.proofs.Listed.{listed, fieldWords, InOrder}
 
 -- ---- one question
@@ -36,20 +36,20 @@ pub record PlaceYes (m : List ℤ) (s : List ℕ) (i : ℕ) : Type 0 where
   pub location-below : num (fieldWords m s i) 0 < L# m
   pub face-natural : word (fieldWords m s i) 1 ≡ pos (num (fieldWords m s i) 1)
   pub face-below : num (fieldWords m s i) 1 < 2 * n# m
-  pub after : T (afterOk (n# m) s i)
+  pub after : leastKey (n# m) s i ≤ faceKey (n# m) (fieldWords m s i)
 
-pub place-yes : (m : List ℤ) (s : List ℕ) (i : ℕ) → 0 < n# m → 0 < L# m → T (placeOk m s i) → PlaceYes m s i
+pub place-yes : (m : List ℤ) (s : List ℕ) (i : ℕ) → 0 < n# m → 0 < L# m → T (placeOk m (fieldWords m s i) (leastKey (n# m) s i)) → PlaceYes m s i
 unfolding placeOk
 place-yes m s i hn hl h =
     let w : List ℤ = fieldWords m s i in
     let a : T (within (pos 0) (pos (L# m - 1)) (word w 0)) × _ = and-yes (within (pos 0) (pos (L# m - 1)) (word w 0)) _ h in
-    let b : T (within (pos 0) (pos (2 * n# m - 1)) (word w 1)) × T (afterOk (n# m) s i) = and-yes (within (pos 0) (pos (2 * n# m - 1)) (word w 1)) (afterOk (n# m) s i) (a .1) in
+    let b : T (within (pos 0) (pos (2 * n# m - 1)) (word w 1)) × T (leb (leastKey (n# m) s i) (faceKey (n# m) w)) = and-yes (within (pos 0) (pos (2 * n# m - 1)) (word w 1)) (leb (leastKey (n# m) s i) (faceKey (n# m) w)) (a .1) in
     record {
       location-natural = is-natural (L# m - 1) (word w 0) (a .0);
       location-below = omega (arith, within-abs (word w 0) (L# m - 1) (a .0));
       face-natural = is-natural (2 * n# m - 1) (word w 1) (b .0);
       face-below = omega (arith, within-abs (word w 1) (2 * n# m - 1) (b .0));
-      after = b .1;
+      after = leb→le (leastKey (n# m) s i) (faceKey (n# m) w) (b .1);
     }
 
 -- ---- the whole file
@@ -63,11 +63,11 @@ pub record FieldsYes (m : List ℤ) (s : List ℕ) : Type 0 where
   pub ended : length s ≡ facePlace (n# m) (count# s)
 
 module _ (m : List ℤ) (s : List ℕ) (hn : 0 < n# m) (hl : 0 < L# m) where
-  field-yes : (i : ℕ) → faceQuestions m s i ≡ 0 → T (isField (fieldAt s (facePlace (n# m) i)) 5 (4 * faceFieldSize (n# m))) × T (placeOk m s i)
-  unfolding faceQuestions
+  field-yes : (i : ℕ) → faceQuestions m s i ≡ 0 → T (isField (fieldAt s (facePlace (n# m) i)) 5 (4 * faceFieldSize (n# m))) × T (placeOk m (fieldWords m s i) (leastKey (n# m) s i))
+  unfolding faceQuestion faceFieldWords
   field-yes i h =
       let a : T (isField (fieldAt s (facePlace (n# m) i)) 5 (4 * faceFieldSize (n# m))) × _ = asked (isField (fieldAt s (facePlace (n# m) i)) 5 (4 * faceFieldSize (n# m))) 36 _ (omega arith) h in
-      (a .0, ask-yes (placeOk m s i) 37 (omega arith) (a .1))
+      (a .0, ask-yes (placeOk m (fieldWords m s i) (leastKey (n# m) s i)) 37 (omega arith) (a .1))
 
   pub count-yes : countQuestion m s ≡ 0 → (fieldAt s 0 ≡ Whole 6 3 4 7) × T (within (pos 0) (pos (2 * n# m * L# m)) (countWord s))
   unfolding countQuestion
@@ -95,7 +95,7 @@ module _ (m : List ℤ) (s : List ℕ) (y : FieldsYes m s) where
   fields-in-order = record {
     location = λ i u. y .places i u .location-below;
     face = λ i u. y .places i u .face-below;
-    ascends = λ i u. ltb→lt (faceKey (n# m) (fieldWords m s i)) (faceKey (n# m) (fieldWords m s (suc i))) (y .places (suc i) u .after);
+    ascends = λ i u. omega (arith, y .places (suc i) u .after);
   }
 
   -- the bytes are those of its fields

@@ -8,7 +8,7 @@ use native.Mathlib.Nat.{mul-le-mul, mul-le-mul-right, div-add-mod'}
 use native.Mathlib.Decide.{decLt}
 use native.Mathlib.Omega.{arith}
 use borrow.Author.Tests.{eq-eqb}
-use lib.Dec.{T, eqb, eqb-refl, leb, le→leb, leb→le, lt→ltb}
+use lib.Dec.{T, eqb, eqb-refl, leb, le→leb, leb→le}
 use lib.IntN.{ℤ, pos, negsuc, natAbs}
 use lib.Signed.{_≤ℤ_, leZ}
 use lib.ListN.{length, take, List·getD-eq-default}
@@ -16,30 +16,34 @@ use lib.Seq.{take-all}
 use mir.Syntax.{w32}
 use mir.Val.{SFits}
 use mir.Facts.{sfits-lit}
-use Rattle.integers.specs.Words.{word, num, within, onto}
+use Rattle.integers.specs.Words.{word, num, AreWords, AreBytes, within, onto}
 use Rattle.integers.proofs.Parts.{arithZ}
 use Rattle.integers.proofs.Order.{trans}
 use Rattle.integers.proofs.Tests.{and-intro}
 use Rattle.integers.proofs.Counted.{split, is-true}
+use Rattle.integers.specs.Counted.{cat}
+use Rattle.integers.proofs.Every.{every-append, every-cat}
 use Rattle.integers.proofs.Buffers.{cat-ext, take-onto}
 use Rattle.integers.proofs.Signed.{fits32}
 use Rattle.wire.specs.Bytes.{wordBytes, wordsBytes}
 use Rattle.wire.specs.Fields.{fieldAt, field, isField}
-use Rattle.wire.proofs.Words.{AreBytes, AreWords, length-words}
+use Rattle.wire.proofs.Words.{length-word, length-bytes, length-words, word-are-bytes, words-are-bytes}
+use Rattle.wire.proofs.Fields.{field-are-bytes}
 use Rattle.plant.specs.Ask.{ask, first}
 use Rattle.plant.specs.Box.{low, high, boxBy, boxAt, Face, absent, present, faceWords}
 use Rattle.plant.specs.Model.{n#, L#, invariant}
 use Rattle.plant.specs.Questions.{modelQuestions}
-use Rattle.plant.specs.Tables.{tableSize, tableBy, faceOf, tableOk}
+use Rattle.plant.specs.declared.Count.the-variants.{Done}
+use Rattle.plant.specs.Tables.{tableSize, longestTableFile, tableBy, faceOf, tableOk}
 use Rattle.plant.proofs.Asks.{ask-intro, ask-yes, asked, then-both, then-intro, first-intro, ask-le, then-le, first-le}
 use Rattle.plant.proofs.Numbers.{model-le}
 use Rattle.plant.proofs.Boxes.{low-boxBy, high-boxBy, length-boxBy, length-boxAt, box-ends}
 use Rattle.plant.proofs.Passed.{InRange, Passed, passed}
 use Rattle.plant.proofs.Tables.{Filled, filled, ends, words-ends, table-length, table-ext, begins-itself, face-read, OkFace, ok-valid, made-ok}
-use Rattle.plant.specs.Calls.{ReadOutcome, wordsRead, zeroed}
+use Rattle.plant.specs.Calls.{ReadOutcome, readReply, wordsRead, Reads, zeroed}
 use Rattle.plant.proofs.Reading.{past, done}
-use Rattle.table_files.specs.TableFile.{faceFieldSize, tableFile, fileLength, facePlace, countWord, countQuestion, faceFieldWords, faceKey, afterOk, placeOk, faceQuestions, fileFace, count#, fileTable, fieldsQuestions, tableFileQuestions, roomQuestions, readFaces, readTableCall, longestTableFile, writeQuestions, WriteOutcome, writeBy, writeTableCall}
-use Rattle.table_files.specs.TableBack.{bytesWritten, TableBack}
+use Rattle.table_files.specs.TableFile.{faceFieldSize, tableFile, fileLength, facePlace, countWord, countQuestion, wordsOfField, faceFieldWords, faceKey, leastKey, placeOk, faceQuestion, faceQuestions, fileFace, count#, fileTable, fieldsQuestions, tableFileQuestions, roomQuestions, readFaces, readTableCall, writeQuestions, WriteOutcome, writeReply, writeBy, writeTableCall}
+use Rattle.table_files.specs.TableBack.{bytesWritten, Writes, TableBack}
 use Rattle.table_files.proofs.Keys.{key-location, key-face, Among, Ascending, Listing, listing, no-longer}
 use Rattle.table_files.proofs.Faces.{key-below, table-again}
 use Rattle.table_files.proofs.Listed.{isPresent, boxOf, entry, listed, atKey, keys, file-listed, head-back, count-back, face-field-back, face-words-back, file-length, length-told, fieldWords, InOrder, keyOf, key-l, key-f, face-of-field, in-order}
@@ -171,17 +175,17 @@ module _ (m t : List ℤ) (asks : modelQuestions m ≡ 0) (long : tableSize m �
   key-is : (i : ℕ) → i < k → faceKey (n# m) (fieldWords m file i) ≡ list .key i
   key-is i u = rw (num-location i u, num-face i u) (div-add-mod' (list .key i) N)
 
-  after-is : (i : ℕ) → i < k → T (afterOk (n# m) file i)
+  after-is : (i : ℕ) → i < k → T (leb (leastKey (n# m) file i) (faceKey (n# m) (fieldWords m file i)))
   unfolding k
-  after-is zero u = tt
-  after-is (suc i) u = lt→ltb (faceKey (n# m) (fieldWords m file i)) (faceKey (n# m) (fieldWords m file (suc i))) (omega (arith, key-is i (omega arith), key-is (suc i) u, list .asc .ascends i u))
+  after-is zero u = le→leb 0 (faceKey (n# m) (fieldWords m file 0)) (omega arith)
+  after-is (suc i) u = le→leb (faceKey (n# m) (fieldWords m file i) + 1) (faceKey (n# m) (fieldWords m file (suc i))) (omega (arith, key-is i (omega arith), key-is (suc i) u, list .asc .ascends i u))
 
-  place-is : (i : ℕ) → i < k → T (placeOk m file i)
+  place-is : (i : ℕ) → i < k → T (placeOk m (fieldWords m file i) (leastKey (n# m) file i))
   unfolding placeOk words
   place-is i u =
       let a : T (within (pos 0) (pos (L# m - 1)) (word (fieldWords m file i) 0)) = rw (read-words i u) (within-intro (list .key i / N) (L# m - 1) (omega (arith, below i u .0))) in
       let b : T (within (pos 0) (pos (N - 1)) (word (fieldWords m file i) 1)) = rw (read-words i u) (within-intro (list .key i % N) (N - 1) (omega (arith, below i u .1))) in
-      and-intro (within (pos 0) (pos (L# m - 1)) (word (fieldWords m file i) 0)) _ a (and-intro (within (pos 0) (pos (N - 1)) (word (fieldWords m file i) 1)) (afterOk (n# m) file i) b (after-is i u))
+      and-intro (within (pos 0) (pos (L# m - 1)) (word (fieldWords m file i) 0)) _ a (and-intro (within (pos 0) (pos (N - 1)) (word (fieldWords m file i) 1)) (leb (leastKey (n# m) file i) (faceKey (n# m) (fieldWords m file i))) b (after-is i u))
 
   field-is : (i : ℕ) → i < k → T (isField (fieldAt file (facePlace (n# m) i)) 5 (4 * faceFieldSize (n# m)))
   unfolding file
@@ -195,8 +199,8 @@ module _ (m t : List ℤ) (asks : modelQuestions m ≡ 0) (long : tableSize m �
       then-intro (ask-intro (isField (fieldAt file 0) 6 4) 35 a) (ask-intro (within (pos 0) (pos (2 * n# m * L# m)) (countWord file)) 35 b)
 
   face-asked : (i : ℕ) → i < k → faceQuestions m file i ≡ 0
-  unfolding faceQuestions
-  face-asked i u = then-intro (ask-intro (isField (fieldAt file (facePlace (n# m) i)) 5 (4 * faceFieldSize (n# m))) 36 (field-is i u)) (ask-intro (placeOk m file i) 37 (place-is i u))
+  unfolding faceQuestion faceFieldWords
+  face-asked i u = then-intro (ask-intro (isField (fieldAt file (facePlace (n# m) i)) 5 (4 * faceFieldSize (n# m))) 36 (field-is i u)) (ask-intro (placeOk m (fieldWords m file i) (leastKey (n# m) file i)) 37 (place-is i u))
 
   end-asked : eqb (length file) (facePlace (n# m) (count# file)) ≡ true
   unfolding file
@@ -275,6 +279,16 @@ module _ (m t : List ℤ) (asks : modelQuestions m ≡ 0) (long : tableSize m �
   pub file-table : fileTable m (tableFile m t) ≡ take (tableSize m) t
   file-table = ap (fileTable m) is-file ∙ table-is
 
+  -- it is bytes
+  pub file-bytes : AreBytes (tableFile m t)
+  unfolding file
+  file-bytes =
+      rw is-file
+      (every-append (λ (b : ℕ). b < 256) 0 (field 6 (wordBytes (pos k))) (cat k (λ i. field 5 (wordsBytes (words i))))
+      (field-are-bytes 6 (wordBytes (pos k)) (omega arith) (omega (arith, length-word (pos k))) (word-are-bytes (pos k) (fits32 (omega (arith, few, keys-few)))))
+      (every-cat (λ (b : ℕ). b < 256) 0 (omega arith) k (λ i. field 5 (wordsBytes (words i)))
+      (λ i u. field-are-bytes 5 (wordsBytes (words i)) (omega arith) (omega (arith, length-bytes (words i), sized i u, ok .n-small)) (words-are-bytes (words i) (are-words i u)))))
+
   -- its length is told by its own bytes
   pub file-told : (rest : List ℕ) → fileLength (tableFile m t ++ rest) ≡ length (tableFile m t)
   unfolding file
@@ -284,13 +298,13 @@ module _ (m t : List ℤ) (asks : modelQuestions m ≡ 0) (long : tableSize m �
 
 -- no refusal is 100
 pub table-le : (m : List ℤ) (s : List ℕ) → tableFileQuestions m s ≤ 38
-unfolding tableFileQuestions fieldsQuestions countQuestion faceQuestions
+unfolding tableFileQuestions fieldsQuestions countQuestion faceQuestion
 table-le m s =
     then-le (fieldsQuestions m s) _ 38
     (then-le (countQuestion m s) _ 38 (then-le (ask (isField (fieldAt s 0) 6 4) 35) _ 38 (omega (arith, ask-le (isField (fieldAt s 0) 6 4) 35)) (omega (arith, ask-le (within (pos 0) (pos (2 * n# m * L# m)) (countWord s)) 35)))
     (then-le (first (count# s) (faceQuestions m s)) _ 38
     (first-le (count# s) (faceQuestions m s) 38 (λ i. then-le (ask (isField (fieldAt s (facePlace (n# m) i)) 5 (4 * faceFieldSize (n# m))) 36) _ 38
-    (omega (arith, ask-le (isField (fieldAt s (facePlace (n# m) i)) 5 (4 * faceFieldSize (n# m))) 36)) (omega (arith, ask-le (placeOk m s i) 37))))
+    (omega (arith, ask-le (isField (fieldAt s (facePlace (n# m) i)) 5 (4 * faceFieldSize (n# m))) 36)) (omega (arith, ask-le (placeOk m (wordsOfField (n# m) s (facePlace (n# m) i)) (leastKey (n# m) s i)) 37))))
     (ask-le (eqb (length s) (facePlace (n# m) (count# s))) 38)))
     (omega (arith, ask-le (tableOk m (fileTable m s)) 32))
 
@@ -364,22 +378,22 @@ module _ (m : List ℤ) where
   -- ---- a read whose questions are all yes, and only such a one, gives the file's table
 
   abbrev isRead : List ℕ → List ℤ → ReadOutcome
-  isRead s buffer = record { reply = record { code = 100; value = tableSize m }; words = onto (fileTable m s) buffer }
+  isRead s buffer = record { count = Done (tableSize m); words = onto (fileTable m s) buffer }
 
   reads : (s : List ℕ) (buffer : List ℤ) → roomQuestions m (length buffer) ≡ 0 → tableFileQuestions m s ≡ 0 → readTableCall m s buffer ≡ isRead s buffer
   unfolding readTableCall
   reads s buffer r q = sym (past buffer r (past (zeroed buffer) q refl))
 
-  read-yes : (s : List ℕ) (buffer : List ℤ) → readTableCall m s buffer .reply .code ≡ 100 → (roomQuestions m (length buffer) ≡ 0) × (tableFileQuestions m s ≡ 0)
+  read-yes : (s : List ℕ) (buffer : List ℤ) → readReply (readTableCall m s buffer) .code ≡ 100 → (roomQuestions m (length buffer) ≡ 0) × (tableFileQuestions m s ≡ 0)
   unfolding readTableCall
   read-yes s buffer code =
       let a = done (roomQuestions m (length buffer)) buffer (readFaces m s buffer) (omega (arith, room-le (length buffer))) code in
-      (a .0, done (tableFileQuestions m s) (zeroed buffer) (isRead s buffer) (omega (arith, table-le m s)) (ap (λ (o : ReadOutcome). o .reply .code) (sym (a .1)) ∙ code) .0)
+      (a .0, done (tableFileQuestions m s) (zeroed buffer) (isRead s buffer) (omega (arith, table-le m s)) (ap (λ (o : ReadOutcome). readReply o .code) (sym (a .1)) ∙ code) .0)
 
   -- ---- the same of a write, and the table's file
 
   abbrev isWritten : List ℤ → List ℕ → WriteOutcome
-  isWritten t bytes = record { reply = record { code = 100; value = length (tableFile m t) }; file = onto (tableFile m t) bytes }
+  isWritten t bytes = record { count = Done (length (tableFile m t)); file = onto (tableFile m t) bytes }
 
   -- the questions of a write, in two parts
   abbrev AsksWrite : List ℤ → ℕ → Type 0
@@ -391,11 +405,11 @@ module _ (m : List ℤ) where
       (then-intro (y .0)
       (then-intro (ask-intro (tableOk m t) 32 (y .1)) (ask-intro (leb (longestTableFile m) (length bytes)) 39 (le→leb (longestTableFile m) (length bytes) (y .2)))))
 
-  not-refused : (t : List ℤ) (bytes : List ℕ) (q : ℕ) → q ≤ 39 → writeBy q m t bytes .reply .code ≡ 100 → q ≡ 0
+  not-refused : (t : List ℤ) (bytes : List ℕ) (q : ℕ) → q ≤ 39 → writeReply (writeBy q m t bytes) .code ≡ 100 → q ≡ 0
   not-refused t bytes zero l e = refl
   not-refused t bytes (suc q) l e = absurd (omega arith)
 
-  write-yes : (t : List ℤ) (bytes : List ℕ) → writeTableCall m t bytes .reply .code ≡ 100 → AsksWrite t (length bytes)
+  write-yes : (t : List ℤ) (bytes : List ℕ) → writeReply (writeTableCall m t bytes) .code ≡ 100 → AsksWrite t (length bytes)
   unfolding writeTableCall writeQuestions
   write-yes t bytes code =
       let few : writeQuestions m t (length bytes) ≤ 39 =
@@ -407,22 +421,29 @@ module _ (m : List ℤ) where
 
 -- ---- the theorem
 
-written : (m t : List ℤ) (bytes : List ℕ) → modelQuestions m ≡ 0 → tableSize m ≤ length t → T (tableOk m t) → longestTableFile m ≤ length bytes
-    → writeTableCall m t bytes ≡ isWritten m t bytes
-written m t bytes asks long good room = writes m t bytes (room-asked m asks (length t) long, good, room)
+-- by the calls' numbers and buffers
+is-read : {o : ReadOutcome} {k : ℕ} {words : List ℤ} → o ≡ record { count = Done k; words = words } → Reads o k words
+is-read e = record { number = ap readReply e; buffer = ap (λ (o : ReadOutcome). o .words) e }
 
-written-read : (m t : List ℤ) (bytes : List ℕ) (buffer : List ℤ) → writeTableCall m t bytes .reply .code ≡ 100 → tableSize m ≤ length buffer
-    → readTableCall m (bytesWritten (writeTableCall m t bytes)) buffer ≡ record { reply = record { code = 100; value = tableSize m }; words = onto (take (tableSize m) t) buffer }
+is-written : {o : WriteOutcome} (s bytes : List ℕ) → o ≡ record { count = Done (length s); file = onto s bytes } → Writes o s bytes
+is-written s bytes e = record { number = ap writeReply e; buffer = ap (λ (o : WriteOutcome). o .file) e }
+
+written : (m t : List ℤ) (bytes : List ℕ) → modelQuestions m ≡ 0 → tableSize m ≤ length t → T (tableOk m t) → longestTableFile m ≤ length bytes
+    → Writes (writeTableCall m t bytes) (tableFile m t) bytes
+written m t bytes asks long good room = is-written (tableFile m t) bytes (writes m t bytes (room-asked m asks (length t) long, good, room))
+
+written-read : (m t : List ℤ) (bytes : List ℕ) (buffer : List ℤ) → writeReply (writeTableCall m t bytes) .code ≡ 100 → tableSize m ≤ length buffer
+    → Reads (readTableCall m (bytesWritten (writeTableCall m t bytes)) buffer) (tableSize m) (onto (take (tableSize m) t) buffer)
 written-read m t bytes buffer code room =
     let y : AsksWrite m t (length bytes) = write-yes m t bytes code in
     let p : (modelQuestions m ≡ 0) × (tableSize m ≤ length t) = room-yes m (length t) (y .0) in
     let f : bytesWritten (writeTableCall m t bytes) ≡ tableFile m t = ap bytesWritten (writes m t bytes y) ∙ take-onto (tableFile m t) bytes (length (tableFile m t)) refl in
-    ap (λ (s : List ℕ). readTableCall m s buffer) f
+    is-read (ap (λ (s : List ℕ). readTableCall m s buffer) f
     ∙ reads m (tableFile m t) buffer (room-asked m (p .0) (length buffer) room) (file-asked m t (p .0) (p .1) (y .1))
-    ∙ ap (λ (w : List ℤ). record { reply = record { code = 100; value = tableSize m }; words = onto w buffer }) (file-table m t (p .0) (p .1) (y .1))
+    ∙ ap (λ (w : List ℤ). record { count = Done (tableSize m); words = onto w buffer }) (file-table m t (p .0) (p .1) (y .1)))
 
-read-written : (m : List ℤ) (s : List ℕ) (buffer : List ℤ) (bytes : List ℕ) → AreBytes s → readTableCall m s buffer .reply .code ≡ 100 → longestTableFile m ≤ length bytes
-    → writeTableCall m (wordsRead (readTableCall m s buffer)) bytes ≡ record { reply = record { code = 100; value = length s }; file = onto s bytes }
+read-written : (m : List ℤ) (s : List ℕ) (buffer : List ℤ) (bytes : List ℕ) → AreBytes s → readReply (readTableCall m s buffer) .code ≡ 100 → longestTableFile m ≤ length bytes
+    → Writes (writeTableCall m (wordsRead (readTableCall m s buffer)) bytes) s bytes
 unfolding tableFileQuestions fileTable
 read-written m s buffer bytes are code room =
     let r : (roomQuestions m (length buffer) ≡ 0) × (tableFileQuestions m s ≡ 0) = read-yes m s buffer code in
@@ -431,9 +452,9 @@ read-written m s buffer bytes are code room =
     let q : (fieldsQuestions m s ≡ 0) × _ = then-both (fieldsQuestions m s) _ (r .1) in
     let l : length (fileTable m s) ≡ tableSize m = table-length m (filled m ok) (fileFace m s (count# s)) in
     let w : wordsRead (readTableCall m s buffer) ≡ fileTable m s = ap wordsRead (reads m s buffer (r .0) (r .1)) ∙ take-onto (fileTable m s) buffer (tableSize m) l in
-    ap (λ (t : List ℤ). writeTableCall m t bytes) w
+    is-written s bytes (ap (λ (t : List ℤ). writeTableCall m t bytes) w
     ∙ writes m (fileTable m s) bytes (room-asked m asks (length (fileTable m s)) (omega (arith, l)), ask-yes (tableOk m (fileTable m s)) 32 (omega arith) (q .1), room)
-    ∙ ap (λ (x : List ℕ). record { reply = record { code = 100; value = length x }; file = onto x bytes }) (again m ok s (fields-yes m s (ok .n-positive) (ok .L-positive) (q .0)) are)
+    ∙ ap (λ (x : List ℕ). record { count = Done (length x); file = onto x bytes }) (again m ok s (fields-yes m s (ok .n-positive) (ok .L-positive) (q .0)) are))
 
 pub table-back : TableBack
 table-back = record { written = written; written-read = written-read; read-written = read-written }

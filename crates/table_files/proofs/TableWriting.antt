@@ -13,8 +13,8 @@ use lib.Seq.{length-take-le}
 use Rattle.integers.specs.Words.{word, eqZ, onto}
 use Rattle.integers.specs.Counted.{cat, sumBelow}
 use Rattle.integers.proofs.Buffers.{onto-start, cat-none, cat-more, cat-turn, length-onto}
-use Rattle.wire.specs.Bytes.{wordBytes, wordsBytes, part}
-use Rattle.wire.specs.Fields.{header, field}
+use Rattle.wire.specs.Bytes.{wordSize, wordBytes, wordsBytes, part}
+use Rattle.wire.specs.Fields.{headerSize, payloadLength, fieldLength, fieldPlace, header, field}
 use Rattle.wire.proofs.Buffers.{onto-then}
 use Rattle.wire.proofs.Words.{length-word, length-bytes, length-part}
 use Rattle.wire.proofs.Fields.{length-field}
@@ -22,8 +22,8 @@ use Rattle.plant.specs.Ask.{ask}
 use Rattle.plant.specs.Box.{low, high, boxBy, boxAt, Face, absent, present}
 use Rattle.plant.specs.Model.{n#, L#}
 use Rattle.plant.specs.Questions.{modelQuestions}
-use Rattle.plant.specs.Tables.{faceSize, tableSize, faceAt, faceRead, faceOf, tableOk}
-use Rattle.plant.specs.Calls.{refused}
+use Rattle.plant.specs.Tables.{faceSize, tableSize, longestTableFile, faceAt, faceRead, faceOf, tableOk}
+use Rattle.plant.specs.declared.Count.the-variants.{Done, Refused}
 use Rattle.plant.proofs.Asks.{ask-yes, then-both}
 use Rattle.plant.proofs.Boxes.{length-boxBy, length-boxAt, box-ends}
 use Rattle.plant.proofs.Tables.{Filled, words-per-location}
@@ -31,7 +31,7 @@ use Rattle.records.specs.Whole.{Head}
 use Rattle.model.proofs.Passing.{head-ready}
 use Rattle.records.proofs.Positions.{row-within}
 use Rattle.tables.proofs.Faces.{table-most}
-use Rattle.table_files.specs.TableFile.{faceField, presence, presentFaces, faceFields, tableFile, roomQuestions, longestTableFile, writeQuestions, writeBy, writeTableCall}
+use Rattle.table_files.specs.TableFile.{countFieldSize, placeSize, faceFieldSize, faceField, presence, presentFaces, faceFields, tableFile, facesFrom, roomQuestions, writeQuestions, writeBy, writeTableCall}
 use Rattle.table_files.specs.TableRoom.{WriteReady, FaceRoom}
 use Rattle.table_files.proofs.Keys.{cat-keys, sum-keys, key-location, key-face}
 use Rattle.table_files.proofs.Listed.{keys}
@@ -83,9 +83,12 @@ module _ (m : List ℤ) (h : Head m) where
     pub most-few : 2 * n * l ≤ 768
     most-few = omega (arith, faces-fit)
 
-    pub longest-made : 7 + l * (2 * n) * (11 + 8 * n) ≡ longestTableFile m
+    pub longest-again : 7 + l * (2 * n) * (11 + 8 * n) ≡ longestTableFile m
     unfolding longestTableFile
-    longest-made = rw (en, el) refl
+    longest-again = rw (en, el) refl
+
+    pub longest-made : {from w r : ℕ} → from ≡ facesFrom → w ≡ faceFieldSize n → r ≡ fieldPlace from w (l * (2 * n)) → r ≡ longestTableFile m
+    longest-made ef ew er = er ∙ rw (ef, ew) (omega arith) ∙ longest-again
 
 -- ---- one face, by its flag
 
@@ -181,26 +184,26 @@ module _ (n : ℕ) (t : List ℤ) (at l f : ℕ) (there : at + faceSize n ≤ le
   payload-is e = rw (read-present n t at e) (ap (λ (b : List ℤ). field 5 (wordsBytes (pos l ∷ pos f ∷ b))) (box-ends n (boxAt n t (at + 1)) (length-boxAt n t (at + 1) (omega arith))))
 
   -- header, location, face number and box, each put behind the one before
-  pub face-put : (d x y z w : List ℕ) (to : ℕ) → eqZ (word t at) (pos 1) ≡ true → to ≤ length d
-      → x ≡ onto (take to d ++ header 5 (8 + 8 * n)) d
-      → y ≡ onto (take (to + 3) x ++ wordBytes (pos l)) x
-      → z ≡ onto (take (to + 7) y ++ wordBytes (pos f)) y
-      → w ≡ onto (take (to + 11) z ++ wordsBytes (part t (at + 1) (2 * n))) z
+  pub face-put : (d x y z w : List ℕ) (to : ℕ) {len box : ℕ} → eqZ (word t at) (pos 1) ≡ true → to ≤ length d → len ≡ payloadLength (faceFieldSize n) → box ≡ payloadLength placeSize
+      → x ≡ onto (take to d ++ header 5 len) d
+      → y ≡ onto (take (to + headerSize) x ++ wordBytes (pos l)) x
+      → z ≡ onto (take (to + headerSize + wordSize) y ++ wordBytes (pos f)) y
+      → w ≡ onto (take (to + headerSize + box) z ++ wordsBytes (part t (at + 1) (2 * n))) z
       → w ≡ onto (take to d ++ faceField n l f (faceRead n t at)) d
   unfolding field
-  face-put d x y z w to e room ex ey ez ew =
-      let hd : List ℕ = header 5 (8 + 8 * n) in
+  face-put d x y z w to {len} {box} e room el eb ex ey ez ew =
+      let hd : List ℕ = header 5 len in
       let ey′ : y ≡ onto (take to d ++ (hd ++ wordBytes (pos l))) d = ey ∙ onto-then hd (wordBytes (pos l)) d x to (to + 3) ex room (omega arith) in
-      let ez′ : z ≡ onto (take to d ++ ((hd ++ wordBytes (pos l)) ++ wordBytes (pos f))) d = ez ∙ onto-then (hd ++ wordBytes (pos l)) (wordBytes (pos f)) d y to (to + 7) ey′ room
+      let ez′ : z ≡ onto (take to d ++ ((hd ++ wordBytes (pos l)) ++ wordBytes (pos f))) d = ez ∙ onto-then (hd ++ wordBytes (pos l)) (wordBytes (pos f)) d y to (to + headerSize + wordSize) ey′ room
       (omega (arith, length-append hd (wordBytes (pos l)), length-word (pos l))) in
       let ew′ : w ≡ onto (take to d ++ (((hd ++ wordBytes (pos l)) ++ wordBytes (pos f)) ++ wordsBytes (part t (at + 1) (2 * n)))) d =
-      ew ∙ onto-then ((hd ++ wordBytes (pos l)) ++ wordBytes (pos f)) (wordsBytes (part t (at + 1) (2 * n))) d z to (to + 11) ez′ room
+      ew ∙ onto-then ((hd ++ wordBytes (pos l)) ++ wordBytes (pos f)) (wordsBytes (part t (at + 1) (2 * n))) d z to (to + headerSize + box) ez′ room
       (omega (arith, length-append (hd ++ wordBytes (pos l)) (wordBytes (pos f)), length-append hd (wordBytes (pos l)), length-word (pos l), length-word (pos f))) in
       let together : ((hd ++ wordBytes (pos l)) ++ wordBytes (pos f)) ++ wordsBytes (part t (at + 1) (2 * n)) ≡ hd ++ payload = simp append-assoc in
-      ew′ ∙ ap (λ (s : List ℕ). onto (take to d ++ s) d) (together ∙ rw (← payload-length) refl ∙ sym (payload-is e))
+      ew′ ∙ ap (λ (s : List ℕ). onto (take to d ++ s) d) (together ∙ ap (λ (k : ℕ). header 5 k ++ payload) (el ∙ omega (arith, payload-length)) ∙ sym (payload-is e))
 
-  pub face-next : (to : ℕ) → eqZ (word t at) (pos 1) ≡ true → to + (11 + 8 * n) ≡ to + length (faceField n l f (faceRead n t at))
-  face-next to e = rw (payload-is e) (omega (arith, length-field 5 payload, payload-length))
+  pub face-next : (to : ℕ) {size r : ℕ} → eqZ (word t at) (pos 1) ≡ true → size ≡ faceFieldSize n → r ≡ fieldLength size → to + r ≡ to + length (faceField n l f (faceRead n t at))
+  face-next to e es er = rw (payload-is e) (omega (arith, length-field 5 payload, payload-length))
 
   -- an absent face's field is nothing
   pub face-skip : (d : List ℕ) (to : ℕ) → eqZ (word t at) (pos 1) ≡ false → to ≤ length d → d ≡ onto (take to d ++ faceField n l f (faceRead n t at)) d
@@ -225,9 +228,9 @@ pub record Written (n : ℕ) (t : List ℤ) (d : List ℕ) (k to : ℕ) (x : Lis
   pub to-is : to ≡ 7 + length (cat k (fieldOf n t))
   pub file-is : x ≡ onto (take 7 d ++ cat k (fieldOf n t)) d
 
-pub written-none : (n : ℕ) (t : List ℤ) (d : List ℕ) → 7 ≤ length d → Written n t d 0 7 d
-written-none n t d h = record {
-  to-is = rw (cat-none (fieldOf n t)) refl;
+pub written-none : (n : ℕ) (t : List ℤ) (d : List ℕ) {to : ℕ} → to ≡ facesFrom → 7 ≤ length d → Written n t d 0 to d
+written-none n t d e h = record {
+  to-is = rw (cat-none (fieldOf n t)) (omega arith);
   file-is = onto-start 7 d h ∙ ap (λ (s : List ℕ). onto (take 7 d ++ s) d) (sym (cat-none (fieldOf n t)));
 }
 
@@ -267,7 +270,7 @@ module _ (m t : List ℤ) (d : List ℕ) (r : WriteReady m t d) {l n : ℕ} (el 
       let lw : (length x ≡ length d) × (to ≤ 7 + k * (11 + 8 * n)) = length-written (omega arith) w in
       let np : 0 < 2 * n = omega (arith, en, h .n-positive) in
       let q : k * (11 + 8 * n) + (11 + 8 * n) ≤ l * (2 * n) * (11 + 8 * n) = row-within (11 + 8 * n) u in
-      let long : 7 + l * (2 * n) * (11 + 8 * n) ≤ length d = omega (arith, longest-made m h el en, r .bytes) in
+      let long : 7 + l * (2 * n) * (11 + 8 * n) ≤ length d = omega (arith, longest-again m h el en, r .bytes) in
       record {
         n-small = omega (arith, en, h .n-small);
         there = omega (arith, row-inside m h el en u e, r .room);
@@ -285,13 +288,15 @@ module _ (m t : List ℤ) (d : List ℕ) (r : WriteReady m t d) {l n : ℕ} (el 
 -- ---- the whole file
 
 -- the count, then the fields
-pub file-put : (m t : List ℤ) (d x y z : List ℕ)
-    → x ≡ onto (take 0 d ++ header 6 4) d
+pub file-put : (m t : List ℤ) (d x y z : List ℕ) {len : ℕ}
+    → len ≡ payloadLength countFieldSize
+    → x ≡ onto (take 0 d ++ header 6 len) d
     → y ≡ onto (take 3 x ++ wordBytes (pos (presentFaces m t))) x
     → z ≡ onto (take 7 y ++ faceFields m t) y
     → z ≡ onto (tableFile m t) d
 unfolding tableFile field wordBytes
-file-put m t d x y z ex ey ez =
+file-put m t d x y z el ex′ ey ez =
+    let ex = rw el at ex′ in
     let w : List ℕ = wordBytes (pos (presentFaces m t)) in
     let ey′ : y ≡ onto (take 0 d ++ (header 6 4 ++ w)) d = ey ∙ onto-then (header 6 4) w d x 0 3 ex (omega arith) (omega arith) in
     let ez′ : z ≡ onto (take 0 d ++ ((header 6 4 ++ w) ++ faceFields m t)) d = ez ∙ onto-then (header 6 4 ++ w) (faceFields m t) d y 0 7 ey′ (omega arith) (omega (arith, length-append (header 6 4) w, length-word (pos (presentFaces m t)))) in
@@ -315,15 +320,15 @@ write-yes m t d e =
     record { head = head-ready m (r .0); room = r .1; bytes = leb→le (longestTableFile m) (length d) (ask-yes (leb (longestTableFile m) (length d)) 39 (omega arith) (b .1)) }
 
 module _ (m t : List ℤ) (d : List ℕ) where
-  refused-by : (q : ℕ) → (q ≡ 0 → ⊥) → record { reply = refused q; file = d } ≡ writeBy q m t d
+  refused-by : (q : ℕ) → (q ≡ 0 → ⊥) → record { count = Refused q; file = d } ≡ writeBy q m t d
   refused-by zero h = absurd (h refl)
   refused-by (suc q) h = refl
 
-  pub write-refused : {q : ℕ} → q ≡ writeQuestions m t (length d) → (q ≡ 0 → ⊥) → record { reply = refused q; file = d } ≡ writeTableCall m t d
+  pub write-refused : {q : ℕ} → q ≡ writeQuestions m t (length d) → (q ≡ 0 → ⊥) → record { count = Refused q; file = d } ≡ writeTableCall m t d
   unfolding writeTableCall
   write-refused {q} e h = refused-by q h ∙ ap (λ (k : ℕ). writeBy k m t d) e
 
   pub write-done : {q k : ℕ} {x : List ℕ} → q ≡ writeQuestions m t (length d) → q ≡ 0 → k ≡ length (tableFile m t) → x ≡ onto (tableFile m t) d
-      → record { reply = record { code = 100; value = k }; file = x } ≡ writeTableCall m t d
+      → record { count = Done k; file = x } ≡ writeTableCall m t d
   unfolding writeTableCall
   write-done e z ek ex = rw (← e, z, ek, ex) refl

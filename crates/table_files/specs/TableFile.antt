@@ -1,26 +1,34 @@
 -- Document 01, "Files" and "The questions, in order": the file of a table, and what reading and writing one give.
-use mathlib.Core.Bool.{Bool, true, cond, _&&_}
+use mathlib.Core.Bool.{Bool, cond, _&&_}
 use mathlib.Core.List.{List, [], _∷_, _++_}
 use Prim.Native.Nat.{ℕ, zero, suc, _+_, _-_, _*_}
-use lib.Dec.{eqb, leb, ltb}
+use lib.Dec.{eqb, leb}
 use lib.IntN.{ℤ, pos}
 use lib.ListN.{length, getD}
 use Rattle.integers.specs.Words.{word, num, within, onto}
 use Rattle.integers.specs.Counted.{cat, sumBelow}
 use Rattle.wire.specs.Bytes.{wordAt, wordsAt, wordBytes, wordsBytes}
-use Rattle.wire.specs.Fields.{lengthAt, fieldAt, field, fieldPlace, isField}
+use Rattle.wire.specs.Fields.{headerSize, payloadLength, fieldPlace, lengthAt, fieldAt, isField, field}
+use Rattle.plant.specs.declared.Count.{Count}
+use Rattle.plant.specs.declared.Count.the-variants.{Done, Refused}
 use Rattle.plant.specs.Ask.{ask, _then_, first}
 use Rattle.plant.specs.Box.{low, high, boxBy, boxAt, Face, absent, present}
 use Rattle.plant.specs.Model.{n#, L#}
 use Rattle.plant.specs.Questions.{modelQuestions}
 use Rattle.plant.specs.Tables.{tableSize, tableBy, faceOf, tableOk}
-use Rattle.plant.specs.Calls.{Reply, refused, ReadOutcome, unlessRefused, zeroed}
+use Rattle.plant.specs.Calls.{Reply, countReply, ReadOutcome, unlessRefused, zeroed, bytesQuestion}
 
 -- ---- the file of a table: tag 6 (count of present faces), then a tag 5 for each (location, face number, box), by location, then face
 
--- the words of a face's field
+-- how many words the head field has, a face's place (location, face number), and a face's field
+abbrev pub countFieldSize : ℕ
+countFieldSize = 1
+
+abbrev pub placeSize : ℕ
+placeSize = 2
+
 abbrev pub faceFieldSize : ℕ → ℕ
-faceFieldSize n = 2 + 2 * n
+faceFieldSize n = placeSize + 2 * n
 
 abbrev pub faceField : (n l f : ℕ) → Face → List ℕ
 faceField n l f absent = []
@@ -41,11 +49,11 @@ tableFile m t = field 6 (wordBytes (pos (presentFaces m t))) ++ faceFields m t
 
 -- where the faces' fields begin
 abbrev pub facesFrom : ℕ
-facesFrom = fieldPlace 0 1 1
+facesFrom = fieldPlace 0 countFieldSize 1
 
 -- the length of the table file that bytes begin with, by the last two bytes of its count and the payload's length of its first face
 abbrev pub fileLength : List ℕ → ℕ
-fileLength s = facesFrom + (getD s 5 0 * 256 + getD s 6 0) * (3 + lengthAt s facesFrom)
+fileLength s = facesFrom + (getD s 5 0 * 256 + getD s 6 0) * (headerSize + lengthAt s facesFrom)
 
 -- ---- the questions of a table file
 
@@ -55,39 +63,45 @@ facePlace n i = fieldPlace facesFrom (faceFieldSize n) i
 
 -- the count as the head field has it
 unfoldable pub countWord : List ℕ → ℤ
-countWord s = wordAt s 3
+countWord s = wordAt s headerSize
 
 -- head field whole, tag 6, length 4, count 0 to 2nL
 unfoldable pub countQuestion : (m : List ℤ) (s : List ℕ) → ℕ
 countQuestion m s =
-    ask (isField (fieldAt s 0) 6 4) 35
+    ask (isField (fieldAt s 0) 6 (payloadLength countFieldSize)) 35
     then ask (within (pos 0) (pos (2 * n# m * L# m)) (countWord s)) 35
 
--- the words of field i: location, face number, box
+-- the words of the face field at a position: location, face number, box; of field i
+abbrev pub wordsOfField : (n : ℕ) (s : List ℕ) (at : ℕ) → List ℤ
+wordsOfField n s at = wordsAt s (at + headerSize) (faceFieldSize n)
+
 unfoldable pub faceFieldWords : (n : ℕ) (s : List ℕ) (i : ℕ) → List ℤ
-faceFieldWords n s i = wordsAt s (facePlace n i + 3) (faceFieldSize n)
+faceFieldWords n s i = wordsOfField n s (facePlace n i)
 
 -- faces in the order of the file: location × 2n + face number
 abbrev pub faceKey : (n : ℕ) → List ℤ → ℕ
 faceKey n w = num w 0 * (2 * n) + num w 1
 
--- after the one before
-abbrev pub afterOk : (n : ℕ) (s : List ℕ) (i : ℕ) → Bool
-afterOk n s zero = true
-afterOk n s (suc i) = ltb (faceKey n (faceFieldWords n s i)) (faceKey n (faceFieldWords n s (suc i)))
+-- after the one before: the least key that field i may have
+abbrev pub leastKey : (n : ℕ) (s : List ℕ) (i : ℕ) → ℕ
+leastKey n s zero = 0
+leastKey n s (suc i) = faceKey n (faceFieldWords n s i) + 1
 
--- location and face exist, after the one before
-unfoldable pub placeOk : (m : List ℤ) (s : List ℕ) (i : ℕ) → Bool
-placeOk m s i =
-    within (pos 0) (pos (L# m - 1)) (word (faceFieldWords (n# m) s i) 0)
-    && (within (pos 0) (pos (2 * n# m - 1)) (word (faceFieldWords (n# m) s i) 1)
-    && afterOk (n# m) s i)
+-- of a field's words w: location and face exist, and the key is at least the least
+unfoldable pub placeOk : (m w : List ℤ) (least : ℕ) → Bool
+placeOk m w least =
+    within (pos 0) (pos (L# m - 1)) (word w 0)
+    && (within (pos 0) (pos (2 * n# m - 1)) (word w 1)
+    && leb least (faceKey (n# m) w))
 
--- field i: whole, tag 5, due length? 36; location and face exist, after the one before? 37
-unfoldable pub faceQuestions : (m : List ℤ) (s : List ℕ) (i : ℕ) → ℕ
-faceQuestions m s i =
-    ask (isField (fieldAt s (facePlace (n# m) i)) 5 (4 * faceFieldSize (n# m))) 36
-    then ask (placeOk m s i) 37
+-- the field at a position: whole, tag 5, due length? 36; location and face exist, after the one before? 37
+unfoldable pub faceQuestion : (m : List ℤ) (s : List ℕ) (at least : ℕ) → ℕ
+faceQuestion m s at least =
+    ask (isField (fieldAt s at) 5 (payloadLength (faceFieldSize (n# m)))) 36
+    then ask (placeOk m (wordsOfField (n# m) s at) least) 37
+
+abbrev pub faceQuestions : (m : List ℤ) (s : List ℕ) (i : ℕ) → ℕ
+faceQuestions m s i = faceQuestion m s (facePlace (n# m) i) (leastKey (n# m) s i)
 
 -- ---- the table of a file: a face is present with the box of the field that names it
 
@@ -95,7 +109,7 @@ unfoldable pub fileFace : (m : List ℤ) (s : List ℕ) → ℕ → (l f : ℕ) 
 fileFace m s zero l f = absent
 fileFace m s (suc i) l f =
     cond (eqb (num (faceFieldWords (n# m) s i) 0) l && eqb (num (faceFieldWords (n# m) s i) 1) f)
-    (present (boxAt (n# m) (faceFieldWords (n# m) s i) 2))
+    (present (boxAt (n# m) (faceFieldWords (n# m) s i) placeSize))
     (fileFace m s i l f)
 
 abbrev pub count# : List ℕ → ℕ
@@ -125,30 +139,31 @@ roomQuestions m room = modelQuestions m then ask (leb (tableSize m) room) 20
 abbrev pub readFaces : (m : List ℤ) (s : List ℕ) (table : List ℤ) → ReadOutcome
 readFaces m s table =
     unlessRefused (tableFileQuestions m s) (zeroed table)
-    (record { reply = record { code = 100; value = tableSize m }; words = onto (fileTable m s) table })
+    (record { count = Done (tableSize m); words = onto (fileTable m s) table })
 
 unfoldable pub readTableCall : (m : List ℤ) (s : List ℕ) (table : List ℤ) → ReadOutcome
 readTableCall m s table = unlessRefused (roomQuestions m (length table)) table (readFaces m s table)
 
 -- ---- writing a table file: model's questions, 20, 32, 39; a refusal changes nothing
 
--- the longest table file of the model: 7 + L × 2n × (11 + 8n)
-unfoldable pub longestTableFile : List ℤ → ℕ
-longestTableFile m = 7 + L# m * (2 * n# m) * (11 + 8 * n# m)
-
 unfoldable pub writeQuestions : (m t : List ℤ) (room : ℕ) → ℕ
 writeQuestions m t room =
     roomQuestions m (length t)
     then ask (tableOk m t) 32
-    then ask (leb (longestTableFile m) room) 39
+    then bytesQuestion m room
 
+-- the answer, and the lent byte buffer
 pub record WriteOutcome : Type 0 where
-  pub reply : Reply
+  pub count : Count
   pub file : List ℕ
 
+-- its number and value
+abbrev pub writeReply : WriteOutcome → Reply
+writeReply o = countReply (o .count)
+
 abbrev pub writeBy : ℕ → (m t : List ℤ) (file : List ℕ) → WriteOutcome
-writeBy zero m t file = record { reply = record { code = 100; value = length (tableFile m t) }; file = onto (tableFile m t) file }
-writeBy (suc k) m t file = record { reply = refused (suc k); file = file }
+writeBy zero m t file = record { count = Done (length (tableFile m t)); file = onto (tableFile m t) file }
+writeBy (suc k) m t file = record { count = Refused (suc k); file = file }
 
 unfoldable pub writeTableCall : (m t : List ℤ) (file : List ℕ) → WriteOutcome
 writeTableCall m t file = writeBy (writeQuestions m t (length file)) m t file

@@ -1,4 +1,8 @@
 // Writing a table's file.
+use crate::COUNT_FIELD_SIZE;
+use crate::PLACE_SIZE;
+use crate::face_field_size;
+use crate::faces_from;
 use crate::room_questions;
 use plant::Count;
 ghost use mathlib.Core.Path.{_≡_};
@@ -8,19 +12,28 @@ ghost use Prim.Native.Nat.{_+_, _≤_};
 ghost use lib.IntN.{pos};
 ghost use lib.ListN.{length, take};
 ghost use Rattle.integers.specs.Words.{eqZ, onto};
-ghost use Rattle.plant.specs.Tables.{tableSize, faceRead};
-ghost use Rattle.plant.specs.Calls.{countReply};
+ghost use Rattle.plant.specs.Tables.{tableSize, longestTableFile, faceRead};
+ghost use Rattle.plant.specs.Calls.{bytesQuestion};
 ghost use Rattle.records.specs.Whole.{Head};
-ghost use Rattle.table_files.specs.TableFile.{faceField, presentFaces, faceFields, tableFile, longestTableFile, writeQuestions, writeTableCall};
+ghost use Rattle.table_files.specs.TableFile.{facesFrom, faceField, presentFaces, faceFields, tableFile, writeQuestions, writeTableCall};
 ghost use Rattle.table_files.specs.TableRoom.{WriteReady, FaceRoom};
 
-// The longest table file of the model.
-pub fn longest_file(model: &[i32]) -> usize
+// The longest table file of the model: of all its faces.
+fn longest_file(model: &[i32]) -> usize
     requires { ⌜ Head (now model) ⌝ }
     ensures { λ r. ⌜ r ≡ longestTableFile (now (model .entry)) ⌝ }
 {
     let n = records::variables(model);
-    7 + records::locations(model) * (2 * n) * (11 + 8 * n)
+    let faces = records::locations(model) * (2 * n);
+    wire::field_place(faces_from(), face_field_size(n), faces)
+}
+
+// Byte buffer long enough for the model's longest table file? 39. For decide, too, once the model's questions are yes.
+pub fn bytes_question(model: &[i32], room: usize) -> u32
+    requires { ⌜ Head (now model) ⌝ }
+    ensures { λ r. ⌜ r ≡ bytesQuestion (now (model .entry)) room ⌝ }
+{
+    model::ask(longest_file(model) <= room, 39)
 }
 
 // The model's questions, 20, 32 and 39.
@@ -32,8 +45,7 @@ fn write_questions(model: &[i32], table: &[i32], room: usize) -> u32
         return q;
     }
     let q32 = model::ask(checks::table_ok(model, table), 32);
-    let q39 = model::ask(longest_file(model) <= room, 39);
-    model::or_else(q32, q39)
+    model::or_else(q32, bytes_question(model, room))
 }
 
 // 1 for a present face, by its flag, else 0.
@@ -79,22 +91,30 @@ fn put_face(
     if !integers::same(table[at], 1) {
         return to;
     }
-    wire::put_header(file, to, 5, 8 + 8 * n);
-    wire::put_word(file, to + 3, l as i32);
-    wire::put_word(file, to + 7, f as i32);
-    wire::put_words(table, at + 1, 2 * n, file, to + 11);
-    to + (11 + 8 * n)
+    let size = face_field_size(n);
+    let start = to + wire::HEADER_SIZE;
+    wire::put_header(file, to, 5, wire::payload_length(size));
+    wire::put_word(file, start, l as i32);
+    wire::put_word(file, start + wire::WORD_SIZE, f as i32);
+    wire::put_words(
+        table,
+        at + 1,
+        2 * n,
+        file,
+        start + wire::payload_length(PLACE_SIZE),
+    );
+    to + wire::field_length(size)
 }
 
 // Writes the fields of the present faces behind the head field, by location, then face: where they end.
 fn put_faces(model: &[i32], table: &[i32], file: &mut [u8]) -> usize
     requires { ⌜ WriteReady (now model) (now table) (now file) ⌝ }
-    ensures bytes { λ _. ⌜ now (file .exit) ≡ onto (take 7 (now (file .entry)) ++ faceFields (now (model .entry)) (now (table .entry))) (now (file .entry)) ⌝ }
-    ensures end { λ r. ⌜ r ≡ 7 + length (faceFields (now (model .entry)) (now (table .entry))) ⌝ }
+    ensures bytes { λ _. ⌜ now (file .exit) ≡ onto (take facesFrom (now (file .entry)) ++ faceFields (now (model .entry)) (now (table .entry))) (now (file .entry)) ⌝ }
+    ensures end { λ r. ⌜ r ≡ facesFrom + length (faceFields (now (model .entry)) (now (table .entry))) ⌝ }
 {
     let n = records::variables(model);
     let faces = records::locations(model) * (2 * n);
-    let mut to: usize = 7;
+    let mut to = faces_from();
     let mut at: usize = 0;
     let mut k: usize = 0;
     while k < faces {
@@ -105,20 +125,20 @@ fn put_faces(model: &[i32], table: &[i32], file: &mut [u8]) -> usize
     to
 }
 
-// Writes the whole file: how many bytes it has.
+// Writes the whole file: how many bytes it has. For decide, too, whose table needs no questions.
 pub fn put_table(model: &[i32], table: &[i32], file: &mut [u8]) -> usize
     requires { ⌜ WriteReady (now model) (now table) (now file) ⌝ }
     ensures bytes { λ _. ⌜ now (file .exit) ≡ onto (tableFile (now (model .entry)) (now (table .entry))) (now (file .entry)) ⌝ }
     ensures count { λ r. ⌜ r ≡ length (tableFile (now (model .entry)) (now (table .entry))) ⌝ }
 {
-    wire::put_header(file, 0, 6, 4);
-    wire::put_word(file, 3, present_faces(model, table) as i32);
+    wire::put_header(file, 0, 6, wire::payload_length(COUNT_FIELD_SIZE));
+    wire::put_word(file, wire::HEADER_SIZE, present_faces(model, table) as i32);
     put_faces(model, table, file)
 }
 
 // Writes a table's file: how many bytes it has, or a refusal's number.
 pub fn write_table(model: &[i32], table: &[i32], file: &mut [u8]) -> Count
-    ensures { λ r. ⌜ record { reply = countReply r; file = now (file .exit) } ≡ writeTableCall (now (model .entry)) (now (table .entry)) (now (file .entry)) ⌝ }
+    ensures { λ r. ⌜ record { count = r; file = now (file .exit) } ≡ writeTableCall (now (model .entry)) (now (table .entry)) (now (file .entry)) ⌝ }
 {
     let q = write_questions(model, table, file.len());
     if q != 0 {

@@ -1,23 +1,28 @@
 -- What a field is by the tests that the code makes, that a written field is read back, and that a field that is read was written.
 use mathlib.Core.Path.{_≡_, refl, sym, ap, ap₂, _∙_}
+use mathlib.Core.Logic.{inl, inr}
 use mathlib.Core.Bool.{Bool, true, false, cond}
 use mathlib.Core.List.{List, [], _∷_, _++_, append-assoc}
 use Prim.Native.Nat.{ℕ, _+_, _*_, _/_, _%_, _≤_, _<_}
-use native.Mathlib.Nat.{add-zero}
+use native.Mathlib.Nat.{add-zero, mul-le-mul}
 use native.Mathlib.Omega.{arith}
+use types.Run.{OneOf}
+use denote.Enum.Declared.{tagOf}
 use borrow.Author.Tests.{le-leb, lt-leb, leb-true}
-use lib.Dec.{T, eqb, eqb→eq, leb}
+use lib.Dec.{T, eqb, eqb→eq, eqb-refl, leb}
 use lib.IntN.{ℤ}
 use lib.ListN.{length, getD, take, drop, length-append, length-drop, take-append-drop}
 use lib.Seq.{getD-at, getD-drop, getD-append-add, drop-at, take-at, drop-drop, length-take-le}
+use Rattle.integers.specs.Words.{AreWords, AreBytes}
 use Rattle.integers.specs.Counted.{cat}
-use Rattle.integers.proofs.Tests.{and-yes}
+use Rattle.integers.proofs.Tests.{and-yes, and-intro}
 use Rattle.integers.proofs.Buffers.{length-cat, cat-ext, cat-at, cat-parts}
 use Rattle.wire.specs.Bytes.{wordsAt, wordsBytes, part}
-use Rattle.wire.specs.Fields.{lengthAt, fieldAt, isField, fieldPlace, header, field}
+use Rattle.wire.specs.Fields.{headerSize, fieldLength, fieldPlace, lengthAt, fieldAt, isField, header, field}
 use Rattle.wire.specs.declared.Field.{Field}
 use Rattle.wire.specs.declared.Field.the-variants.{Whole, Cut, Short}
-use Rattle.wire.proofs.Words.{AreBytes, AreWords, length-bytes, length-part, words-back, all-bytes-back}
+use Rattle.wire.proofs.Field.{the-type}
+use Rattle.wire.proofs.Words.{three-bytes, length-bytes, length-part, words-back, all-bytes-back}
 
 -- ---- by the tests
 
@@ -39,6 +44,10 @@ module _ (s : List ℕ) (at : ℕ) where
 pub length-field : (tag : ℕ) (payload : List ℕ) → length (field tag payload) ≡ 3 + length payload
 unfolding field
 length-field tag payload = omega arith
+
+pub field-are-bytes : (tag : ℕ) (payload : List ℕ) → tag < 256 → length payload < 65536 → AreBytes payload → AreBytes (field tag payload)
+unfolding field
+field-are-bytes tag payload t l h = three-bytes tag (length payload / 256) (length payload % 256) payload t (omega arith) (omega arith) h
 
 module _ (p : List ℕ) (tag : ℕ) (payload q : List ℕ) (at m : ℕ) (ep : length p ≡ at) (em : length payload ≡ m) where
   abbrev s : List ℕ
@@ -113,6 +122,23 @@ by-field s at tag len Short e h = absurd h
 pub due : (s : List ℕ) (at tag len : ℕ) → T (isField (fieldAt s at) tag len) → Due s at tag len
 due s at tag len h = by-field s at tag len (fieldAt s at) refl h
 
+-- so does the test, the other way round
+pub whole-is : (f : Field) (tag start len next : ℕ) → f ≡ Whole tag start len next → T (isField f tag len)
+whole-is f tag start len next e = rw e (and-intro (eqb tag tag) (eqb len len) (eqb-refl tag) (eqb-refl len))
+
+-- what the cursor gives of it
+pub due-given : (s : List ℕ) (at tag len t start l next : ℕ) → T (isField (fieldAt s at) tag len) → fieldAt s at ≡ Whole t start l next → (start ≡ at + headerSize) × (l ≡ len) × (next ≡ at + headerSize + len)
+due-given s at tag len t start l next h e =
+    let d : Whole t start l next ≡ Whole tag (at + 3) len (at + 3 + len) = sym e ∙ due s at tag len h .field-is in
+    (cc, cc, cc)
+
+-- and that no other arm of a match is taken
+pub due-whole : (f : Field) (tag len : ℕ) → T (isField f tag len) → OneOf (1 ∷ 2 ∷ []) (tagOf the-type f) → ⊥
+due-whole (Whole t start l next) tag len h (inl e) = omega arith
+due-whole (Whole t start l next) tag len h (inr e) = omega arith
+due-whole (Cut t) tag len h e = h
+due-whole Short tag len h e = h
+
 header-front : (s : List ℕ) → AreBytes s → 3 ≤ length s → s ≡ header (getD s 0 0) (lengthAt s 0) ++ drop 3 s
 header-front [] b h = absurd (omega arith)
 header-front (x ∷ []) b h = absurd (omega arith)
@@ -151,6 +177,10 @@ field-part s at tag start len next b e =
     ∙ take-at f (drop next s) (3 + len) m
 
 -- ---- a run of fields, each of w words
+
+-- where they stand is small
+pub place-small : (w i : ℕ) (most steps : ℕ) → i ≤ steps → w ≤ most → i * fieldLength w ≤ steps * fieldLength most
+place-small w i most steps h k = let f : fieldLength w ≤ fieldLength most = omega arith in mul-le-mul h f
 
 -- fields that are written
 module _ (p : List ℕ) (tag : ℕ) (zs : ℕ → List ℤ) (k w : ℕ) (q : List ℕ) (at : ℕ) (ep : length p ≡ at) (ew : (i : ℕ) → i < k → length (zs i) ≡ w) where

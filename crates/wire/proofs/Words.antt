@@ -12,19 +12,13 @@ use lib.Seq.{getD-drop, getD-at, drop-at, drop-drop, take-add, take-suc, ext-get
 use mir.Syntax.{w32}
 use mir.Val.{SFits, Fits, ofZ, toZ}
 use mir.Facts.{toZ-ofZ, ofZ-toZ, fits-ofZ, sfits-toZ, sfits-lit}
-use Rattle.integers.specs.Words.{onto}
+use Rattle.integers.specs.Words.{AreWords, AreBytes, onto}
 use Rattle.integers.specs.Counted.{cat}
 use Rattle.integers.proofs.Counted.{split}
+use Rattle.integers.proofs.Every.{every-none, every-more, every-append}
 use Rattle.integers.proofs.Buffers.{cat-none, cat-more, length-cat}
 use Rattle.wire.specs.Bytes.{bitsOf, bitsAt, wordAt, oneWordAt, wordsAt, bitsBytes, wordBytes, wordsBytes, part}
 use Rattle.wire.proofs.Buffers.{onto-then}
-
--- every element is a byte; is a word of 32 bits
-abbrev pub AreBytes : List ℕ → Type 0
-AreBytes s = (i : ℕ) → getD s i 0 < 256
-
-abbrev pub AreWords : List ℤ → Type 0
-AreWords zs = (i : ℕ) → SFits w32 (getD zs i (pos 0))
 
 -- ---- one word
 
@@ -190,3 +184,26 @@ part-words zs from k f = front (drop from zs) k (λ i. rw (getD-drop from zs i (
     front [] (suc k) f i = sfits-lit tt
     front (z ∷ zs) (suc k) f zero = f 0
     front (z ∷ zs) (suc k) f (suc i) = front zs k (λ j. f (suc j)) i
+
+-- ---- the bytes of words are bytes
+
+pub three-bytes : (x y z : ℕ) (s : List ℕ) → x < 256 → y < 256 → z < 256 → AreBytes s → AreBytes (x ∷ y ∷ z ∷ s)
+three-bytes x y z s hx hy hz h =
+    every-more (λ (b : ℕ). b < 256) 0 x (y ∷ z ∷ s) hx (every-more (λ (b : ℕ). b < 256) 0 y (z ∷ s) hy (every-more (λ (b : ℕ). b < 256) 0 z s hz h))
+
+pub no-bytes : AreBytes []
+no-bytes = every-none (λ (b : ℕ). b < 256) 0 (omega arith)
+
+bits-bytes : (u : ℕ) → u < 4294967296 → AreBytes (bitsBytes u)
+bits-bytes u h =
+    three-bytes (u / 16777216) (u / 65536 % 256) (u / 256 % 256) ((u % 256) ∷ []) (omega arith) (omega arith) (omega arith)
+    (every-more (λ (b : ℕ). b < 256) 0 (u % 256) [] (omega arith) no-bytes)
+
+pub word-are-bytes : (z : ℤ) → SFits w32 z → AreBytes (wordBytes z)
+unfolding wordBytes
+word-are-bytes z f = bits-bytes (ofZ w32 z) (fits-ofZ f .fits)
+
+pub words-are-bytes : (zs : List ℤ) → AreWords zs → AreBytes (wordsBytes zs)
+unfolding wordsBytes
+words-are-bytes [] f = no-bytes
+words-are-bytes (z ∷ zs) f = every-append (λ (b : ℕ). b < 256) 0 (wordBytes z) (wordsBytes zs) (word-are-bytes z (f 0)) (words-are-bytes zs (λ i. f (suc i)))

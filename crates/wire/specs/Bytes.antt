@@ -7,6 +7,10 @@ use mir.Syntax.{w32}
 use mir.Val.{toZ, ofZ}
 use Rattle.integers.specs.Counted.{cat}
 
+-- how many bytes a word has
+abbrev pub wordSize : ℕ
+wordSize = 4
+
 -- ---- from bytes to words
 
 -- the 32 bits of four bytes
@@ -21,7 +25,7 @@ unfoldable pub wordAt : List ℕ → ℕ → ℤ
 wordAt s at = toZ w32 (bitsAt s at)
 
 abbrev pub oneWordAt : List ℕ → ℕ → ℕ → List ℤ
-oneWordAt s at i = wordAt s (at + 4 * i) ∷ []
+oneWordAt s at i = wordAt s (at + wordSize * i) ∷ []
 
 unfoldable pub wordsAt : (s : List ℕ) (at count : ℕ) → List ℤ
 wordsAt s at count = cat count (oneWordAt s at)

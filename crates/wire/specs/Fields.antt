@@ -4,8 +4,24 @@ use mathlib.Core.List.{List, [], _∷_, _++_}
 use Prim.Native.Nat.{ℕ, _+_, _*_, _/_, _%_}
 use lib.Dec.{eqb, leb}
 use lib.ListN.{length, getD}
+use Rattle.wire.specs.Bytes.{wordSize}
 use Rattle.wire.specs.declared.Field.{Field}
 use Rattle.wire.specs.declared.Field.the-variants.{Whole, Cut, Short}
+
+-- ---- how many bytes a field has: its tag and length, a payload of w words, both together
+
+abbrev pub headerSize : ℕ
+headerSize = 3
+
+abbrev pub payloadLength : ℕ → ℕ
+payloadLength w = wordSize * w
+
+abbrev pub fieldLength : ℕ → ℕ
+fieldLength w = headerSize + payloadLength w
+
+-- where field i of a run of fields begins, each with a payload of w words
+abbrev pub fieldPlace : (from w i : ℕ) → ℕ
+fieldPlace from w i = from + i * fieldLength w
 
 -- ---- reading
 
@@ -17,9 +33,9 @@ lengthAt s at = getD s (at + 1) 0 * 256 + getD s (at + 2) 0
 -- else Whole with its tag, where its payload starts, the payload's length, and the position after it
 unfoldable pub fieldAt : List ℕ → ℕ → Field
 fieldAt s at =
-    cond (leb (at + 3) (length s))
-    (cond (leb (at + 3 + lengthAt s at) (length s))
-    (Whole (getD s at 0) (at + 3) (lengthAt s at) (at + 3 + lengthAt s at))
+    cond (leb (at + headerSize) (length s))
+    (cond (leb (at + headerSize + lengthAt s at) (length s))
+    (Whole (getD s at 0) (at + headerSize) (lengthAt s at) (at + headerSize + lengthAt s at))
     (Cut (getD s at 0)))
     Short
 
@@ -28,10 +44,6 @@ abbrev pub isField : Field → (tag len : ℕ) → Bool
 isField (Whole t start l next) tag len = eqb t tag && eqb l len
 isField (Cut t) tag len = false
 isField Short tag len = false
-
--- where field i of a run of fields begins, each with a payload of w words
-abbrev pub fieldPlace : (from w i : ℕ) → ℕ
-fieldPlace from w i = from + i * (3 + 4 * w)
 
 -- ---- writing
 

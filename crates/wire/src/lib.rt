@@ -6,8 +6,11 @@ ghost use lib.ListN.{length, take};
 ghost use mir.Syntax.{w32};
 ghost use mir.Val.{toZ, ofZ};
 ghost use Rattle.integers.specs.Words.{onto};
-ghost use Rattle.wire.specs.Bytes.{bitsAt, wordAt, wordsAt, bitsBytes, wordBytes, wordsBytes, part};
-ghost use Rattle.wire.specs.Fields.{lengthAt, fieldAt, isField, header};
+ghost use Rattle.wire.specs.Bytes.{wordSize, bitsAt, wordAt, wordsAt, bitsBytes, wordBytes, wordsBytes, part};
+ghost use Rattle.wire.specs.Fields.{headerSize, payloadLength, fieldLength, fieldPlace, lengthAt, fieldAt, isField, header};
+
+// How many bytes a word has.
+pub const WORD_SIZE: usize = 4;
 
 // ---- from bytes to words
 
@@ -19,7 +22,7 @@ fn wide(b: u8) -> u32
 
 // The 32 bits of the four bytes at a position, highest byte first.
 fn bits_at(file: &[u8], at: usize) -> u32
-    requires { ⌜ at + 4 ≤ length (now file) ⌝ }
+    requires { ⌜ at + wordSize ≤ length (now file) ⌝ }
     ensures { λ r. ⌜ r ≡ bitsAt (now (file .entry)) at ⌝ }
 {
     let a = wide(file[at]);
@@ -42,7 +45,7 @@ fn signed(u: u32) -> i32
 
 // The word at a position.
 pub fn word_at(file: &[u8], at: usize) -> i32
-    requires { ⌜ at + 4 ≤ length (now file) ⌝ }
+    requires { ⌜ at + wordSize ≤ length (now file) ⌝ }
     ensures { λ r. ⌜ r ≡ wordAt (now (file .entry)) at ⌝ }
 {
     signed(bits_at(file, at))
@@ -50,12 +53,12 @@ pub fn word_at(file: &[u8], at: usize) -> i32
 
 // Copies `count` words, from a position of the file on, to a place of the buffer.
 pub fn copy_words(file: &[u8], from: usize, count: usize, words: &mut [i32], to: usize)
-    requires { ⌜ (from + 4 * count ≤ length (now file)) × (to + count ≤ length (now words)) ⌝ }
+    requires { ⌜ (from + payloadLength count ≤ length (now file)) × (to + count ≤ length (now words)) ⌝ }
     ensures { λ _. ⌜ now (words .exit) ≡ onto (take to (now (words .entry)) ++ wordsAt (now (file .entry)) from count) (now (words .entry)) ⌝ }
 {
     let mut i: usize = 0;
     while i < count {
-        words[to + i] = word_at(file, from + 4 * i);
+        words[to + i] = word_at(file, from + WORD_SIZE * i);
         i = i + 1;
     }
 }
@@ -75,7 +78,7 @@ fn bits_of(z: i32) -> u32
 
 // Writes the four bytes of 32 bits, highest byte first.
 fn put_bits(out: &mut [u8], at: usize, u: u32)
-    requires { ⌜ at + 4 ≤ length (now out) ⌝ }
+    requires { ⌜ at + wordSize ≤ length (now out) ⌝ }
     ensures { λ _. ⌜ now (out .exit) ≡ onto (take at (now (out .entry)) ++ bitsBytes u) (now (out .entry)) ⌝ }
 {
     out[at] = (u / 16777216) as u8;
@@ -86,7 +89,7 @@ fn put_bits(out: &mut [u8], at: usize, u: u32)
 
 // Writes a word's bytes at a position.
 pub fn put_word(out: &mut [u8], at: usize, z: i32)
-    requires { ⌜ at + 4 ≤ length (now out) ⌝ }
+    requires { ⌜ at + wordSize ≤ length (now out) ⌝ }
     ensures { λ _. ⌜ now (out .exit) ≡ onto (take at (now (out .entry)) ++ wordBytes z) (now (out .entry)) ⌝ }
 {
     put_bits(out, at, bits_of(z))
@@ -94,14 +97,43 @@ pub fn put_word(out: &mut [u8], at: usize, z: i32)
 
 // Writes the bytes of `count` words, from a place of the list on, at a position.
 pub fn put_words(words: &[i32], from: usize, count: usize, out: &mut [u8], to: usize)
-    requires { ⌜ (from + count ≤ length (now words)) × (to + 4 * count ≤ length (now out)) ⌝ }
+    requires { ⌜ (from + count ≤ length (now words)) × (to + payloadLength count ≤ length (now out)) ⌝ }
     ensures { λ _. ⌜ now (out .exit) ≡ onto (take to (now (out .entry)) ++ wordsBytes (part (now (words .entry)) from count)) (now (out .entry)) ⌝ }
 {
     let mut i: usize = 0;
     while i < count {
-        put_word(out, to + 4 * i, words[from + i]);
+        put_word(out, to + WORD_SIZE * i, words[from + i]);
         i = i + 1;
     }
+}
+
+// ---- how many bytes a field has
+
+// Its tag and the length of its payload.
+pub const HEADER_SIZE: usize = 3;
+
+// A payload of w words.
+pub fn payload_length(w: usize) -> usize
+    requires { ⌜ w ≤ 16383 ⌝ }
+    ensures { λ r. ⌜ r ≡ payloadLength w ⌝ }
+{
+    WORD_SIZE * w
+}
+
+// The whole field.
+pub fn field_length(w: usize) -> usize
+    requires { ⌜ w ≤ 16383 ⌝ }
+    ensures { λ r. ⌜ r ≡ fieldLength w ⌝ }
+{
+    HEADER_SIZE + payload_length(w)
+}
+
+// Where field i of a run of such fields begins.
+pub fn field_place(from: usize, w: usize, i: usize) -> usize
+    requires { ⌜ (from ≤ 1000000) × (w ≤ 37) × (i ≤ 768) ⌝ }
+    ensures { λ r. ⌜ r ≡ fieldPlace from w i ⌝ }
+{
+    from + i * field_length(w)
 }
 
 // ---- fields
@@ -124,7 +156,7 @@ pub enum Field {
 
 // The length that a field's second and third byte give, highest byte first.
 fn length_at(file: &[u8], at: usize) -> usize
-    requires { ⌜ at + 3 ≤ length (now file) ⌝ }
+    requires { ⌜ at + headerSize ≤ length (now file) ⌝ }
     ensures { λ r. ⌜ (r ≡ lengthAt (now (file .entry)) at) × (r < 65536) ⌝ }
 {
     let high = wide(file[at + 1]);
@@ -136,18 +168,18 @@ fn length_at(file: &[u8], at: usize) -> usize
 pub fn field_at(file: &[u8], at: usize) -> Field
     ensures { λ r. ⌜ r ≡ fieldAt (now (file .entry)) at ⌝ }
 {
-    if file.len() < 3 {
+    if file.len() < HEADER_SIZE {
         return Field::Short;
     }
-    if file.len() - 3 < at {
+    if file.len() - HEADER_SIZE < at {
         return Field::Short;
     }
     let tag = file[at];
     let len = length_at(file, at);
-    if file.len() - 3 - at < len {
+    if file.len() - HEADER_SIZE - at < len {
         return Field::Cut { tag };
     }
-    let start = at + 3;
+    let start = at + HEADER_SIZE;
     Field::Whole {
         tag,
         start,
@@ -169,7 +201,7 @@ pub fn is_field(f: Field, tag: u8, len: usize) -> bool
 
 // Writes a field's tag and the length of its payload.
 pub fn put_header(out: &mut [u8], to: usize, tag: u8, len: usize)
-    requires { ⌜ (len < 65536) × (to + 3 ≤ length (now out)) ⌝ }
+    requires { ⌜ (len < 65536) × (to + headerSize ≤ length (now out)) ⌝ }
     ensures { λ _. ⌜ now (out .exit) ≡ onto (take to (now (out .entry)) ++ header tag len) (now (out .entry)) ⌝ }
 {
     out[to] = tag;

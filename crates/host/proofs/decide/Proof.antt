@@ -1,7 +1,7 @@
 -- The file's number is the refusal, or its words are decided.
 use mathlib.Core.Path.{_≡_, sym}
 use borrow.Author.Needs.{needs}
-use Rattle.host.proofs.Reading.{when-done, when-refused, read-refused, read-yes, read-front, model-passes}
+use Rattle.host.proofs.Reading.{when, read-refused, read-yes, read-front, model-passes}
 use Rattle.host.proofs.Deciding.{decide-refused, decide-words}
 use Rattle.host.proofs.decide.Statement.{statement}
 use Rattle.host.proofs.decide.Tie as tie
@@ -16,13 +16,13 @@ enum-known-read : tie.Need-enum-known-read
 enum-known-read c = search needs
 
 array-share-prefix-words : tie.Need-array-share-prefix-words
-array-share-prefix-words c = read-front _ (when-done (c .before .read .given .1) (c .before .before .before .before .read-model .ensures)) .there
+array-share-prefix-words c = read-front _ (when (c .before .read .given .1) (c .before .before .before .before .read-model .ensures)) .there
 
 slice-aggregate-decide-words : tie.Need-slice-aggregate-decide-words
-slice-aggregate-decide-words c = read-front _ (when-done (c .before .before .read .given .1) (c .before .before .before .before .before .read-model .ensures)) .lent
+slice-aggregate-decide-words c = read-front _ (when (c .before .before .read .given .1) (c .before .before .before .before .before .read-model .ensures)) .lent
 
 decide-words-requires : tie.Need-decide-words-requires
-decide-words-requires c κs = model-passes _ (when-done (c .before .before .before .read .given .1) (c .before .before .before .before .before .before .read-model .ensures))
+decide-words-requires c κs = model-passes _ (when (c .before .before .before .read .given .1) (c .before .before .before .before .before .before .read-model .ensures))
 
 enum-known-read-2 : tie.Need-enum-known-read-2
 enum-known-read-2 c = search needs
@@ -35,12 +35,12 @@ same-length c = search needs
 
 returns : tie.Need-returns
 returns c =
-    let e = when-done (c .before .before .before .before .before .before .read .given .1) (c .before .before .before .before .before .before .before .before .before .read-model .ensures) in
+    let e = when (c .before .before .before .before .before .before .read .given .1) (c .before .before .before .before .before .before .before .before .before .read-model .ensures) in
     decide-words _ _ _ (read-yes _ e) (read-front _ e .are) (c .before .before .decide-words .ensures)
 
 returns-2 : tie.Need-returns-2
 returns-2 c =
-    let e = read-refused _ (when-refused (c .before .before .read2 .given .1) (c .before .before .before .before .before .read-model .ensures)) in
+    let e = read-refused _ (when (c .before .before .read2 .given .1) (c .before .before .before .before .before .read-model .ensures)) in
     decide-refused _ _ _ (c .pack .ensures) (e .0) (e .1)
 
 pub decide-spec : {M : Type 1} → statement M

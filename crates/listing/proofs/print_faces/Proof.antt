@@ -13,6 +13,9 @@ Inv-loop file count at₀ i₀ at i = i ≤ count
 abbrev μ-loop : tie.MeasureT-loop
 μ-loop file count at₀ i₀ at i = count - i
 
+field-length-requires : tie.Need-field-length-requires Inv-loop μ-loop
+field-length-requires c κs = search needs
+
 loop-holds : tie.Need-loop-holds Inv-loop μ-loop
 loop-holds c = omega arith
 
@@ -26,7 +29,7 @@ returns : tie.Need-returns Inv-loop μ-loop
 returns c = search needs
 
 -- where the field lies that the turn found
-lies : (c : tie.After-known-told Inv-loop μ-loop) → let f = c .before .field .given .0 in Lies (c .before .before .before .before .before .before .before .args .file .now) (c .before .before .before .before .before .loop .at) (f .0) (f .1 .0) (f .1 .1 .0) (f .1 .1 .1 .0)
+lies : (c : tie.After-known-told Inv-loop μ-loop) → let f = c .before .field .given .0 in Lies (c .before .before .before .before .before .before .before .before .args .file .now) (c .before .before .before .before .before .loop .at) (f .0) (f .1 .0) (f .1 .1 .0) (f .1 .1 .1 .0)
 lies c = field-lies _ _ _ _ _ _ (sym (c .before .before .before .next-field .ensures) ∙ c .before .field .given .1)
 
 print-line-requires : tie.Need-print-line-requires Inv-loop μ-loop
@@ -50,6 +53,7 @@ print-faces-spec =
     (tie.spec
     Inv-loop
     μ-loop
+    field-length-requires
     loop-holds
     next-field-requires
     enum-known-field

@@ -7,14 +7,14 @@ use Rattle.model_files.proofs.body_questions.Tie as tie
 variables-requires : tie.Need-variables-requires
 variables-requires c κs = search needs
 
+locations-from-requires : tie.Need-locations-from-requires
+locations-from-requires c κs = search needs
+
 locations-requires : tie.Need-locations-requires
 locations-requires c κs = search needs
 
-mul-run-questions : tie.Need-mul-run-questions
-mul-run-questions c = search needs
-
-add-run-questions : tie.Need-add-run-questions
-add-run-questions c = search needs
+location-size-requires : tie.Need-location-size-requires
+location-size-requires c κs = search needs
 
 run-questions-requires : tie.Need-run-questions-requires
 run-questions-requires c κs = search needs
@@ -25,11 +25,8 @@ switches-from-requires c κs = search needs
 switches-requires : tie.Need-switches-requires
 switches-requires c κs = search needs
 
-mul-run-questions-2 : tie.Need-mul-run-questions-2
-mul-run-questions-2 c = search needs
-
-add-run-questions-2 : tie.Need-add-run-questions-2
-add-run-questions-2 c = search needs
+switch-size-requires : tie.Need-switch-size-requires
+switch-size-requires c κs = search needs
 
 run-questions-requires-2 : tie.Need-run-questions-requires-2
 run-questions-requires-2 c κs = search needs
@@ -40,11 +37,8 @@ forbiddens-from-requires c κs = search needs
 forbidden-boxes-requires : tie.Need-forbidden-boxes-requires
 forbidden-boxes-requires c κs = search needs
 
-mul-run-questions-3 : tie.Need-mul-run-questions-3
-mul-run-questions-3 c = search needs
-
-add-run-questions-3 : tie.Need-add-run-questions-3
-add-run-questions-3 c = search needs
+forbidden-size-requires : tie.Need-forbidden-size-requires
+forbidden-size-requires c κs = search needs
 
 run-questions-requires-3 : tie.Need-run-questions-requires-3
 run-questions-requires-3 c κs = search needs
@@ -73,19 +67,17 @@ body-questions-spec =
     tie.close
     (tie.spec
     variables-requires
+    locations-from-requires
     locations-requires
-    mul-run-questions
-    add-run-questions
+    location-size-requires
     run-questions-requires
     switches-from-requires
     switches-requires
-    mul-run-questions-2
-    add-run-questions-2
+    switch-size-requires
     run-questions-requires-2
     forbiddens-from-requires
     forbidden-boxes-requires
-    mul-run-questions-3
-    add-run-questions-3
+    forbidden-size-requires
     run-questions-requires-3
     file-end-requires
     ask-requires

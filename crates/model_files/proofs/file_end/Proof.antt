@@ -11,17 +11,14 @@ forbiddens-from-requires c κs = search needs
 variables-requires : tie.Need-variables-requires
 variables-requires c κs = search needs
 
-mul-field-place : tie.Need-mul-field-place
-mul-field-place c = search needs
-
-add-field-place : tie.Need-add-field-place
-add-field-place c = search needs
+forbidden-size-requires : tie.Need-forbidden-size-requires
+forbidden-size-requires c κs = search needs
 
 forbidden-boxes-requires : tie.Need-forbidden-boxes-requires
 forbidden-boxes-requires c κs = search needs
 
 field-place-requires : tie.Need-field-place-requires
-field-place-requires c κs = omega (arith, forbiddens-small _ (c .before .before .before .pre))
+field-place-requires c κs = omega (arith, forbiddens-small _ (c .before .before .before .before .pre))
 
 returns : tie.Need-returns
 returns c = cc
@@ -32,8 +29,7 @@ file-end-spec =
     (tie.spec
     forbiddens-from-requires
     variables-requires
-    mul-field-place
-    add-field-place
+    forbidden-size-requires
     forbidden-boxes-requires
     field-place-requires
     returns)

@@ -11,17 +11,14 @@ switches-from-requires c κs = search needs
 variables-requires : tie.Need-variables-requires
 variables-requires c κs = search needs
 
-mul-field-place : tie.Need-mul-field-place
-mul-field-place c = search needs
-
-add-field-place : tie.Need-add-field-place
-add-field-place c = search needs
+switch-size-requires : tie.Need-switch-size-requires
+switch-size-requires c κs = search needs
 
 switches-requires : tie.Need-switches-requires
 switches-requires c κs = search needs
 
 field-place-requires : tie.Need-field-place-requires
-field-place-requires c κs = omega (arith, switches-small _ (c .before .before .before .pre))
+field-place-requires c κs = omega (arith, switches-small _ (c .before .before .before .before .pre))
 
 returns : tie.Need-returns
 returns c = cc
@@ -32,8 +29,7 @@ forbiddens-from-spec =
     (tie.spec
     switches-from-requires
     variables-requires
-    mul-field-place
-    add-field-place
+    switch-size-requires
     switches-requires
     field-place-requires
     returns)

@@ -9,8 +9,8 @@ use lib.Seq.{length-take-le}
 use Rattle.plant.proofs.Asks.{go, halt, then-intro}
 use Rattle.plant.specs.Questions.{recordsQuestions}
 use Rattle.plant.proofs.Reading.{refused-at, past}
-use Rattle.model_files.specs.ModelFile.{fileWords}
-use Rattle.model_files.proofs.ModelReading.{length-head, file-whole, front-of, body-passed}
+use Rattle.model_files.specs.ModelFile.{fileWords, recordsFileQuestions}
+use Rattle.model_files.proofs.ModelReading.{length-head, file-whole, front-of}
 use Rattle.model_files.proofs.read_records.Statement.{statement}
 use Rattle.model_files.proofs.read_records.Tie as tie
 
@@ -24,14 +24,13 @@ same-length : tie.Need-same-length
 same-length c = search needs
 
 returns : tie.Need-returns
+unfolding recordsFileQuestions
 returns c = refused-at _ (halt _ (c .before .before .before .before .body-questions .ensures) (c .before .before .before .if1 .taken)) (c .before .before .before .if1 .taken) (c .before .clear .ensures)
 
 fill-requires : tie.Need-fill-requires
 fill-requires c κs =
-    let a = c .before .before .before .before .args in
     let p = c .before .before .before .before .pre in
-    let e = body-passed (a .file .now) (a .head .now) (sym (c .before .before .body-questions .ensures) ∙ c .before .if1 .left) in
-    (p .0, p .1, omega (arith, e .ended), p .2)
+    (p, sym (c .before .before .body-questions .ensures) ∙ c .before .if1 .left)
 
 size-requires : tie.Need-size-requires
 size-requires c κs = search needs
@@ -44,7 +43,7 @@ slice-aggregate-records-questions c = sym (length-take-le (c .before .size .resu
 
 -- the head words are four
 four : (c : tie.After-fill-arg) → length (c .before .before .before .before .args .head .now) ≡ 4
-four c = ap length (c .before .before .before .before .pre .1) ∙ length-head (c .before .before .before .before .args .file .now)
+four c = ap length (c .before .before .before .before .pre .is-read) ∙ length-head (c .before .before .before .before .args .file .now)
 
 -- what is asked are the words of the file
 asked : (c : tie.After-records-questions-arg) → let a = c .before .before .before .before .before .before .before .before .args in
@@ -54,7 +53,7 @@ asked c =
     front-of (a .file .now) (a .head .now) (four (c .before .before .before .before)) (a .words .now) _ (c .before .size .result) (c .before .before .before .fill .ensures) (c .before .size .ensures)
 
 records-questions-requires : tie.Need-records-questions-requires
-records-questions-requires c κs = rw (asked c) (file-whole _ _ (four (c .before .before .before .before)) (c .before .before .before .before .before .before .before .before .pre .0))
+records-questions-requires c κs = rw (asked c) (file-whole _ _ (four (c .before .before .before .before)) (c .before .before .before .before .before .before .before .before .pre .head))
 
 clear-requires-2 : tie.Need-clear-requires-2
 clear-requires-2 c κs = search needs
@@ -63,6 +62,7 @@ same-length-2 : tie.Need-same-length-2
 same-length-2 c = search needs
 
 returns-2 : tie.Need-returns-2
+unfolding recordsFileQuestions
 returns-2 c =
     let a = c .before .before .before .before .before .before .before .before .before .before .before .before .before .args in
     let e : length (c .before .before .before .before .before .before .before .before .fill .last .1 .1 .0) ≡ length (a .words .now) = omega arith in
@@ -73,6 +73,7 @@ same-length-3 : tie.Need-same-length-3
 same-length-3 c = search needs
 
 returns-3 : tie.Need-returns-3
+unfolding recordsFileQuestions
 returns-3 c =
     past _
     (then-intro (sym (c .before .before .before .before .before .before .before .before .body-questions .ensures) ∙ c .before .before .before .before .before .before .before .if1 .left) (sym (c .before .records-questions .ensures ∙ ap recordsQuestions (asked (c .before .before))) ∙ c .if2 .left))

@@ -3,14 +3,14 @@ use borrow.Author.Needs.{needs}
 use Rattle.model_files.proofs.switches_from.Statement.{statement}
 use Rattle.model_files.proofs.switches_from.Tie as tie
 
+locations-from-requires : tie.Need-locations-from-requires
+locations-from-requires c κs = search needs
+
 variables-requires : tie.Need-variables-requires
 variables-requires c κs = search needs
 
-mul-field-place : tie.Need-mul-field-place
-mul-field-place c = search needs
-
-add-field-place : tie.Need-add-field-place
-add-field-place c = search needs
+location-size-requires : tie.Need-location-size-requires
+location-size-requires c κs = search needs
 
 locations-requires : tie.Need-locations-requires
 locations-requires c κs = search needs
@@ -25,9 +25,9 @@ pub switches-from-spec : {M : Type 1} → statement M
 switches-from-spec =
     tie.close
     (tie.spec
+    locations-from-requires
     variables-requires
-    mul-field-place
-    add-field-place
+    location-size-requires
     locations-requires
     field-place-requires
     returns)

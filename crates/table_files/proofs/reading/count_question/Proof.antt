@@ -1,22 +1,35 @@
 -- The head field, then the count in it.
-use mathlib.Core.Path.{ap₂, _∙_}
-use Prim.Native.Nat.{ℕ, _*_}
+use mathlib.Core.Bool.{Bool}
+use mathlib.Core.Path.{_≡_, sym, ap, ap₂, _∙_}
+use Prim.Native.Nat.{ℕ, _+_, _*_}
 use native.Mathlib.Omega.{arith}
 use borrow.Author.Tests.{not-true, not-false}
 use borrow.Author.Needs.{needs}
+use lib.IntN.{pos}
+use Rattle.integers.specs.Words.{within}
+use Rattle.wire.specs.Bytes.{wordAt}
+use Rattle.wire.specs.Fields.{fieldAt, isField}
+use Rattle.wire.specs.declared.Field.{Field}
 use Rattle.table_files.proofs.TableWriting.{most-few}
-use Rattle.table_files.proofs.TableReading.{field-is, up-to-is, count-refused, head-there, count-asked}
+use Rattle.table_files.proofs.TableReading.{count-refused, head-there, count-asked}
 use Rattle.table_files.proofs.reading.count_question.Statement.{statement}
 use Rattle.table_files.proofs.reading.count_question.Tie as tie
 
+-- the test of the head field
+tested : (c : tie.After-is-field) → isField (fieldAt (c .before .before .before .before .args .file .now) 0) 6 4 ≡ c .is-field .result
+tested c = sym (c .is-field .ensures ∙ ap₂ (λ (f : Field) (len : ℕ). isField f 6 len) (c .before .before .next-field .ensures) (c .before .payload-length .ensures))
+
 next-field-requires : tie.Need-next-field-requires
 next-field-requires c κs = search needs
+
+payload-length-requires : tie.Need-payload-length-requires
+payload-length-requires c κs = search needs
 
 is-field-requires : tie.Need-is-field-requires
 is-field-requires c κs = search needs
 
 returns : tie.Need-returns
-returns c = count-refused _ _ (field-is _ 0 6 4 (c .before .is-field .ensures) (c .before .before .next-field .ensures) ∙ not-true _ (c .if1 .taken))
+returns c = count-refused _ _ (tested (c .before) ∙ not-true _ (c .if1 .taken))
 
 variables-requires : tie.Need-variables-requires
 variables-requires c κs = search needs
@@ -28,32 +41,32 @@ locations-requires : tie.Need-locations-requires
 locations-requires c κs = search needs
 
 mul-most-2 : tie.Need-mul-most-2
-mul-most-2 c = record { fits = omega (arith, most-few _ (c .before .before .before .before .before .before .pre) (c .locations .ensures) (c .before .variables .ensures)) }
+mul-most-2 c = record { fits = omega (arith, most-few _ (c .before .before .before .before .before .before .before .pre) (c .locations .ensures) (c .before .variables .ensures)) }
 
-word-at-requires : tie.Need-word-at-requires
-word-at-requires c κs = head-there (c .before .before .before .before .before .before .args .model .now) _ (field-is _ 0 6 4 (c .before .before .before .is-field .ensures) (c .before .before .before .before .next-field .ensures) ∙ not-false _ (c .before .before .if1 .left))
-
-up-to-requires : tie.Need-up-to-requires
-up-to-requires c κs = most-few _ (c .before .before .before .before .before .before .before .pre) (c .before .locations .ensures) (c .before .before .variables .ensures)
+number-within-requires : tie.Need-number-within-requires
+number-within-requires c κs =
+    (head-there (c .before .before .before .before .before .before .before .args .model .now) _ (tested (c .before .before .before) ∙ not-false _ (c .before .before .if1 .left)), most-few _ (c .before .before .before .before .before .before .before .pre) (c .locations .ensures) (c .before .variables .ensures))
 
 ask-requires : tie.Need-ask-requires
 ask-requires c κs = search needs
 
 returns-2 : tie.Need-returns-2
-returns-2 c = count-asked _ _ (field-is _ 0 6 4 (c .before .before .before .before .before .before .is-field .ensures) (c .before .before .before .before .before .before .before .next-field .ensures) ∙ not-false _ (c .before .before .before .before .before .if1 .left)) (up-to-is (c .before .up-to .ensures) (c .before .before .word-at .ok) (c .before .before .word-at .ensures) (ap₂ (λ (l n : ℕ). 2 * n * l) (c .before .before .before .locations .ensures) (c .before .before .before .before .variables .ensures))) (c .ask .ensures)
+returns-2 c =
+    let most = ap₂ (λ (l n : ℕ). within (pos 0) (pos (2 * n * l)) (wordAt (c .before .before .before .before .before .before .before .before .before .args .file .now) 3)) (c .before .before .locations .ensures) (c .before .before .before .variables .ensures) in
+    count-asked _ _ (tested (c .before .before .before .before .before) ∙ not-false _ (c .before .before .before .before .if1 .left)) (sym (c .before .number-within .ensures ∙ most)) (c .ask .ensures)
 
 pub count-question-spec : {M : Type 1} → statement M
 count-question-spec =
     tie.close
     (tie.spec
     next-field-requires
+    payload-length-requires
     is-field-requires
     returns
     variables-requires
     mul-most
     locations-requires
     mul-most-2
-    word-at-requires
-    up-to-requires
+    number-within-requires
     ask-requires
     returns-2)

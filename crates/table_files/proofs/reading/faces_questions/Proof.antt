@@ -1,49 +1,102 @@
 -- The invariant: the fields passed got a yes, the position is that of field i, and the least key is one more than the key before.
-use mathlib.Core.Path.{_≡_, sym, _∙_}
-use Prim.Native.Nat.{_-_, _≤_}
+use mathlib.Core.Bool.{Bool, true, false}
+use mathlib.Core.Path.{_≡_, refl, sym, ap, ap₂, _∙_}
+use Prim.Native.Nat.{ℕ, _+_, _-_, _≤_}
 use native.Mathlib.Omega.{arith}
+use borrow.Author.Tests.{not-true, not-false}
 use borrow.Author.Needs.{needs}
-use Rattle.plant.specs.Ask.{first}
+use lib.Dec.{T}
+use Rattle.integers.proofs.Counted.{true-is}
+use Rattle.wire.specs.Fields.{headerSize, payloadLength, fieldAt, isField}
+use Rattle.wire.specs.declared.Field.{Field}
+use Rattle.wire.proofs.Fields.{due-given, due-whole}
+use Rattle.plant.specs.Ask.{ask, first}
 use Rattle.plant.specs.Model.{n#}
 use Rattle.plant.proofs.Asks.{first-none, run-stop, run-more, run-end}
-use Rattle.table_files.specs.TableFile.{facePlace, faceQuestions}
-use Rattle.table_files.specs.TableRoom.{leastKey}
-use Rattle.table_files.proofs.TableReading.{question-is, key-ready, key-few, place-few, place-next, least-next}
+use Rattle.table_files.specs.TableFile.{faceFieldSize, facePlace, leastKey, faceQuestion, faceQuestions}
+use Rattle.table_files.proofs.TableReading.{face-refused, field-there, face-answered, place-passed, key-few, place-next, least-next}
 use Rattle.table_files.proofs.reading.faces_questions.Statement.{statement}
 use Rattle.table_files.proofs.reading.faces_questions.Tie as tie
 
 abbrev Inv-loop : tie.InvT-loop
-Inv-loop model file count n least₀ at₀ i₀ least at i = (i ≤ count) × (at ≡ facePlace (n# model) i) × (least ≡ leastKey (n# model) file i) × (first i (faceQuestions model file) ≡ 0)
+Inv-loop model file count n len least₀ at₀ i₀ least at i = (i ≤ count) × (at ≡ facePlace (n# model) i) × (least ≡ leastKey (n# model) file i) × (first i (faceQuestions model file) ≡ 0)
 
 abbrev μ-loop : tie.MeasureT-loop
-μ-loop model file count n least₀ at₀ i₀ least at i = count - i
+μ-loop model file count n len least₀ at₀ i₀ least at i = count - i
+
+-- the question of field i, by the position and the least key
+asked : (c : tie.In-loop Inv-loop μ-loop) → let a = c .before .before .before .before .before .before .before .args in let p = c .before .loop in faceQuestion (a .model .now) (a .file .now) (p .at) (p .least) ≡ faceQuestions (a .model .now) (a .file .now) (p .i)
+asked c = let a = c .before .before .before .before .before .before .before .args in ap₂ (faceQuestion (a .model .now) (a .file .now)) (c .before .loop .inv .1) (c .before .loop .inv .2)
+
+-- the test of the field
+tested : (c : tie.After-is-field Inv-loop μ-loop) → let a = c .before .before .before .before .before .before .before .before .before .args in isField (fieldAt (a .file .now) (c .before .before .before .loop .at)) 5 (payloadLength (faceFieldSize (n# (a .model .now)))) ≡ c .is-field .result
+tested c = sym (c .is-field .ensures ∙ ap₂ (λ (f : Field) (len : ℕ). isField f 5 len) (c .before .next-field .ensures) (c .before .before .before .before .before .payload-length .ensures ∙ ap payloadLength (c .before .before .before .before .before .before .face-field-size .ensures ∙ ap faceFieldSize (c .before .before .before .before .before .before .before .variables .ensures))))
+
+whole : (c : tie.Else1 Inv-loop μ-loop) → let a = c .before .before .before .before .before .before .before .before .before .before .args in T (isField (fieldAt (a .file .now) (c .before .before .before .before .loop .at)) 5 (payloadLength (faceFieldSize (n# (a .model .now)))))
+whole c = true-is (tested (c .before) ∙ not-false _ (c .if1 .left))
+
+-- what the cursor gives of it
+lies : (c : tie.After-known-told Inv-loop μ-loop) → let a = c .before .before .before .before .before .before .before .before .before .before .before .before .before .args in let f = c .before .field .given .0 .1 in let at = c .before .before .before .before .before .before .before .loop .at in
+    (f .0 ≡ at + headerSize) × (f .1 .0 ≡ payloadLength (faceFieldSize (n# (a .model .now)))) × (f .1 .1 .0 ≡ at + headerSize + payloadLength (faceFieldSize (n# (a .model .now))))
+lies c = due-given _ _ _ _ _ _ _ _ (whole (c .before .before .before)) (sym (c .before .before .before .before .before .next-field .ensures) ∙ c .before .field .given .1)
+
+-- the question's answer, by the test of the place
+answered : (c : tie.After-place-ok Inv-loop μ-loop) → let a = c .before .before .before .before .before .before .before .before .before .before .before .before .before .before .args in ask (c .place-ok .result) 37 ≡ faceQuestions (a .model .now) (a .file .now) (c .before .before .before .before .before .before .before .before .loop .i)
+answered c = sym (face-answered _ _ _ _ (whole (c .before .before .before .before)) (lies (c .before) .0) (c .place-ok .ensures)) ∙ asked (c .before .before .before .before .before .before .before)
+
+passed : (c : tie.Else2 Inv-loop μ-loop) → let a = c .before .before .before .before .before .before .before .before .before .before .before .before .before .before .before .args in 0 ≡ faceQuestions (a .model .now) (a .file .now) (c .before .before .before .before .before .before .before .before .before .loop .i)
+passed c = ap (λ (t : Bool). ask t 37) (sym (not-false (c .before .place-ok .result) (c .if2 .left))) ∙ answered (c .before)
 
 variables-requires : tie.Need-variables-requires Inv-loop μ-loop
 variables-requires c κs = search needs
 
-loop-holds : tie.Need-loop-holds Inv-loop μ-loop
-loop-holds c = (omega arith, omega arith, omega arith, first-none _)
+face-field-size-requires : tie.Need-face-field-size-requires Inv-loop μ-loop
+face-field-size-requires c κs = search needs
 
-face-question-requires : tie.Need-face-question-requires Inv-loop μ-loop
-face-question-requires c κs = c .before .before .before .before .pre .0
+payload-length-requires : tie.Need-payload-length-requires Inv-loop μ-loop
+payload-length-requires c κs = search needs
+
+faces-from-requires : tie.Need-faces-from-requires Inv-loop μ-loop
+faces-from-requires c κs = search needs
+
+loop-holds : tie.Need-loop-holds Inv-loop μ-loop
+loop-holds c =
+    (omega arith, omega (arith, c .faces-from .ensures), refl, first-none _)
+
+next-field-requires : tie.Need-next-field-requires Inv-loop μ-loop
+next-field-requires c κs = search needs
+
+is-field-requires : tie.Need-is-field-requires Inv-loop μ-loop
+is-field-requires c κs = search needs
 
 returns : tie.Need-returns Inv-loop μ-loop
-returns c = run-stop _ _ _ (c .before .face-question .ensures ∙ question-is _ _ _ (c .before .before .before .loop .inv .1) (c .before .before .before .loop .inv .2)) (c .if1 .taken) (c .before .before .before .loop .inv .3) (c .before .before .loop-test .taken)
+returns c =
+    run-stop _ _ _ (face-refused _ _ _ _ (tested (c .before) ∙ not-true _ (c .if1 .taken)) ∙ asked (c .before .before .before)) (λ z. omega arith) (c .before .before .before .before .loop .inv .3) (c .before .before .before .loop-test .taken)
+
+enum-known-field : tie.Need-enum-known-field Inv-loop μ-loop
+enum-known-field c = search needs
+
+returns-2 : tie.Need-returns-2 Inv-loop μ-loop
+returns-2 c =
+    let a = c .before .before .before .before .before .before .before .before .before .before .before .args in
+    absurd (due-whole (c .before .before .before .next-field .result) 5 (payloadLength (faceFieldSize (n# (a .model .now)))) (rw (← (c .before .before .before .next-field .ensures)) at (whole (c .before))) (c .match .keys2))
+
+place-ok-requires : tie.Need-place-ok-requires Inv-loop μ-loop
+place-ok-requires c κs =
+    let a = c .before .before .before .before .before .before .before .before .before .before .before .before .before .args in
+    (c .before .before .before .before .before .before .before .before .before .before .before .before .before .pre, field-there (a .model .now) (a .file .now) (c .before .before .before .before .before .before .before .loop .at) (c .before .before .before .before .before .before .before .loop .least) (whole (c .before .before .before)) (lies c .0))
+
+returns-3 : tie.Need-returns-3 Inv-loop μ-loop
+returns-3 c =
+    run-stop _ _ _ (ap (λ (t : Bool). ask t 37) (sym (not-true (c .before .place-ok .result) (c .if2 .taken))) ∙ answered (c .before)) (λ z. omega arith) (c .before .before .before .before .before .before .before .before .before .loop .inv .3) (c .before .before .before .before .before .before .before .before .loop-test .taken)
 
 key-at-requires : tie.Need-key-at-requires Inv-loop μ-loop
-key-at-requires c κs = key-ready _ _ (c .before .before .before .before .before .before .pre .0) _ _ (c .before .before .before .before .variables .ensures) (sym (c .before .face-question .ensures) ∙ c .if1 .left)
+key-at-requires c κs =
+    place-passed _ _ _ _ (whole (c .before .before .before .before .before)) (lies (c .before .before) .0) (c .before .before .before .before .before .before .before .before .before .before .before .before .before .before .before .pre) (c .before .before .before .before .before .before .before .before .before .before .before .before .before .variables .ensures) (true-is (sym (c .before .place-ok .ensures) ∙ not-false _ (c .if2 .left)))
 
 add-least : tie.Need-add-least Inv-loop μ-loop
-add-least c = record { fits = omega (arith, c .key-at .ensures, key-few (key-ready _ _ (c .before .before .before .before .before .before .before .pre .0) _ _ (c .before .before .before .before .before .variables .ensures) (sym (c .before .before .face-question .ensures) ∙ c .before .if1 .left))) }
-
-mul-at : tie.Need-mul-at Inv-loop μ-loop
-mul-at c = search needs
-
-add-at : tie.Need-add-at Inv-loop μ-loop
-add-at c = search needs
-
-add-at-2 : tie.Need-add-at-2 Inv-loop μ-loop
-add-at-2 c = record { fits = omega (arith, place-few (c .before .before .before .before .before .before .before .args .model .now) (c .before .before .before .before .loop .i) (c .before .before .before .before .before .before .before .pre .0) (omega (arith, c .before .before .before .loop-test .taken, c .before .before .before .before .before .before .before .pre .1)), c .before .before .before .before .loop .inv .1) }
+add-least c =
+    record { fits = omega (arith, c .key-at .ensures, key-few (place-passed _ _ _ _ (whole (c .before .before .before .before .before .before)) (lies (c .before .before .before) .0) (c .before .before .before .before .before .before .before .before .before .before .before .before .before .before .before .before .pre) (c .before .before .before .before .before .before .before .before .before .before .before .before .before .before .variables .ensures) (true-is (sym (c .before .before .place-ok .ensures) ∙ not-false _ (c .before .if2 .left))))) }
 
 add-i : tie.Need-add-i Inv-loop μ-loop
 add-i c = omega arith
@@ -53,14 +106,13 @@ loop-less c = omega arith
 
 loop-again : tie.Need-loop-again Inv-loop μ-loop
 loop-again c =
-    let s = c .before .before .before .before .before .before .before in
-    let p = c .before .before .before .before .loop in
-    let m = s .args .model .now in
-    let n = c .before .before .before .before .before .variables .ensures in
-    (omega arith, place-next m (s .args .file .now) (p .i) n (p .inv .1), least-next m (s .args .file .now) (p .i) n (p .inv .1) (c .key-at .ensures), run-more _ (p .i) (c .before .before .face-question .ensures ∙ question-is _ _ _ (c .before .before .before .before .loop .inv .1) (c .before .before .before .before .loop .inv .2)) (c .before .if1 .left) (p .inv .3))
+    let a = c .before .before .before .before .before .before .before .before .before .before .before .before .before .before .before .before .args in
+    let p = c .before .before .before .before .before .before .before .before .before .before .loop in
+    let l = lies (c .before .before .before) in
+    (omega arith, place-next (a .model .now) (a .file .now) (p .i) (p .inv .1) (l .2), least-next (a .model .now) (a .file .now) (p .i) (c .before .before .before .before .before .before .before .before .before .before .before .before .before .before .variables .ensures) (p .inv .1) (l .0) (c .key-at .ensures), run-more _ (p .i) (passed (c .before)) refl (p .inv .3))
 
-returns-2 : tie.Need-returns-2 Inv-loop μ-loop
-returns-2 c = run-end _ _ _ (c .before .loop .inv .3) (omega arith)
+returns-4 : tie.Need-returns-4 Inv-loop μ-loop
+returns-4 c = run-end _ _ _ (c .before .loop .inv .3) (omega arith)
 
 pub faces-questions-spec : {M : Type 1} → statement M
 faces-questions-spec =
@@ -69,15 +121,20 @@ faces-questions-spec =
     Inv-loop
     μ-loop
     variables-requires
+    face-field-size-requires
+    payload-length-requires
+    faces-from-requires
     loop-holds
-    face-question-requires
+    next-field-requires
+    is-field-requires
     returns
+    enum-known-field
+    returns-2
+    place-ok-requires
+    returns-3
     key-at-requires
     add-least
-    mul-at
-    add-at
-    add-at-2
     add-i
     loop-less
     loop-again
-    returns-2)
+    returns-4)

@@ -1,11 +1,12 @@
 -- The count, then the fields in turn and the end of the file.
-use mathlib.Core.Path.{refl, sym, _∙_}
+use mathlib.Core.Path.{_≡_, sym, ap, ap₂, _∙_}
+use Prim.Native.Nat.{ℕ}
 use native.Mathlib.Omega.{arith}
 use borrow.Author.Needs.{needs}
-use Rattle.integers.proofs.Signed.{got32}
+use Rattle.wire.specs.Fields.{fieldPlace}
 use Rattle.plant.proofs.Asks.{go, halt}
-use Rattle.table_files.specs.TableFile.{fieldsQuestions}
-use Rattle.table_files.proofs.TableReading.{natural-of, counted-head, counted-nonneg, counted-few, counted-bytes, fields-made}
+use Rattle.table_files.specs.TableFile.{faceFieldSize, fieldsQuestions}
+use Rattle.table_files.proofs.TableReading.{counted-at, counted-few, fields-made}
 use Rattle.table_files.proofs.reading.fields_questions.Statement.{statement}
 use Rattle.table_files.proofs.reading.fields_questions.Tie as tie
 
@@ -16,29 +17,25 @@ returns : tie.Need-returns
 unfolding fieldsQuestions
 returns c = halt _ (c .before .count-question .ensures) (c .if1 .taken)
 
-word-at-requires : tie.Need-word-at-requires
-word-at-requires c κs = counted-head _ _ (c .before .before .before .pre) (sym (c .before .count-question .ensures) ∙ c .if1 .left)
-
-natural-requires : tie.Need-natural-requires
-natural-requires c κs = rw (got32 _ (c .word-at .ok), c .word-at .ensures) (counted-nonneg _ _ (c .before .before .before .before .pre) (sym (c .before .before .count-question .ensures) ∙ c .before .if1 .left))
+count-of-requires : tie.Need-count-of-requires
+count-of-requires c κs = counted-at _ _ (c .before .before .before .pre) (sym (c .before .count-question .ensures) ∙ c .if1 .left)
 
 variables-requires : tie.Need-variables-requires
 variables-requires c κs = search needs
 
-mul-end : tie.Need-mul-end
-mul-end c = search needs
+face-field-size-requires : tie.Need-face-field-size-requires
+face-field-size-requires c κs = search needs
 
-add-end : tie.Need-add-end
-add-end c = search needs
+faces-from-requires : tie.Need-faces-from-requires
+faces-from-requires c κs = search needs
 
-mul-end-2 : tie.Need-mul-end-2
-mul-end-2 c = record { fits = omega (arith, counted-bytes _ _ (c .before .before .before .before .before .before .pre) (sym (c .before .before .before .before .count-question .ensures) ∙ c .before .before .before .if1 .left) (natural-of (c .before .natural .ensures) (c .before .before .word-at .ok) (c .before .before .word-at .ensures)) (c .variables .ensures)) }
-
-add-end-2 : tie.Need-add-end-2
-add-end-2 c = record { fits = omega (arith, counted-bytes _ _ (c .before .before .before .before .before .before .pre) (sym (c .before .before .before .before .count-question .ensures) ∙ c .before .before .before .if1 .left) (natural-of (c .before .natural .ensures) (c .before .before .word-at .ok) (c .before .before .word-at .ensures)) (c .variables .ensures)) }
+field-place-requires : tie.Need-field-place-requires
+field-place-requires c κs =
+    let few = counted-few _ _ (c .before .before .before .before .before .before .before .pre) (sym (c .before .before .before .before .before .count-question .ensures) ∙ c .before .before .before .before .if1 .left) (c .before .before .before .count-of .ensures) in
+    (omega (arith, c .faces-from .ensures), omega (arith, c .before .face-field-size .ensures, c .before .before .variables .ensures, c .before .before .before .before .before .before .before .pre .n-small), few)
 
 faces-questions-requires : tie.Need-faces-questions-requires
-faces-questions-requires c κs = (c .before .before .before .before .before .before .pre, counted-few _ _ (c .before .before .before .before .before .before .pre) (sym (c .before .before .before .before .count-question .ensures) ∙ c .before .before .before .if1 .left) (natural-of (c .before .natural .ensures) (c .before .before .word-at .ok) (c .before .before .word-at .ensures)))
+faces-questions-requires c κs = search needs
 
 ask-requires : tie.Need-ask-requires
 ask-requires c κs = search needs
@@ -48,7 +45,10 @@ or-else-requires c κs = search needs
 
 returns-2 : tie.Need-returns-2
 unfolding fieldsQuestions
-returns-2 c = go (c .before .before .before .before .before .before .before .count-question .ensures) (c .before .before .before .before .before .before .if1 .left) (fields-made _ _ (natural-of (c .before .before .before .before .natural .ensures) (c .before .before .before .before .before .word-at .ok) (c .before .before .before .before .before .word-at .ensures)) (c .before .before .before .variables .ensures) (c .before .before .faces-questions .ensures) refl (c .before .ask .ensures) (c .or-else .ensures))
+returns-2 c =
+    let size = c .before .before .before .before .before .face-field-size .ensures ∙ ap faceFieldSize (c .before .before .before .before .before .before .variables .ensures) in
+    let end = c .before .before .before .field-place .ensures ∙ ap₂ (λ (from w : ℕ). fieldPlace from w (c .before .before .before .before .before .before .before .count-of .result)) (c .before .before .before .before .faces-from .ensures) size in
+    go (c .before .before .before .before .before .before .before .before .before .count-question .ensures) (c .before .before .before .before .before .before .before .before .if1 .left) (fields-made _ _ (c .before .before .before .before .before .before .before .count-of .ensures) (c .before .before .faces-questions .ensures) end (c .before .ask .ensures) (c .or-else .ensures))
 
 pub fields-questions-spec : {M : Type 1} → statement M
 fields-questions-spec =
@@ -56,13 +56,11 @@ fields-questions-spec =
     (tie.spec
     count-question-requires
     returns
-    word-at-requires
-    natural-requires
+    count-of-requires
     variables-requires
-    mul-end
-    add-end
-    mul-end-2
-    add-end-2
+    face-field-size-requires
+    faces-from-requires
+    field-place-requires
     faces-questions-requires
     ask-requires
     or-else-requires

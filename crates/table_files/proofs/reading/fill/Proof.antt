@@ -1,15 +1,19 @@
 -- The invariant: the table has the faces of the fields passed, each put over the words of its key.
-use mathlib.Core.Path.{_≡_, sym, _∙_}
+use mathlib.Core.Path.{_≡_, refl, sym, _∙_}
 use Prim.Native.Nat.{_+_, _*_, _-_, _≤_}
 use native.Mathlib.Omega.{arith}
 use borrow.Author.Needs.{needs}
-use Rattle.integers.proofs.Signed.{got32}
+use lib.Dec.{T}
+use lib.ListN.{length}
+use Rattle.wire.specs.Fields.{headerSize, payloadLength, fieldAt, isField}
+use Rattle.wire.proofs.Fields.{due-given, due-whole}
 use Rattle.plant.specs.Model.{n#}
-use Rattle.plant.specs.Tables.{tableBy}
+use Rattle.plant.specs.Tables.{faceSize, tableSize, tableBy}
 use Rattle.tables.proofs.Faces.{table-most}
-use Rattle.table_files.specs.TableFile.{count#, facePlace, fileFace}
-use Rattle.table_files.proofs.TableReading.{row-length, natural-of, asked-count, counted-head, counted-nonneg, count-is, count-few, field-key, field-ends, key-inside, place-yes-at, place-next, place-few, table-none, table-put, table-size, table-end}
-use Rattle.table_files.proofs.TableAsked.{fields-yes}
+use Rattle.table_files.specs.TableFile.{faceFieldSize, count#, facePlace, fileFace}
+use Rattle.table_files.specs.TableRoom.{KeyAt}
+use Rattle.table_files.proofs.TableReading.{row-length, asked-count, counted-at, count-few, field-due, field-key, field-ends, key-inside, place-yes-at, place-next, table-none, table-put, table-size, table-end}
+use Rattle.table_files.proofs.TableAsked.{FieldsYes, fields-yes}
 use Rattle.table_files.proofs.reading.fill.Statement.{statement}
 use Rattle.table_files.proofs.reading.fill.Tie as tie
 
@@ -19,8 +23,39 @@ Inv-loop model file table₀ n size count at₀ i₀ table at i = (i ≤ count) 
 abbrev μ-loop : tie.MeasureT-loop
 μ-loop model file table₀ n size count at₀ i₀ table at i = count - i
 
+-- the file passes 35 to 38
+yes : (c : tie.Start Inv-loop μ-loop) → FieldsYes (c .args .model .now) (c .args .file .now)
+yes c = fields-yes _ _ (c .pre .0 .n-positive) (c .pre .0 .L-positive) (c .pre .1)
+
+-- field i is the due one
+is-due : (c : tie.In-loop Inv-loop μ-loop) → let a = c .before .before .before .before .before .before .before .before .before .args in T (isField (fieldAt (a .file .now) (c .before .loop .at)) 5 (payloadLength (faceFieldSize (n# (a .model .now)))))
+is-due c = let s = c .before .before .before .before .before .before .before .before .before in field-due _ (s .pre .0) _ (yes s) (c .before .before .before .count-of .ensures) _ _ (c .loop-test .taken) (c .before .loop .inv .1)
+
+-- what the cursor gives of it
+lies : (c : tie.After-known-told Inv-loop μ-loop) → let a = c .before .before .before .before .before .before .before .before .before .before .before .before .before .args in let f = c .before .field .given .0 .1 in let at = c .before .before .before .before .before .loop .at in
+    (f .0 ≡ at + headerSize) × (f .1 .0 ≡ payloadLength (faceFieldSize (n# (a .model .now)))) × (f .1 .1 .0 ≡ at + headerSize + payloadLength (faceFieldSize (n# (a .model .now))))
+lies c = due-given _ _ _ _ _ _ _ _ (is-due (c .before .before .before .before)) (sym (c .before .before .before .next-field .ensures) ∙ c .before .field .given .1)
+
+no-other : (c : tie.At-match-keys2 Inv-loop μ-loop) → ⊥
+no-other c =
+    let a = c .before .before .before .before .before .before .before .before .before .before .before .args in
+    due-whole (c .before .next-field .result) 5 (payloadLength (faceFieldSize (n# (a .model .now)))) (rw (← (c .before .next-field .ensures)) at (is-due (c .before .before))) (c .match .keys2)
+
+-- its key is read, and the words of its face lie in the table
+named : (c : tie.After-known-told Inv-loop μ-loop) → KeyAt (c .before .before .before .before .before .before .before .before .before .before .before .before .before .args .file .now) (c .before .field .given .0 .1 .0) (c .before .before .before .before .before .before .before .before .variables .result)
+named c = let s = c .before .before .before .before .before .before .before .before .before .before .before .before .before in field-key _ (s .pre .0) _ (yes s) (c .before .before .before .before .before .before .before .count-of .ensures) _ _ (c .before .before .before .before .loop-test .taken) (c .before .before .before .before .before .loop .inv .1) (lies c .0) (c .before .before .before .before .before .before .before .before .variables .ensures)
+
+inside : (c : tie.After-key-at Inv-loop μ-loop) → let n = c .before .before .before .before .before .before .before .before .before .variables .result in c .key-at .result * faceSize n + faceSize n ≤ tableSize (c .before .before .before .before .before .before .before .before .before .before .before .before .before .before .args .model .now)
+inside c = let s = c .before .before .before .before .before .before .before .before .before .before .before .before .before .before in key-inside _ (s .pre .0) _ (yes s) (c .before .before .before .before .before .before .before .before .count-of .ensures) _ _ (c .before .before .before .before .before .loop-test .taken) (c .before .before .before .before .before .before .loop .inv .1) (lies (c .before) .0) (c .before .before .before .before .before .before .before .before .before .variables .ensures) (c .key-at .ensures)
+
+small : (c : tie.After-key-at Inv-loop μ-loop) → let n = c .before .before .before .before .before .before .before .before .before .variables .result in c .key-at .result * faceSize n + faceSize n ≤ 9984
+small c = omega (arith, inside c, table-most _ (c .before .before .before .before .before .before .before .before .before .before .before .before .before .before .pre .0))
+
+ends : (c : tie.After-known-told Inv-loop μ-loop) → c .before .field .given .0 .1 .0 + 8 + payloadLength (2 * c .before .before .before .before .before .before .before .before .variables .result) ≤ length (c .before .before .before .before .before .before .before .before .before .before .before .before .before .args .file .now)
+ends c = let s = c .before .before .before .before .before .before .before .before .before .before .before .before .before in field-ends _ (s .pre .0) _ (yes s) (c .before .before .before .before .before .before .before .count-of .ensures) _ _ (c .before .before .before .before .loop-test .taken) (c .before .before .before .before .before .loop .inv .1) (lies c .0) (c .before .before .before .before .before .before .before .before .variables .ensures)
+
 clear-requires : tie.Need-clear-requires Inv-loop μ-loop
-clear-requires c κs = tt
+clear-requires c κs = search needs
 
 variables-requires : tie.Need-variables-requires Inv-loop μ-loop
 variables-requires c κs = search needs
@@ -31,29 +66,45 @@ mul-size c = search needs
 add-size : tie.Need-add-size Inv-loop μ-loop
 add-size c = search needs
 
-word-at-requires : tie.Need-word-at-requires Inv-loop μ-loop
-word-at-requires c κs = counted-head _ _ (c .before .before .before .before .before .pre .0) (asked-count _ _ (c .before .before .before .before .before .pre .1))
+count-of-requires : tie.Need-count-of-requires Inv-loop μ-loop
+count-of-requires c κs = counted-at _ _ (c .before .before .before .before .before .pre .0) (asked-count _ _ (c .before .before .before .before .before .pre .1))
 
-natural-requires : tie.Need-natural-requires Inv-loop μ-loop
-natural-requires c κs = rw (got32 _ (c .word-at .ok), c .word-at .ensures) (counted-nonneg _ _ (c .before .before .before .before .before .before .pre .0) (asked-count _ _ (c .before .before .before .before .before .before .pre .1)))
+faces-from-requires : tie.Need-faces-from-requires Inv-loop μ-loop
+faces-from-requires c κs = search needs
 
 loop-holds : tie.Need-loop-holds Inv-loop μ-loop
-loop-holds c = (omega arith, omega arith, c .before .before .before .before .clear .ensures ∙ table-none _ (c .before .before .before .before .before .before .before .pre .0) _ _ (c .before .before .before .before .before .before .before .pre .2))
+loop-holds c =
+    (omega arith, omega (arith, c .faces-from .ensures), c .before .before .before .before .clear .ensures ∙ table-none _ (c .before .before .before .before .before .before .before .pre .0) _ _ (c .before .before .before .before .before .before .before .pre .2))
+
+next-field-requires : tie.Need-next-field-requires Inv-loop μ-loop
+next-field-requires c κs = search needs
+
+enum-known-field : tie.Need-enum-known-field Inv-loop μ-loop
+enum-known-field c = search needs
+
+same-length : tie.Need-same-length Inv-loop μ-loop
+same-length c = absurd (no-other c)
+
+returns : tie.Need-returns Inv-loop μ-loop
+returns c = absurd (no-other c)
 
 key-at-requires : tie.Need-key-at-requires Inv-loop μ-loop
-key-at-requires c κs = field-key _ (c .before .before .before .before .before .before .before .before .before .pre .0) _ (fields-yes _ _ (c .before .before .before .before .before .before .before .before .before .pre .0 .n-positive) (c .before .before .before .before .before .before .before .before .before .pre .0 .L-positive) (c .before .before .before .before .before .before .before .before .before .pre .1)) (natural-of (c .before .before .natural .ensures) (c .before .before .before .word-at .ok) (c .before .before .before .word-at .ensures)) _ _ (c .loop-test .taken) (c .before .loop .inv .1) (c .before .before .before .before .variables .ensures)
+key-at-requires c κs = named c
 
 mul-to : tie.Need-mul-to Inv-loop μ-loop
-mul-to c = record { fits = omega (arith, key-inside _ (c .before .before .before .before .before .before .before .before .before .before .pre .0) _ (fields-yes _ _ (c .before .before .before .before .before .before .before .before .before .before .pre .0 .n-positive) (c .before .before .before .before .before .before .before .before .before .before .pre .0 .L-positive) (c .before .before .before .before .before .before .before .before .before .before .pre .1)) (natural-of (c .before .before .before .natural .ensures) (c .before .before .before .before .word-at .ok) (c .before .before .before .before .word-at .ensures)) _ _ (c .before .loop-test .taken) (c .before .before .loop .inv .1) (c .before .before .before .before .before .variables .ensures) (c .key-at .ensures), table-most _ (c .before .before .before .before .before .before .before .before .before .before .pre .0)) }
+mul-to c = record { fits = omega (arith, small c) }
 
 add-end : tie.Need-add-end Inv-loop μ-loop
-add-end c = record { fits = omega (arith, key-inside _ (c .before .before .before .before .before .before .before .before .before .before .pre .0) _ (fields-yes _ _ (c .before .before .before .before .before .before .before .before .before .before .pre .0 .n-positive) (c .before .before .before .before .before .before .before .before .before .before .pre .0 .L-positive) (c .before .before .before .before .before .before .before .before .before .before .pre .1)) (natural-of (c .before .before .before .natural .ensures) (c .before .before .before .before .word-at .ok) (c .before .before .before .before .word-at .ensures)) _ _ (c .before .loop-test .taken) (c .before .before .loop .inv .1) (c .before .before .before .before .before .variables .ensures) (c .key-at .ensures), table-most _ (c .before .before .before .before .before .before .before .before .before .before .pre .0)) }
+add-end c = record { fits = omega (arith, small c) }
 
-add-fill-face : tie.Need-add-fill-face Inv-loop μ-loop
-add-fill-face c = record { fits = omega (arith, place-few (c .before .before .before .before .before .before .before .before .before .before .args .model .now) (c .before .before .loop .i) (c .before .before .before .before .before .before .before .before .before .before .pre .0) (omega (arith, c .before .loop-test .taken, count-few _ (c .before .before .before .before .before .before .before .before .before .before .pre .0) _ (fields-yes _ _ (c .before .before .before .before .before .before .before .before .before .before .pre .0 .n-positive) (c .before .before .before .before .before .before .before .before .before .before .pre .0 .L-positive) (c .before .before .before .before .before .before .before .before .before .before .pre .1)) (natural-of (c .before .before .before .natural .ensures) (c .before .before .before .before .word-at .ok) (c .before .before .before .before .word-at .ensures)))), c .before .before .loop .inv .1) }
+payload-length-requires : tie.Need-payload-length-requires Inv-loop μ-loop
+payload-length-requires c κs = search needs
+
+add-from : tie.Need-add-from Inv-loop μ-loop
+add-from c = record { fits = omega (arith, c .payload-length .ensures, ends (c .before .before)) }
 
 mul-fill-face : tie.Need-mul-fill-face Inv-loop μ-loop
-mul-fill-face c = record { fits = omega (arith, key-inside _ (c .before .before .before .before .before .before .before .before .before .before .pre .0) _ (fields-yes _ _ (c .before .before .before .before .before .before .before .before .before .before .pre .0 .n-positive) (c .before .before .before .before .before .before .before .before .before .before .pre .0 .L-positive) (c .before .before .before .before .before .before .before .before .before .before .pre .1)) (natural-of (c .before .before .before .natural .ensures) (c .before .before .before .before .word-at .ok) (c .before .before .before .before .word-at .ensures)) _ _ (c .before .loop-test .taken) (c .before .before .loop .inv .1) (c .before .before .before .before .before .variables .ensures) (c .key-at .ensures), table-most _ (c .before .before .before .before .before .before .before .before .before .before .pre .0)) }
+mul-fill-face c = record { fits = omega (arith, small (c .before)) }
 
 sub-fill-face : tie.Need-sub-fill-face Inv-loop μ-loop
 sub-fill-face c = omega arith
@@ -62,53 +113,45 @@ part-fill-face-start : tie.Need-part-fill-face-start Inv-loop μ-loop
 part-fill-face-start c = omega arith
 
 part-fill-face-end : tie.Need-part-fill-face-end Inv-loop μ-loop
-part-fill-face-end c = omega (arith, key-inside _ (c .before .before .before .before .before .before .before .before .before .before .pre .0) _ (fields-yes _ _ (c .before .before .before .before .before .before .before .before .before .before .pre .0 .n-positive) (c .before .before .before .before .before .before .before .before .before .before .pre .0 .L-positive) (c .before .before .before .before .before .before .before .before .before .before .pre .1)) (natural-of (c .before .before .before .natural .ensures) (c .before .before .before .before .word-at .ok) (c .before .before .before .before .word-at .ensures)) _ _ (c .before .loop-test .taken) (c .before .before .loop .inv .1) (c .before .before .before .before .before .variables .ensures) (c .key-at .ensures), table-size _ (c .before .before .before .before .before .before .before .before .before .before .pre .0) (c .before .before .before .before .before .before .before .before .before .before .args .file .now) (c .before .before .loop .i) (c .before .before .loop .inv .2))
+part-fill-face-end c = omega (arith, inside (c .before), table-size _ (c .before .before .before .before .before .before .before .before .before .before .before .before .before .before .before .pre .0) (c .before .before .before .before .before .before .before .before .before .before .before .before .before .before .before .args .file .now) (c .before .before .before .before .before .before .before .loop .i) (c .before .before .before .before .before .before .before .loop .inv .2))
 
 fill-face-requires : tie.Need-fill-face-requires Inv-loop μ-loop
 fill-face-requires c κs =
-    let s = c .before .before .before .before .before .before .before .before .before .before .before in
-    let p = c .before .before .before .loop in
-    let n = c .before .before .before .before .before .before .variables in
-    let k = c .before .key-at in (
-      field-ends _ (c .before .before .before .before .before .before .before .before .before .before .before .pre .0) _ (fields-yes _ _ (c .before .before .before .before .before .before .before .before .before .before .before .pre .0 .n-positive) (c .before .before .before .before .before .before .before .before .before .before .before .pre .0 .L-positive) (c .before .before .before .before .before .before .before .before .before .before .before .pre .1)) (natural-of (c .before .before .before .before .natural .ensures) (c .before .before .before .before .before .word-at .ok) (c .before .before .before .before .before .word-at .ensures)) _ _ (c .before .before .loop-test .taken) (c .before .before .before .loop .inv .1) (n .ensures),
-      row-length (p .table) (k .result * (1 + 2 * n .result)) (1 + 2 * n .result)
-          (omega (arith, key-inside _ (c .before .before .before .before .before .before .before .before .before .before .before .pre .0) _ (fields-yes _ _ (c .before .before .before .before .before .before .before .before .before .before .before .pre .0 .n-positive) (c .before .before .before .before .before .before .before .before .before .before .before .pre .0 .L-positive) (c .before .before .before .before .before .before .before .before .before .before .before .pre .1)) (natural-of (c .before .before .before .before .natural .ensures) (c .before .before .before .before .before .word-at .ok) (c .before .before .before .before .before .word-at .ensures)) _ _ (c .before .before .loop-test .taken) (c .before .before .before .loop .inv .1) (n .ensures) (k .ensures), table-size _ (s .pre .0) (s .args .file .now) (p .i) (p .inv .2))),
+    let s = c .before .before .before .before .before .before .before .before .before .before .before .before .before .before .before .before in
+    let p = c .before .before .before .before .before .before .before .before .loop in
+    let n = c .before .before .before .before .before .before .before .before .before .before .before .variables in
+    let k = c .before .before .key-at in (
+      omega (arith, c .before .payload-length .ensures, ends (c .before .before .before)),
+      row-length (p .table) (k .result * (1 + 2 * n .result)) (1 + 2 * n .result) (omega (arith, inside (c .before .before), table-size _ (s .pre .0) (s .args .file .now) (p .i) (p .inv .2))),
       omega (arith, n .ensures, s .pre .0 .n-small),
     )
 
-mul-at : tie.Need-mul-at Inv-loop μ-loop
-mul-at c = search needs
-
-add-at : tie.Need-add-at Inv-loop μ-loop
-add-at c = search needs
-
-add-at-2 : tie.Need-add-at-2 Inv-loop μ-loop
-add-at-2 c = record { fits = omega (arith, c .before .before .before .before .before .before .before .before .variables .ensures, c .before .before .before .before .before .before .before .before .before .before .before .before .before .pre .0 .n-small, place-few (c .before .before .before .before .before .before .before .before .before .before .before .before .before .args .model .now) (c .before .before .before .before .before .loop .i) (c .before .before .before .before .before .before .before .before .before .before .before .before .before .pre .0) (omega (arith, c .before .before .before .before .loop-test .taken, count-few _ (c .before .before .before .before .before .before .before .before .before .before .before .before .before .pre .0) _ (fields-yes _ _ (c .before .before .before .before .before .before .before .before .before .before .before .before .before .pre .0 .n-positive) (c .before .before .before .before .before .before .before .before .before .before .before .before .before .pre .0 .L-positive) (c .before .before .before .before .before .before .before .before .before .before .before .before .before .pre .1)) (natural-of (c .before .before .before .before .before .before .natural .ensures) (c .before .before .before .before .before .before .before .word-at .ok) (c .before .before .before .before .before .before .before .word-at .ensures)))), c .before .before .before .before .before .loop .inv .1) }
-
 add-i : tie.Need-add-i Inv-loop μ-loop
-add-i c = record { fits = omega (arith, c .before .before .before .before .loop-test .taken, count-few _ (c .before .before .before .before .before .before .before .before .before .before .before .before .before .pre .0) _ (fields-yes _ _ (c .before .before .before .before .before .before .before .before .before .before .before .before .before .pre .0 .n-positive) (c .before .before .before .before .before .before .before .before .before .before .before .before .before .pre .0 .L-positive) (c .before .before .before .before .before .before .before .before .before .before .before .before .before .pre .1)) (natural-of (c .before .before .before .before .before .before .natural .ensures) (c .before .before .before .before .before .before .before .word-at .ok) (c .before .before .before .before .before .before .before .word-at .ensures))) }
+add-i c = record { fits = omega (arith, c .before .before .before .before .before .before .before .before .before .loop-test .taken, count-few _ (c .before .before .before .before .before .before .before .before .before .before .before .before .before .before .before .before .before .before .pre .0) _ (yes (c .before .before .before .before .before .before .before .before .before .before .before .before .before .before .before .before .before .before)) (c .before .before .before .before .before .before .before .before .before .before .before .before .count-of .ensures)) }
 
 loop-less : tie.Need-loop-less Inv-loop μ-loop
 loop-less c = omega arith
 
 loop-again : tie.Need-loop-again Inv-loop μ-loop
 loop-again c =
-    let s = c .before .before .before .before .before .before .before .before .before .before .before .before .before in
-    let p = c .before .before .before .before .before .loop in
-    let n = c .before .before .before .before .before .before .before .before .variables .ensures in (
+    let s = c .before .before .before .before .before .before .before .before .before .before .before .before .before .before .before .before .before .before in
+    let p = c .before .before .before .before .before .before .before .before .before .before .loop in
+    let n = c .before .before .before .before .before .before .before .before .before .before .before .before .before .variables .ensures in
+    let l = lies (c .before .before .before .before .before) in (
       omega arith,
-      place-next (s .args .model .now) (s .args .file .now) (p .i) n (p .inv .1),
-      table-put _ (s .pre .0) (s .args .file .now) (p .i) (p .at) (p .table) _ n (p .inv .1) (place-yes-at _ (c .before .before .before .before .before .before .before .before .before .before .before .before .before .pre .0) _ (fields-yes _ _ (c .before .before .before .before .before .before .before .before .before .before .before .before .before .pre .0 .n-positive) (c .before .before .before .before .before .before .before .before .before .before .before .before .before .pre .0 .L-positive) (c .before .before .before .before .before .before .before .before .before .before .before .before .before .pre .1)) (natural-of (c .before .before .before .before .before .before .natural .ensures) (c .before .before .before .before .before .before .before .word-at .ok) (c .before .before .before .before .before .before .before .word-at .ensures)) _ _ (c .before .before .before .before .loop-test .taken) (c .before .before .before .before .before .loop .inv .1)) (p .inv .2) (c .before .before .before .key-at .ensures) (c .before .fill-face .ensures),
+      place-next (s .args .model .now) (s .args .file .now) (p .i) (p .inv .1) (l .2),
+      table-put _ (s .pre .0) (s .args .file .now) (p .i) _ (p .table) _ n (omega (arith, l .0, p .inv .1)) (place-yes-at _ (s .pre .0) _ (yes s) (c .before .before .before .before .before .before .before .before .before .before .before .before .count-of .ensures) _ _ (c .before .before .before .before .before .before .before .before .before .loop-test .taken) (p .inv .1)) (p .inv .2) (c .before .before .before .before .key-at .ensures) (omega (arith, c .before .before .before .payload-length .ensures)) (c .before .fill-face .ensures),
     )
 
-same-length : tie.Need-same-length Inv-loop μ-loop
-same-length c = table-size _ (c .before .before .before .before .before .before .before .before .before .pre .0) (c .before .before .before .before .before .before .before .before .before .args .file .now) (c .before .loop .i) (c .before .loop .inv .2) ∙ sym (c .before .before .before .before .before .before .before .before .before .pre .2)
+same-length-2 : tie.Need-same-length-2 Inv-loop μ-loop
+same-length-2 c =
+    table-size _ (c .before .before .before .before .before .before .before .before .before .pre .0) (c .before .before .before .before .before .before .before .before .before .args .file .now) (c .before .loop .i) (c .before .loop .inv .2) ∙ sym (c .before .before .before .before .before .before .before .before .before .pre .2)
 
-returns : tie.Need-returns Inv-loop μ-loop
-returns c =
+returns-2 : tie.Need-returns-2 Inv-loop μ-loop
+returns-2 c =
     let s = c .before .before .before .before .before .before .before .before .before in
     let p = c .before .loop in
-    let e : p .i ≡ count# (s .args .file .now) = omega (arith, p .inv .0, c .loop-test .left, count-is _ (s .pre .0) _ (fields-yes _ _ (c .before .before .before .before .before .before .before .before .before .pre .0 .n-positive) (c .before .before .before .before .before .before .before .before .before .pre .0 .L-positive) (c .before .before .before .before .before .before .before .before .before .pre .1)) (natural-of (c .before .before .natural .ensures) (c .before .before .before .word-at .ok) (c .before .before .before .word-at .ensures))) in
+    let e : p .i ≡ count# (s .args .file .now) = omega (arith, p .inv .0, c .loop-test .left, c .before .before .before .count-of .ensures) in
     p .inv .2 ∙ table-end _ (s .pre .0) _ (p .i) e
 
 pub fill-spec : {M : Type 1} → statement M
@@ -121,23 +164,25 @@ fill-spec =
     variables-requires
     mul-size
     add-size
-    word-at-requires
-    natural-requires
+    count-of-requires
+    faces-from-requires
     loop-holds
+    next-field-requires
+    enum-known-field
+    same-length
+    returns
     key-at-requires
     mul-to
     add-end
-    add-fill-face
+    payload-length-requires
+    add-from
     mul-fill-face
     sub-fill-face
     part-fill-face-start
     part-fill-face-end
     fill-face-requires
-    mul-at
-    add-at
-    add-at-2
     add-i
     loop-less
     loop-again
-    same-length
-    returns)
+    same-length-2
+    returns-2)

@@ -26,8 +26,12 @@ mul-faces c = search needs
 mul-faces-2 : tie.Need-mul-faces-2 Inv-loop μ-loop
 mul-faces-2 c = record { fits = omega (arith, faces-fit _ (c .before .before .before .pre .head) (c .locations .ensures) (c .before .variables .ensures)) }
 
+faces-from-requires : tie.Need-faces-from-requires Inv-loop μ-loop
+faces-from-requires c κs = search needs
+
 loop-holds : tie.Need-loop-holds Inv-loop μ-loop
-loop-holds c = (omega arith, omega arith, written-none _ _ _ (omega (arith, longest-least (c .before .before .before .args .model .now), c .before .before .before .pre .bytes)))
+loop-holds c =
+    (omega arith, omega arith, written-none _ _ _ (c .faces-from .ensures) (omega (arith, longest-least (c .before .before .before .before .args .model .now), c .before .before .before .before .pre .bytes)))
 
 mul-put-face : tie.Need-mul-put-face Inv-loop μ-loop
 mul-put-face c = search needs
@@ -42,7 +46,8 @@ rem-put-face : tie.Need-rem-put-face Inv-loop μ-loop
 rem-put-face c = search needs
 
 put-face-requires : tie.Need-put-face-requires Inv-loop μ-loop
-put-face-requires c κs = face-room _ _ _ (c .before .before .before .before .before .before .pre) (c .before .before .before .locations .ensures) (c .before .before .before .before .variables .ensures) (c .before .loop-test .taken) (c .before .before .loop .inv .1) (c .before .before .loop .inv .2)
+put-face-requires c κs =
+    face-room _ _ _ (c .before .before .before .before .before .before .before .pre) (c .before .before .before .before .locations .ensures) (c .before .before .before .before .before .variables .ensures) (c .before .loop-test .taken) (c .before .before .loop .inv .1) (c .before .before .loop .inv .2)
 
 mul-at : tie.Need-mul-at Inv-loop μ-loop
 mul-at c = search needs
@@ -51,22 +56,28 @@ add-at : tie.Need-add-at Inv-loop μ-loop
 add-at c = search needs
 
 add-at-2 : tie.Need-add-at-2 Inv-loop μ-loop
-add-at-2 c = record { fits = omega (arith, row-few _ (c .before .before .before .before .before .before .before .before .before .pre .head) (c .before .before .before .before .before .before .locations .ensures) (c .before .before .before .before .before .before .before .variables .ensures) (c .before .before .before .before .loop-test .taken) (c .before .before .before .before .before .loop .inv .1)) }
+add-at-2 c = record { fits = omega (arith, row-few _ (c .before .before .before .before .before .before .before .before .before .before .pre .head) (c .before .before .before .before .before .before .before .locations .ensures) (c .before .before .before .before .before .before .before .before .variables .ensures) (c .before .before .before .before .loop-test .taken) (c .before .before .before .before .before .loop .inv .1)) }
 
 add-k : tie.Need-add-k Inv-loop μ-loop
-add-k c = record { fits = omega (arith, faces-fit _ (c .before .before .before .before .before .before .before .before .before .pre .head) (c .before .before .before .before .before .before .locations .ensures) (c .before .before .before .before .before .before .before .variables .ensures)) }
+add-k c = record { fits = omega (arith, faces-fit _ (c .before .before .before .before .before .before .before .before .before .before .pre .head) (c .before .before .before .before .before .before .before .locations .ensures) (c .before .before .before .before .before .before .before .before .variables .ensures)) }
 
 loop-less : tie.Need-loop-less Inv-loop μ-loop
 loop-less c = omega arith
 
 loop-again : tie.Need-loop-again Inv-loop μ-loop
-loop-again c = (omega arith, next-row _ _ (c .before .before .before .before .before .loop .inv .1), written-more _ _ _ (omega (arith, longest-least (c .before .before .before .before .before .before .before .before .before .args .model .now), c .before .before .before .before .before .before .before .before .before .pre .bytes)) (c .before .before .before .before .before .loop .inv .2) (c .before .before .before .before .before .loop .inv .1) (c .before .before .put-face .ensures .0) (c .before .before .put-face .ensures .1))
+loop-again c =
+    let s = c .before .before .before .before .before .before .before .before .before .before in
+    let p = c .before .before .before .before .before .loop in (
+      omega arith,
+      next-row _ _ (p .inv .1),
+      written-more _ _ _ (omega (arith, longest-least (s .args .model .now), s .pre .bytes)) (p .inv .2) (p .inv .1) (c .before .before .put-face .ensures .0) (c .before .before .put-face .ensures .1),
+    )
 
 same-length : tie.Need-same-length Inv-loop μ-loop
-same-length c = length-written _ _ _ (c .before .before .before .before .before .pre) (c .before .before .locations .ensures) (c .before .before .before .variables .ensures) (c .before .loop .inv .0) (c .before .loop .inv .2) .0
+same-length c = length-written _ _ _ (c .before .before .before .before .before .before .pre) (c .before .before .before .locations .ensures) (c .before .before .before .before .variables .ensures) (c .before .loop .inv .0) (c .before .loop .inv .2) .0
 
 returns : tie.Need-returns Inv-loop μ-loop
-returns c = written-all _ _ _ (c .before .before .before .before .before .pre) (c .before .before .locations .ensures) (c .before .before .before .variables .ensures) (c .before .loop .inv .0) (c .loop-test .left) (c .before .loop .inv .2)
+returns c = written-all _ _ _ (c .before .before .before .before .before .before .pre) (c .before .before .before .locations .ensures) (c .before .before .before .before .variables .ensures) (c .before .loop .inv .0) (c .loop-test .left) (c .before .loop .inv .2)
 
 pub put-faces-spec : {M : Type 1} → statement M
 put-faces-spec =
@@ -78,6 +89,7 @@ put-faces-spec =
     locations-requires
     mul-faces
     mul-faces-2
+    faces-from-requires
     loop-holds
     mul-put-face
     div-put-face

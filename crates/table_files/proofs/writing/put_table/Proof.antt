@@ -10,17 +10,24 @@ use Rattle.table_files.proofs.TableWriting.{longest-least, present-few,
 use Rattle.table_files.proofs.writing.put_table.Statement.{statement}
 use Rattle.table_files.proofs.writing.put_table.Tie as tie
 
+payload-length-requires : tie.Need-payload-length-requires
+payload-length-requires c κs = search needs
+
 put-header-requires : tie.Need-put-header-requires
-put-header-requires c κs = (omega arith, omega (arith, longest-least (c .before .before .args .model .now), c .before .before .pre .bytes))
+put-header-requires c κs =
+    (omega (arith, c .payload-length .ensures), omega (arith, longest-least (c .before .before .before .args .model .now), c .before .before .before .pre .bytes))
 
 present-faces-requires : tie.Need-present-faces-requires
 present-faces-requires c κs = search needs
 
 cast-put-word : tie.Need-cast-put-word
-cast-put-word c = fits32 (omega (arith, c .present-faces .ensures, present-few (c .before .before .before .before .before .before .before .args .model .now) (c .before .before .before .before .before .before .before .args .table .now) (c .before .before .before .before .before .before .before .pre .head)))
+cast-put-word c =
+    let s = c .before .before .before .before .before .before .before .before in
+    fits32 (omega (arith, c .present-faces .ensures, present-few (s .args .model .now) (s .args .table .now) (s .pre .head)))
 
 put-word-requires : tie.Need-put-word-requires
-put-word-requires c κs = omega (arith, longest-least (c .before .before .before .before .before .before .before .args .model .now), c .before .before .before .before .before .before .before .pre .bytes, c .before .before .before .before .put-header .kept .0)
+put-word-requires c κs =
+    omega (arith, longest-least (c .before .before .before .before .before .before .before .before .args .model .now), c .before .before .before .before .before .before .before .before .pre .bytes, c .before .before .before .before .put-header .kept .0)
 
 put-faces-requires : tie.Need-put-faces-requires
 put-faces-requires c κs = search needs
@@ -30,11 +37,11 @@ same-length c = search needs
 
 returns : tie.Need-returns
 returns c =
-    let s = c .before .before .before .before .before .before .before .before .before .before .before .before .before .before in
+    let s = c .before .before .before .before .before .before .before .before .before .before .before .before .before .before .before in
     let a = s .args in
     let p = c .before .before .before .before .before .before .before .present-faces in
     let few : p .result < 2147483648 = omega (arith, p .ensures, present-few (a .model .now) (a .table .now) (s .pre .head)) in (
-      file-put (a .model .now) (a .table .now) (a .file .now) (c .before .before .before .before .before .before .before .before .before .before .before .put-header .last .0) (c .before .before .before .before .before .before .put-word .last .0) _ (c .before .before .before .before .before .before .before .before .before .before .before .put-header .ensures)
+      file-put (a .model .now) (a .table .now) (a .file .now) (c .before .before .before .before .before .before .before .before .before .before .before .put-header .last .0) (c .before .before .before .before .before .before .put-word .last .0) _ (c .before .before .before .before .before .before .before .before .before .before .before .before .payload-length .ensures) (c .before .before .before .before .before .before .before .before .before .before .before .put-header .ensures)
           (rw (toZ-pos w32 {n = p .result} few, p .ensures) at (c .before .before .before .before .before .before .put-word .ensures)) (c .before .before .put-faces .ensures .0),
       c .before .before .put-faces .ensures .1 ∙ file-length (a .model .now) (a .table .now),
     )
@@ -43,6 +50,7 @@ pub put-table-spec : {M : Type 1} → statement M
 put-table-spec =
     tie.close
     (tie.spec
+    payload-length-requires
     put-header-requires
     present-faces-requires
     cast-put-word

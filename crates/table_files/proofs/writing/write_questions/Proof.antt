@@ -1,9 +1,7 @@
 -- 32 and 39, once the model's questions and 20 are yes.
 use mathlib.Core.Bool.{Bool}
-use mathlib.Core.Path.{sym, ap, _∙_}
-use Prim.Native.Nat.{ℕ}
+use mathlib.Core.Path.{_≡_, sym, ap, _∙_}
 use borrow.Author.Needs.{needs}
-use lib.Dec.{leb}
 use Rattle.plant.specs.Ask.{ask}
 use Rattle.plant.proofs.Asks.{go, halt, both}
 use Rattle.model.proofs.Passing.{head-ready}
@@ -25,18 +23,17 @@ table-ok-requires c κs = let r = room-yes _ _ (sym (c .before .room-questions .
 ask-requires : tie.Need-ask-requires
 ask-requires c κs = search needs
 
-longest-file-requires : tie.Need-longest-file-requires
-longest-file-requires c κs = head-ready _ (room-yes _ _ (sym (c .before .before .before .room-questions .ensures) ∙ c .before .before .if1 .left) .0)
-
-ask-requires-2 : tie.Need-ask-requires-2
-ask-requires-2 c κs = search needs
+bytes-question-requires : tie.Need-bytes-question-requires
+bytes-question-requires c κs = head-ready _ (room-yes _ _ (sym (c .before .before .before .room-questions .ensures) ∙ c .before .before .if1 .left) .0)
 
 or-else-requires : tie.Need-or-else-requires
 or-else-requires c κs = search needs
 
 returns-2 : tie.Need-returns-2
 unfolding writeQuestions
-returns-2 c = go (c .before .before .before .before .before .before .room-questions .ensures) (c .before .before .before .before .before .if1 .left) (both (c .or-else .ensures) (c .before .before .before .ask .ensures ∙ ap (λ (x : Bool). ask x 32) (c .before .before .before .before .table-ok .ensures)) (c .before .ask2 .ensures ∙ ap (λ (k : ℕ). ask (leb k (c .before .before .before .before .before .before .before .args .room)) 39) (c .before .before .longest-file .ensures)))
+returns-2 c =
+    go (c .before .before .before .before .before .room-questions .ensures) (c .before .before .before .before .if1 .left)
+    (both (c .or-else .ensures) (c .before .before .ask .ensures ∙ ap (λ (x : Bool). ask x 32) (c .before .before .before .table-ok .ensures)) (c .before .bytes-question .ensures))
 
 pub write-questions-spec : {M : Type 1} → statement M
 write-questions-spec =
@@ -46,7 +43,6 @@ write-questions-spec =
     returns
     table-ok-requires
     ask-requires
-    longest-file-requires
-    ask-requires-2
+    bytes-question-requires
     or-else-requires
     returns-2)
