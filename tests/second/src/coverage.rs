@@ -138,20 +138,28 @@ impl Counts {
         seldom.map(|(kind, least)| format!("{kind} ({} of {least} times)", count(kind))).collect()
     }
 
-    /// All that is listed and never came up.
-    pub fn not_seen(&self) -> Vec<String> {
+    /// Numbers that a call can give and never gave.
+    pub fn numbers_not_seen(&self) -> Vec<String> {
+        let missing = |name: &str, numbers: &[u32], seen: Option<&BTreeMap<u32, u64>>| -> Vec<String> {
+            let never = |n: &&u32| !seen.is_some_and(|seen| seen.contains_key(n));
+            numbers.iter().filter(never).map(|n| format!("{name} {n}")).collect()
+        };
+        let mut all = missing("decide", &DECIDE_NUMBERS, Some(&self.decide));
+        all.extend(missing("check", &CHECK_NUMBERS, Some(&self.check)));
+        for call in Call::ALL {
+            all.extend(missing(call.name(), &call.numbers(), self.calls.get(&call)));
+        }
+        all
+    }
+
+    /// Kinds of input that are listed and never came up.
+    pub fn kinds_not_seen(&self) -> Vec<String> {
         let mut missing = Vec::new();
         let mut expect = |what: &str, seen: bool| {
             if !seen {
                 missing.push(what.to_string());
             }
         };
-        DECIDE_NUMBERS.iter().for_each(|n| expect(&format!("decide {n}"), self.decide.contains_key(n)));
-        CHECK_NUMBERS.iter().for_each(|n| expect(&format!("check {n}"), self.check.contains_key(n)));
-        for call in Call::ALL {
-            let seen = |n: &u32| self.calls.get(&call).is_some_and(|numbers| numbers.contains_key(n));
-            call.numbers().iter().for_each(|n| expect(&format!("{} {n}", call.name()), seen(n)));
-        }
         all_lengths().iter().for_each(|kind| expect(kind, self.lengths.contains_key(kind)));
         DESK_STARTS.iter().chain(&DESK_CALLS).for_each(|kind| expect(kind, self.desks.contains_key(*kind)));
         (1..=6).for_each(|n| expect(&format!("n {n}"), self.by_n[n] > 0));

@@ -10,7 +10,7 @@
 //! `--trace` prints every input to standard error before the tested call, for a program that stops
 //! within one. `--tight` lends buffers that end where their heap block ends, for a run under a
 //! memory checker, and leaves out the models of thousands of passes. `--random-only` leaves the
-//! fixed cases out. `--every` wants every number and kind under fewer counts too.
+//! fixed cases out. `--all-numbers` wants every number of every call under fewer counts too.
 
 use second::compare::{Comparison, Tested};
 use second::coverage::{Counts, Tally};
@@ -65,7 +65,7 @@ fn main() {
     let trace = arguments.iter().any(|a| a == "--trace");
     let tight = arguments.iter().any(|a| a == "--tight");
     let random_only = arguments.iter().any(|a| a == "--random-only");
-    let every = arguments.iter().any(|a| a == "--every");
+    let all_numbers = arguments.iter().any(|a| a == "--all-numbers");
     arguments.retain(|a| !a.starts_with("--"));
     let number = |place: usize, usual: u64| match arguments.get(place) {
         Some(text) => text.parse().unwrap_or_else(|_| panic!("not a number: {text}")),
@@ -93,7 +93,8 @@ fn main() {
         std::process::exit(1);
     }
     let full = models >= MODELS && damaged >= DAMAGED;
-    let mut missing = counts.not_seen();
+    let numbers = counts.numbers_not_seen();
+    let mut missing = [numbers.clone(), counts.kinds_not_seen()].concat();
     if full {
         missing.extend(counts.too_seldom());
     }
@@ -101,7 +102,7 @@ fn main() {
         println!("every number of every call and every kind of input came up");
     } else {
         println!("did not come up, or not often enough: {}", missing.join(", "));
-        if full || every {
+        if full || (all_numbers && !numbers.is_empty()) {
             std::process::exit(2);
         }
     }
