@@ -21,6 +21,7 @@ use second::generate::{
     random_model, random_table,
 };
 use second::host_ffi;
+use second::lending::Lengths;
 use second::model::Plant;
 use second::random::Random;
 
@@ -42,7 +43,7 @@ const MOST_WORDS: usize = 9_984;
 enum Asked {
     Decide { model: Vec<u8>, length: usize, limit: u32 },
     Check { model: Vec<u8>, table: Vec<u8> },
-    Other { call: Call, model: Vec<i32>, table: Vec<i32>, file: Vec<u8>, limit: u32, words: usize, room: usize },
+    Other { call: Call, model: Vec<i32>, table: Vec<i32>, file: Vec<u8>, limit: u32, lengths: Lengths },
 }
 
 /// What a call gave: number and value, and a sum over all lent buffers.
@@ -97,10 +98,11 @@ fn inputs_of_a_model(random: &mut Random, pool: &mut Vec<Asked>) {
         let mut other = table.clone();
         damage_table(random, &plant, &mut other);
         let edited = if random.chance(1, 2) { edited_words(random, &plant) } else { words.clone() };
-        let some = due - random.below(2);
+        let whole = Lengths { words: due, work: due, file: length };
+        let short = Lengths { words: due - random.below(2), work: due - random.below(2), ..whole };
         let (model, table) = (words.clone(), table.clone());
-        pool.push(Asked::Other { call, model, table, file, limit, words: due, room: length });
-        pool.push(Asked::Other { call, model: edited, table: other, file: broken, limit, words: some, room: length });
+        pool.push(Asked::Other { call, model, table, file, limit, lengths: whole });
+        pool.push(Asked::Other { call, model: edited, table: other, file: broken, limit, lengths: short });
     }
 }
 
@@ -115,9 +117,9 @@ fn make(asked: &Asked, memory: &mut Memory) -> Outcome {
             Outcome { number, value: 0, sum: sum(seed, buffer.iter().map(|&b| b as u64)) }
         }
         Asked::Check { model, table } => Outcome { number: host_ffi::check(model, table), value: 0, sum: 0 },
-        Asked::Other { call, model, table, file, limit, words, room } => {
-            let (buffer, work) = (&mut memory.words[..*words], &mut memory.work[..*words]);
-            let bytes = &mut memory.file[..*room];
+        Asked::Other { call, model, table, file, limit, lengths } => {
+            let (buffer, work) = (&mut memory.words[..lengths.words], &mut memory.work[..lengths.work]);
+            let bytes = &mut memory.file[..lengths.file];
             buffer.fill(OLD_WORD);
             work.fill(OLD_WORD);
             bytes.fill(OLD);
@@ -128,9 +130,9 @@ fn make(asked: &Asked, memory: &mut Memory) -> Outcome {
                 let mut lent = Lent { words: buffer, work, file: bytes, jobs, passes, value: &mut value };
                 host_ffi::answer(*call, &input, &mut lent) as u64
             };
-            let left = sum(seed, memory.words[..*words].iter().map(|&w| w as u64));
-            let left = sum(left, memory.work[..*words].iter().map(|&w| w as u64));
-            Outcome { number, value, sum: sum(left, memory.file[..*room].iter().map(|&b| b as u64)) }
+            let left = sum(seed, memory.words[..lengths.words].iter().map(|&w| w as u64));
+            let left = sum(left, memory.work[..lengths.work].iter().map(|&w| w as u64));
+            Outcome { number, value, sum: sum(left, memory.file[..lengths.file].iter().map(|&b| b as u64)) }
         }
     }
 }
