@@ -4,7 +4,8 @@ use mathlib.Core.List.{List, [], _∷_}
 use Prim.Native.Nat.{ℕ}
 use lib.IntN.{ℤ}
 use Rattle.plant.specs.declared.Answer.{Answer}
-use Rattle.plant.specs.Calls.{Reply, answerReply, Analysed, ReadOutcome}
+use Rattle.plant.specs.declared.Count.{Count}
+use Rattle.plant.specs.Calls.{Reply, answerReply, Analysed, countReply, ReadOutcome}
 use Rattle.table_files.specs.TableFile.{WriteOutcome}
 use Rattle.desk.specs.declared.Desk.{Desk}
 use Rattle.desk.specs.Desks.{freshDesk, Holds, Served, Call, deskAfter, replies, answersOf, passesOf, DeskCounts}
@@ -28,14 +29,14 @@ module _ {a : Answer} {r : Reply} {table work : List ℤ} where
       → _≡_ {A = ServedForC} (record { desk = d; analysed = record { reply = r; table = table; work = work } }) (servedForC x)
   is-served {d = d} {x = x} h e = subst (λ (y : Reply). _≡_ {A = ServedForC} (record { desk = d; analysed = record { reply = y; table = table; work = work } }) (servedForC x)) (sym e) (ap servedForC h)
 
-module _ {k r : Reply} where
+module _ {k : Count} {r : Reply} where
   pub is-read :
-      {words : List ℤ} {o : ReadOutcome} → _≡_ {A = ReadOutcome} (record { reply = k; words = words }) o → r ≡ k
+      {words : List ℤ} {o : ReadOutcome} → _≡_ {A = ReadOutcome} (record { count = k; words = words }) o → r ≡ countReply k
       → _≡_ {A = ReadForC} (record { reply = r; words = words }) (readForC o)
   is-read {words = words} {o = o} h e = subst (λ (y : Reply). _≡_ {A = ReadForC} (record { reply = y; words = words }) (readForC o)) (sym e) (ap readForC h)
 
   pub is-written :
-      {file : List ℕ} {o : WriteOutcome} → _≡_ {A = WriteOutcome} (record { reply = k; file = file }) o → r ≡ k
+      {file : List ℕ} {o : WriteOutcome} → _≡_ {A = WriteOutcome} (record { count = k; file = file }) o → r ≡ countReply k
       → _≡_ {A = WrittenForC} (record { reply = r; file = file }) (writtenForC o)
   is-written {file = file} {o = o} h e = subst (λ (y : Reply). _≡_ {A = WrittenForC} (record { reply = y; file = file }) (writtenForC o)) (sym e) (ap writtenForC h)
 
