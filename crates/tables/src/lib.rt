@@ -4,7 +4,6 @@ ghost use mathlib.Core.Path.{_≡_};
 ghost use Prim.Native.Nat.{_+_, _*_, _≤_};
 ghost use lib.IntN.{pos};
 ghost use lib.ListN.{length, take, drop};
-ghost use Rattle.integers.specs.Rounding.{maxZ, minZ};
 ghost use Rattle.integers.specs.Words.{word};
 ghost use Rattle.plant.specs.Box as B;
 ghost use Rattle.plant.specs.Box.{hull, boxAt, present, faceWords};
@@ -79,18 +78,6 @@ pub fn face(words: &[i32], at: usize, n: usize) -> &[i32]
 
 // ---- joins
 
-fn lower(x: i32, y: i32) -> i32
-    ensures { λ r. ⌜ r ≡ minZ x y ⌝ }
-{
-    if x < y { x } else { y }
-}
-
-fn upper(x: i32, y: i32) -> i32
-    ensures { λ r. ⌜ r ≡ maxZ x y ⌝ }
-{
-    if x < y { y } else { x }
-}
-
 // The face becomes the box.
 fn place(n: usize, from: &[i32], face: &mut [i32])
     requires { ⌜ Joinable n (now from) (now face) ⌝ }
@@ -116,10 +103,10 @@ fn widen(n: usize, from: &[i32], face: &mut [i32])
         let k = 2 * i;
         let l = k + 1;
         let h = k + 2;
-        let low = lower(face[l], from[k]);
-        let high = upper(face[h], from[l]);
-        face[l] = low;
-        face[h] = high;
+        let low = integers::smaller(face[l] as i64, from[k] as i64);
+        let high = integers::larger(face[h] as i64, from[l] as i64);
+        face[l] = low as i32;
+        face[h] = high as i32;
         i = i + 1;
     }
 }

@@ -1,12 +1,14 @@
 -- Filled from the front: in each turn the low and the high of one more variable.
-use mathlib.Core.Path.{_≡_, refl, ap, _∙_}
+use mathlib.Core.Path.{_≡_, refl, sym, ap, _∙_, subst}
 use mathlib.Core.List.{_∷_}
-use Prim.Native.Nat.{ℕ, _+_, _*_, _-_, _≤_}
+use Prim.Native.Nat.{ℕ, _+_, _*_, _-_, _≤_, _<_}
 use native.Mathlib.Omega.{arith}
-use lib.IntN.{pos}
+use lib.IntN.{ℤ, pos}
+use lib.Signed.{mag, ltZ}
 use lib.ListN.{length, set, length-set}
+use mir.Facts.{toZ-ofZ}
 use Rattle.integers.specs.Rounding.{maxZ, minZ}
-use Rattle.integers.proofs.Signed.{got32}
+use Rattle.integers.proofs.Signed.{got32, got64, widened, cond-case}
 use Rattle.integers.specs.Words.{word, onto}
 use Rattle.plant.specs.Box.{hull, boxAt}
 use Rattle.tables.proofs.Faces.{widen-start, widen-turn, widen-end}
@@ -31,47 +33,100 @@ add-l c = omega arith
 add-h : tie.Need-add-h Inv-loop μ-loop
 add-h c = omega arith
 
-mul-lower : tie.Need-mul-lower Inv-loop μ-loop
-mul-lower c = omega arith
+mul-smaller : tie.Need-mul-smaller Inv-loop μ-loop
+mul-smaller c = omega arith
 
-slice-copy-out-lower : tie.Need-slice-copy-out-lower Inv-loop μ-loop
-slice-copy-out-lower c = omega arith
+slice-copy-out-smaller : tie.Need-slice-copy-out-smaller Inv-loop μ-loop
+slice-copy-out-smaller c = omega arith
 
-mul-lower-2 : tie.Need-mul-lower-2 Inv-loop μ-loop
-mul-lower-2 c = omega arith
+cast-smaller : tie.Need-cast-smaller Inv-loop μ-loop
+cast-smaller c = simp (got32, c .smaller-arg .given) (widened _ (c .smaller-arg .given))
 
-shared-slice-copy-out-lower : tie.Need-shared-slice-copy-out-lower Inv-loop μ-loop
-shared-slice-copy-out-lower c = omega arith
+mul-smaller-2 : tie.Need-mul-smaller-2 Inv-loop μ-loop
+mul-smaller-2 c = omega arith
 
-lower-requires : tie.Need-lower-requires Inv-loop μ-loop
-lower-requires c κs = tt
+shared-slice-copy-out-smaller : tie.Need-shared-slice-copy-out-smaller Inv-loop μ-loop
+shared-slice-copy-out-smaller c = omega arith
 
-mul-upper : tie.Need-mul-upper Inv-loop μ-loop
-mul-upper c = omega arith
+cast-smaller-2 : tie.Need-cast-smaller-2 Inv-loop μ-loop
+cast-smaller-2 c = simp (got32, c .smaller-arg2 .given) (widened _ (c .smaller-arg2 .given))
 
-slice-copy-out-upper : tie.Need-slice-copy-out-upper Inv-loop μ-loop
-slice-copy-out-upper c = omega arith
+-- the smaller and the larger of two words are words
+min-small : (x y : ℤ) → mag x < 2147483648 → mag y < 2147483648 → mag (minZ x y) < 2147483648
+unfolding minZ
+min-small x y p q = cond-case (ltZ x y) x y (λ z. mag z < 2147483648) (λ _. p) (λ _. q)
 
-mul-upper-2 : tie.Need-mul-upper-2 Inv-loop μ-loop
-mul-upper-2 c = omega arith
+max-small : (x y : ℤ) → mag x < 2147483648 → mag y < 2147483648 → mag (maxZ x y) < 2147483648
+unfolding maxZ
+max-small x y p q = cond-case (ltZ x y) y x (λ z. mag z < 2147483648) (λ _. q) (λ _. p)
 
-shared-slice-copy-out-upper : tie.Need-shared-slice-copy-out-upper Inv-loop μ-loop
-shared-slice-copy-out-upper c = omega arith
+smaller-requires : tie.Need-smaller-requires Inv-loop μ-loop
+smaller-requires c κs = tt
 
-upper-requires : tie.Need-upper-requires Inv-loop μ-loop
-upper-requires c κs = tt
+mul-larger : tie.Need-mul-larger Inv-loop μ-loop
+mul-larger c = omega arith
 
-mul-low : tie.Need-mul-low Inv-loop μ-loop
-mul-low c = omega arith
+slice-copy-out-larger : tie.Need-slice-copy-out-larger Inv-loop μ-loop
+slice-copy-out-larger c = omega arith
 
-slice-set-from-low : tie.Need-slice-set-from-low Inv-loop μ-loop
-slice-set-from-low c = omega arith
+cast-larger : tie.Need-cast-larger Inv-loop μ-loop
+cast-larger c = simp (got32, c .larger-arg .given) (widened _ (c .larger-arg .given))
 
-mul-high : tie.Need-mul-high Inv-loop μ-loop
-mul-high c = omega arith
+mul-larger-2 : tie.Need-mul-larger-2 Inv-loop μ-loop
+mul-larger-2 c = omega arith
 
-slice-set-from-high : tie.Need-slice-set-from-high Inv-loop μ-loop
-slice-set-from-high c = simp length-set (omega arith)
+shared-slice-copy-out-larger : tie.Need-shared-slice-copy-out-larger Inv-loop μ-loop
+shared-slice-copy-out-larger c = omega arith
+
+cast-larger-2 : tie.Need-cast-larger-2 Inv-loop μ-loop
+cast-larger-2 c = simp (got32, c .larger-arg2 .given) (widened _ (c .larger-arg2 .given))
+
+larger-requires : tie.Need-larger-requires Inv-loop μ-loop
+larger-requires c κs = tt
+
+module _ (c : tie.After-smaller Inv-loop μ-loop) where
+  low-is : let l = c .before .before .before .before .loop in c .smaller .result ≡ minZ (word (l .face) (2 * l .i + 1)) (word (c .before .before .before .before .before .args .from .now) (2 * l .i))
+  low-is =
+      let l = c .before .before .before .before .loop in
+      let x = word (l .face) (2 * l .i + 1) in
+      let y = word (c .before .before .before .before .before .args .from .now) (2 * l .i) in
+      let g = c .before .before .smaller-arg .given in
+      let h = c .before .smaller-arg2 .given in
+      rw (got32 x g, got32 y h, toZ-ofZ (widened x g), toZ-ofZ (widened y h)) at (c .smaller .ensures)
+
+  low-small : mag (c .smaller .result) < 2147483648
+  low-small = subst (λ (z : ℤ). mag z < 2147483648) (sym low-is) (min-small _ _ (c .before .before .smaller-arg .given) (c .before .smaller-arg2 .given))
+
+module _ (c : tie.After-larger Inv-loop μ-loop) where
+  high-is : let l = c .before .before .before .before .before .before .before .loop in c .larger .result ≡ maxZ (word (l .face) (2 * l .i + 2)) (word (c .before .before .before .before .before .before .before .before .args .from .now) (2 * l .i + 1))
+  high-is =
+      let l = c .before .before .before .before .before .before .before .loop in
+      let x = word (l .face) (2 * l .i + 2) in
+      let y = word (c .before .before .before .before .before .before .before .before .args .from .now) (2 * l .i + 1) in
+      let g = c .before .before .larger-arg .given in
+      let h = c .before .larger-arg2 .given in
+      rw (got32 x g, got32 y h, toZ-ofZ (widened x g), toZ-ofZ (widened y h)) at (c .larger .ensures)
+
+  high-small : mag (c .larger .result) < 2147483648
+  high-small = subst (λ (z : ℤ). mag z < 2147483648) (sym high-is) (max-small _ _ (c .before .before .larger-arg .given) (c .before .larger-arg2 .given))
+
+cast-face : tie.Need-cast-face Inv-loop μ-loop
+cast-face c = let x = c .before .before .before .smaller in rw (got64 (x .result) (x .ok)) (record { sfits = low-small (c .before .before .before) })
+
+mul-t11 : tie.Need-mul-t11 Inv-loop μ-loop
+mul-t11 c = omega arith
+
+slice-set-from-face : tie.Need-slice-set-from-face Inv-loop μ-loop
+slice-set-from-face c = omega arith
+
+cast-face-2 : tie.Need-cast-face-2 Inv-loop μ-loop
+cast-face-2 c = rw (got64 (c .larger .result) (c .larger .ok)) (record { sfits = high-small c })
+
+mul-t11-2 : tie.Need-mul-t11-2 Inv-loop μ-loop
+mul-t11-2 c = omega arith
+
+slice-set-from-face-2 : tie.Need-slice-set-from-face-2 Inv-loop μ-loop
+slice-set-from-face-2 c = simp length-set (omega arith)
 
 add-i : tie.Need-add-i Inv-loop μ-loop
 add-i c = omega arith
@@ -83,16 +138,12 @@ loop-again : tie.Need-loop-again Inv-loop μ-loop
 loop-again c =
     let l = c .before .before .before .before .before .before .before .loop in
     let a = c .before .before .before .before .before .before .before .before .args in
-    let x = c .before .before .before .lower in
-    let y = c .upper in
-    let p : x .result ≡ minZ (word (l .face) (2 * l .i + 1)) (word (a .from .now) (2 * l .i)) =
-    simp (got32 (word (l .face) (2 * l .i + 1)) (c .before .before .before .before .before .lower-arg .given), got32 (word (a .from .now) (2 * l .i)) (c .before .before .before .before .lower-arg2 .given)) at (x .ensures) in
-    let q : y .result ≡ maxZ (word (l .face) (2 * l .i + 2)) (word (a .from .now) (2 * l .i + 1)) =
-    simp (got32 (word (l .face) (2 * l .i + 2)) (c .before .before .upper-arg .given), got32 (word (a .from .now) (2 * l .i + 1)) (c .before .upper-arg2 .given)) at (y .ensures) in
-    rw (got32 (x .result) (x .ok), got32 (y .result) (y .ok)) (
+    let x = c .before .before .before .smaller in
+    let y = c .larger in
+    rw (got64 (x .result) (x .ok), got64 (y .result) (y .ok), got32 (x .result) (low-small (c .before .before .before)), got32 (y .result) (high-small c)) (
       omega arith,
       length-set (set (l .face) (2 * l .i + 1) (x .result)) (2 * l .i + 2) (y .result) ∙ length-set (l .face) (2 * l .i + 1) (x .result) ∙ l .inv .1,
-      widen-turn (a .n) (a .from .now) (a .face .now) (l .face) (l .i) (omega arith) (l .inv .2) (omega arith) (x .result) (y .result) p q,
+      widen-turn (a .n) (a .from .now) (a .face .now) (l .face) (l .i) (omega arith) (l .inv .2) (omega arith) (x .result) (y .result) (low-is (c .before .before .before)) (high-is c),
     )
 
 same-length : tie.Need-same-length Inv-loop μ-loop
@@ -114,20 +165,26 @@ widen-spec =
     mul-k
     add-l
     add-h
-    mul-lower
-    slice-copy-out-lower
-    mul-lower-2
-    shared-slice-copy-out-lower
-    lower-requires
-    mul-upper
-    slice-copy-out-upper
-    mul-upper-2
-    shared-slice-copy-out-upper
-    upper-requires
-    mul-low
-    slice-set-from-low
-    mul-high
-    slice-set-from-high
+    mul-smaller
+    slice-copy-out-smaller
+    cast-smaller
+    mul-smaller-2
+    shared-slice-copy-out-smaller
+    cast-smaller-2
+    smaller-requires
+    mul-larger
+    slice-copy-out-larger
+    cast-larger
+    mul-larger-2
+    shared-slice-copy-out-larger
+    cast-larger-2
+    larger-requires
+    cast-face
+    mul-t11
+    slice-set-from-face
+    cast-face-2
+    mul-t11-2
+    slice-set-from-face-2
     add-i
     loop-less
     loop-again

@@ -13,13 +13,13 @@ sub-result c = search needs
 array-read-result : tie.Need-array-read-result
 array-read-result c = search needs
 
-cast-result : tie.Need-cast-result
-unfolding wordsPerLocation
-cast-result c = record { fits = omega (arith, words-small (c .args .n) (c .pre .0) (c .pre .1)) }
-
 returns : tie.Need-returns
 unfolding wordsPerLocation
 returns c = refl
+
+cast-result : tie.Need-cast-result
+unfolding wordsPerLocation
+cast-result c = record { fits = omega (arith, words-small (c .args .n) (c .pre .0) (c .pre .1)) }
 
 pub words-per-location-spec : {M : Type 1} → statement M
 words-per-location-spec = tie.close (tie.spec sub-result array-read-result cast-result returns)
