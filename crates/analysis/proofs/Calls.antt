@@ -9,14 +9,14 @@ use lib.IntN.{ℤ, pos}
 use lib.ListN.{length, drop, replicate}
 use lib.Seq.{take-all}
 use borrow.Author.Tests.{lt-leb}
-use Rattle.integers.specs.Words.{same, onto}
+use Rattle.integers.specs.Words.{equal, onto}
 use Rattle.plant.specs.declared.Answer.{Answer}
 use Rattle.plant.specs.declared.Answer.the-variants.{Refused}
 use Rattle.plant.specs.declared.Verdict.the-variants.{Accepted}
 use Rattle.plant.specs.declared.Verdict.the-variants as verdict
 use Rattle.plant.specs.declared.Ceiling.the-variants.{Passes}
 use Rattle.plant.specs.declared.Ceiling.the-variants as ceiling
-use Rattle.plant.specs.Ask.{ask, orElse, _then_}
+use Rattle.plant.specs.Ask.{ask, _then_}
 use Rattle.plant.specs.Questions.{modelQuestions}
 use Rattle.plant.specs.Tables.{tableSize, tableOk, pass, touching, ceilingOf}
 use Rattle.plant.specs.Calls.{ceilingBy, ceilingCall, unchanged, certificateQuestions, tableQuestions, checkerQuestions, verdictBy, checkCall, analysis, answerTable, passesOf, analysisQuestions, Analysed, answered, analyseBy, analyseCall}
@@ -52,30 +52,30 @@ short m t k h = ap (λ (b : Bool). ask b k) (sym (lt-leb _ _ h))
 
 module _ (m t : List ℤ) (size : length t ≡ tableSize m) where
   -- all of the words are the table
-  unchanged-is : unchanged m t ≡ same (pass m t) t
+  unchanged-is : unchanged m t ≡ equal (pass m t) t
   unfolding unchanged
-  unchanged-is = ap (same (pass m t)) (take-all (tableSize m) t (omega arith))
+  unchanged-is = ap (equal (pass m t)) (take-all (tableSize m) t (omega arith))
 
-  pub changes : same (pass m t) t ≡ false → 33 ≡ certificateQuestions m t
-  unfolding certificateQuestions orElse
+  pub changes : equal (pass m t) t ≡ false → 33 ≡ certificateQuestions m t
+  unfolding certificateQuestions _then_
   changes h = simp (unchanged-is, h)
 
-  module _ (fixed : same (pass m t) t ≡ true) where
+  module _ (fixed : equal (pass m t) t ≡ true) where
     pub touches : touching m t ≡ true → 34 ≡ certificateQuestions m t
-    unfolding certificateQuestions orElse
+    unfolding certificateQuestions _then_
     touches h = simp (unchanged-is, fixed, h)
 
     pub certified : touching m t ≡ false → 0 ≡ certificateQuestions m t
-    unfolding certificateQuestions orElse
+    unfolding certificateQuestions _then_
     certified h = simp (unchanged-is, fixed, h)
 
 module _ (m t : List ℤ) where
   pub not-valid : tableOk m t ≡ false → 32 ≡ tableQuestions m t
-  unfolding tableQuestions orElse
+  unfolding tableQuestions _then_
   not-valid h = simp h
 
   pub valid-asked : {q : ℕ} → tableOk m t ≡ true → q ≡ certificateQuestions m t → q ≡ tableQuestions m t
-  unfolding tableQuestions orElse
+  unfolding tableQuestions _then_
   valid-asked h e = simp (h, e)
 
 -- ---- the checker

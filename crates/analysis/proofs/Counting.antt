@@ -8,9 +8,9 @@ use native.Mathlib.Numerals.{add-one}
 use native.Mathlib.Omega.{arith}
 use lib.IntN.{ℤ, pos}
 use lib.ListN.{length, replicate, replicate-append-replicate}
-use Rattle.integers.specs.Words.{same}
+use Rattle.integers.specs.Words.{equal}
 use Rattle.integers.specs.Counted.{cat}
-use Rattle.integers.proofs.Counted.{is-true}
+use Rattle.integers.proofs.Tests.{is-true}
 use Rattle.plant.specs.declared.Answer.{Answer}
 use Rattle.plant.specs.declared.Answer.the-variants.{Safe, Unknown, Unfinished}
 use Rattle.plant.specs.Box.{absent, faceWords}
@@ -48,12 +48,12 @@ module _ (m : List ℤ) (k : ℕ) where
   at-unknown (suc left) h = rw h refl
 
   module _ (clear : touching m (tableAfter m k) ≡ false) where
-    at-safe : (left : ℕ) → same (tableAfter m (suc k)) (tableAfter m k) ≡ true → search m left k ≡ Safe k
+    at-safe : (left : ℕ) → equal (tableAfter m (suc k)) (tableAfter m k) ≡ true → search m left k ≡ Safe k
     unfolding search
     at-safe zero e = simp (clear, e)
     at-safe (suc left) e = simp (clear, e)
 
-    module _ (changes : same (tableAfter m (suc k)) (tableAfter m k) ≡ false) where
+    module _ (changes : equal (tableAfter m (suc k)) (tableAfter m k) ≡ false) where
       at-limit : search m 0 k ≡ Unfinished k
       unfolding search
       at-limit = simp (clear, changes)
@@ -99,14 +99,14 @@ module _ (m : List ℤ) (limit : ℕ) (table work : List ℤ) (k : ℕ) (g : Goi
     clear-is : touching m (tableAfter m k) ≡ false
     clear-is = ap (touching m) (sym (g .table-is)) ∙ clear
 
-    same-is : same (tableAfter m (suc k)) (tableAfter m k) ≡ same (pass m table) table
-    same-is = ap (λ (t : List ℤ). same t (tableAfter m k)) (sym (after-pass m k)) ∙ ap (λ (t : List ℤ). same (pass m t) t) (sym (g .table-is))
+    same-is : equal (tableAfter m (suc k)) (tableAfter m k) ≡ equal (pass m table) table
+    same-is = ap (λ (t : List ℤ). equal t (tableAfter m k)) (sym (after-pass m k)) ∙ ap (λ (t : List ℤ). equal (pass m t) t) (sym (g .table-is))
 
-    pub going-safe : same (pass m table) table ≡ true → Answers m limit table (Safe k)
+    pub going-safe : equal (pass m table) table ≡ true → Answers m limit table (Safe k)
     unfolding answerTable
     going-safe e = (sym (g .goes-on ∙ at-safe m k clear-is (limit - k) (same-is ∙ e)), g .table-is)
 
-    module _ (changes : same (pass m table) table ≡ false) where
+    module _ (changes : equal (pass m table) table ≡ false) where
       pub going-limit : k ≡ limit → Answers m limit table (Unfinished k)
       unfolding answerTable
       going-limit e =

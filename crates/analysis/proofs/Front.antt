@@ -9,7 +9,7 @@ use lib.Dec.{eqb}
 use lib.IntN.{ℤ, pos}
 use lib.ListN.{take}
 use lib.Seq.{getD-take, take-take}
-use Rattle.integers.specs.Words.{eqZ, same}
+use Rattle.integers.specs.Words.{eqZ, equal}
 use Rattle.integers.specs.Counted.{allBelow, anyBelow}
 use Rattle.integers.proofs.Counted.{all-ext, any-ext}
 use Rattle.integers.proofs.Buffers.{part-front}
@@ -81,7 +81,7 @@ module _ (m : List ℤ) (ok : Passed m) (t : List ℤ) where
 
   unchanged-front : unchanged m (front m t) ≡ unchanged m t
   unfolding unchanged
-  unchanged-front = ap₂ same pass-front (take-take (tableSize m) (tableSize m) t (omega arith))
+  unchanged-front = ap₂ equal pass-front (take-take (tableSize m) (tableSize m) t (omega arith))
 
   pub questions-front : tableQuestions m (front m t) ≡ tableQuestions m t
   unfolding tableQuestions certificateQuestions

@@ -1,7 +1,7 @@
 // The ceiling, the checker and the analysis of a model's words (document 01, "Checker" and "Analysis").
 ghost use mathlib.Core.Path.{_≡_};
 ghost use mathlib.Core.Bool.{true};
-ghost use Rattle.integers.specs.Words.{same};
+ghost use Rattle.integers.specs.Words.{equal};
 ghost use Rattle.plant.specs.Tables.{tableOk, pass};
 ghost use Rattle.plant.specs.Calls as C;
 ghost use Rattle.plant.specs.Calls.{Analysed, ceilingCall, certificateQuestions, tableQuestions, checkCall, answerTable, analysisQuestions, answered, analyseCall};
@@ -28,7 +28,7 @@ pub fn ceiling(model: &[i32]) -> Ceiling
 // Makes a pass of the table, into `after`, and tells whether it leaves the table as it is.
 fn fixpoint<'a>(model: &'a [i32], table: &'a [i32], after: &mut [i32]) -> bool
     requires { ⌜ Sized (now model) (now table) × (tableOk (now model) (now table) ≡ true) × Sized (now model) (now after) ⌝ }
-    ensures { λ r. ⌜ (r ≡ same (pass (now (model .entry)) (now (table .entry))) (now (table .entry))) × (now (after .exit) ≡ pass (now (model .entry)) (now (table .entry))) ⌝ }
+    ensures { λ r. ⌜ (r ≡ equal (pass (now (model .entry)) (now (table .entry))) (now (table .entry))) × (now (after .exit) ≡ pass (now (model .entry)) (now (table .entry))) ⌝ }
 {
     passes::pass(model, table, after);
     integers::equal(after, table)

@@ -6,7 +6,8 @@ use Prim.Native.Nat.{ℕ, _*_}
 use lib.IntN.{ℤ, pos}
 use lib.ListN.{take, drop}
 use Rattle.integers.specs.Words.{word, eqZ}
-use Rattle.integers.proofs.Counted.{eqZ-eq, true-is}
+use Rattle.integers.proofs.Tests.{true-is}
+use Rattle.integers.proofs.Counted.{eqZ-eq}
 use Rattle.plant.specs.Model.{n#, invariant, variableOf, sideOf, wall, faceWall}
 use Rattle.plant.specs.Questions.{insideOk, zerosOk}
 use Rattle.plant.specs.Tables.{faceSize, faceAt, onWall, absentOk, presentOk, faceOk}

@@ -10,8 +10,8 @@ use borrow.Author.Tests.{eqb-false}
 use lib.IntN.{ℤ}
 use lib.ListN.{getD, set, replicate, length-set, getD-replicate}
 use lib.Seq.{getD-set-same, getD-set-other}
-use Rattle.integers.proofs.Tests.{by-test}
-use Rattle.integers.proofs.Counted.{split, is-false}
+use Rattle.integers.proofs.Tests.{by-test, is-false}
+use Rattle.integers.proofs.Counted.{split}
 use Rattle.plant.specs.Model.{forbiddenLocation}
 use Rattle.checks.specs.Links.{lastBox, Linked}
 

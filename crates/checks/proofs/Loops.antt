@@ -5,7 +5,8 @@ use Prim.Native.Nat.{ℕ, zero, suc, _+_, _*_, _<_, _≤_}
 use native.Mathlib.Numerals.{add-one}
 use native.Mathlib.Omega.{arith}
 use Rattle.integers.specs.Counted.{allBelow, anyBelow, sumBelow}
-use Rattle.integers.proofs.Counted.{any-intro, is-true, true-is}
+use Rattle.integers.proofs.Tests.{is-true, true-is}
+use Rattle.integers.proofs.Counted.{any-intro}
 
 module _ (f : ℕ → Bool) where
   pub all-none : true ≡ allBelow 0 f

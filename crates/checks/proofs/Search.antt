@@ -9,8 +9,7 @@ use lib.Dec.{eqb, eqb→eq}
 use lib.IntN.{ℤ, pos}
 use Rattle.integers.specs.Words.{word, eqZ}
 use Rattle.integers.specs.Counted.{anyBelow}
-use Rattle.integers.proofs.Tests.{by-test}
-use Rattle.integers.proofs.Counted.{is-true, is-false}
+use Rattle.integers.proofs.Tests.{by-test, is-true, is-false}
 use Rattle.plant.specs.Box.{boxAt, Face, absent, present}
 use Rattle.plant.specs.Model.{n#, L#, B#, forbiddenLocation}
 use Rattle.plant.specs.Tables.{partOf, partTouches, touching}

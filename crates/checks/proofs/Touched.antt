@@ -5,7 +5,7 @@ use mathlib.Core.List.{List}
 use Prim.Native.Nat.{ℕ, _*_, _<_, _≤_}
 use borrow.Author.Tests.{eq-eqb}
 use lib.IntN.{ℤ}
-use Rattle.integers.proofs.Counted.{true-is}
+use Rattle.integers.proofs.Tests.{true-is}
 use Rattle.delays.specs.Ranges.{Levels, Rates}
 use Rattle.plant.specs.Box.{present}
 use Rattle.plant.specs.Model.{n#, L#, B#, invariant, rate, forbiddenLocation, forbiddenBox}

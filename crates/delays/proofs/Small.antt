@@ -17,7 +17,7 @@ use Rattle.plant.specs.declared.End.the-variants.{At, Endless}
 use Rattle.plant.specs.declared.Interval.{Interval}
 use Rattle.plant.specs.declared.Delays.{Delays}
 use Rattle.plant.specs.declared.Delays.the-variants.{Between, Never}
-use Rattle.plant.specs.Delays.{ratio, noDelay, earliestInto, isEndless, latestInto, delaysInto, leF, later, sooner, shared}
+use Rattle.plant.specs.Delays.{ratio, noDelay, earliestInto, isEndless, latestInto, delaysInto, leF, later, sooner, both}
 use Rattle.delays.specs.Ranges.{Level, Rate, Small, SmallEnd, SmallInterval}
 
 ratio-small : (x y d : ℤ) → Level x → Level y → Rate d → 0 < natAbs d → Small (ratio (x -ℤ y) d)
@@ -86,7 +86,7 @@ sooner-small Endless f s t = t
 sooner-small (At e) Endless s t = s
 sooner-small (At e) (At f) s t = by-test Small (leF e f) (λ _. s) (λ _. t)
 
-pub shared-small : {s t : Interval} → SmallInterval s → SmallInterval t → SmallInterval (shared s t)
+pub shared-small : {s t : Interval} → SmallInterval s → SmallInterval t → SmallInterval (both s t)
 shared-small {s} {t} h k =
     record {
       earliest-small = later-small (h .earliest-small) (k .earliest-small);

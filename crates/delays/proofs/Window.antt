@@ -12,13 +12,13 @@ use lib.IntN.{ℤ}
 use lib.Signed.{_≤ℤ_, ltZ}
 use Rattle.integers.specs.Rounding.{maxZ, minZ}
 use Rattle.integers.proofs.Parts.{arithZ}
-use Rattle.integers.proofs.Tests.{or-yes}
-use Rattle.integers.proofs.Counted.{split, is-true, is-false}
+use Rattle.integers.proofs.Tests.{or-yes, is-true, is-false}
+use Rattle.integers.proofs.Counted.{split}
 use Rattle.plant.specs.declared.Interval.{Interval}
 use Rattle.plant.specs.declared.Delays.{Delays}
 use Rattle.plant.specs.declared.Delays.the-variants.{Between, Never}
 use Rattle.plant.specs.Box.{low, high, ordered, cut}
-use Rattle.plant.specs.Delays.{noDelay, delaysInto, bothDelays, hasDelay, anyDelay, reachesEnd, shared}
+use Rattle.plant.specs.Delays.{noDelay, delaysInto, bothDelays, hasDelay, anyDelay, reachesEnd, both}
 use Rattle.plant.specs.Steps.{delaysIntoBox, touches}
 use Rattle.plant.proofs.Boxes.{low-cut, high-cut, ordered-yes, ordered-intro}
 use Rattle.delays.specs.Ranges.{Level, LevelAt, RateAt, SmallInterval}
@@ -30,7 +30,7 @@ unfolding bothDelays
 both-never Never t e = refl
 both-never (Between s) t e = ap (bothDelays (Between s)) e
 
-both-between : {s t : Delays} {w v : Interval} → s ≡ Between w → t ≡ Between v → bothDelays s t ≡ Between (shared w v)
+both-between : {s t : Delays} {w v : Interval} → s ≡ Between w → t ≡ Between v → bothDelays s t ≡ Between (both w v)
 unfolding bothDelays
 both-between e f = ap₂ bothDelays e f
 
@@ -105,7 +105,7 @@ module _ (n : ℕ) (inv rate part box : List ℤ) where
   cut-holds : (i : ℕ) → i < n → ltZ (highest inv box i) (lowest inv box i) ≡ false → low region i ≤ℤ high region i
   cut-holds i l u = rw (low-cut n box inv i l, high-cut n box inv i l) (not-less (highest inv box i) (lowest inv box i) u)
 
-  pub window-more : {w t : Interval} {i : ℕ} → Window w i → i < n → ltZ (highest inv box i) (lowest inv box i) ≡ false → delaysAt inv rate part box i ≡ Between t → SmallInterval t → Window (shared w t) (i + 1)
+  pub window-more : {w t : Interval} {i : ℕ} → Window w i → i < n → ltZ (highest inv box i) (lowest inv box i) ≡ false → delaysAt inv rate part box i ≡ Between t → SmallInterval t → Window (both w t) (i + 1)
   window-more {w} {t} {i} h l u e k =
       record {
         seen = omega arith;

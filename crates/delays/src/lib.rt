@@ -5,7 +5,7 @@ ghost use lib.IntN.{_-ℤ_};
 ghost use Rattle.integers.specs.Rounding.{maxZ, minZ};
 ghost use Rattle.plant.specs.Box.{low, high};
 ghost use Rattle.plant.specs.Delays as D;
-ghost use Rattle.plant.specs.Delays.{ratio, noDelay, isEndless, earliestInto, latestInto, delaysInto, delaysTo, leF, shared, reachesEnd};
+ghost use Rattle.plant.specs.Delays.{ratio, noDelay, isEndless, earliestInto, latestInto, delaysInto, delaysTo, leF, both, reachesEnd};
 ghost use Rattle.plant.specs.Steps as Steps;
 ghost use Rattle.delays.specs.Ranges.{Level, Rate, LevelAt, RateAt, Levels, Rates, Small, SmallEnd, SmallInterval};
 use plant::Delays;
@@ -147,7 +147,7 @@ fn sooner(s: End, t: End) -> End
 // The delays that two intervals share.
 fn both(s: Interval, t: Interval) -> Interval
     requires { ⌜ SmallInterval s × SmallInterval t ⌝ }
-    ensures { λ r. ⌜ r ≡ shared s t ⌝ }
+    ensures { λ r. ⌜ r ≡ both s t ⌝ }
 {
     let e = s.earliest;
     let f = t.earliest;

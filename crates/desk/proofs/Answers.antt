@@ -11,8 +11,8 @@ use borrow.Author.Tests.{le-leb, lt-leb}
 use lib.Dec.{T, leb, le→leb}
 use lib.IntN.{ℤ}
 use lib.ListN.{length}
-use Rattle.integers.proofs.Counted.{is-true}
-use Rattle.plant.specs.Ask.{ask, orElse, _then_}
+use Rattle.integers.proofs.Tests.{is-true}
+use Rattle.plant.specs.Ask.{ask, _then_}
 use Rattle.plant.specs.Tables.{tableSize}
 use Rattle.plant.specs.declared.Answer.the-variants.{Refused}
 use Rattle.plant.specs.Questions.{modelQuestions}
@@ -37,7 +37,7 @@ questions-le d m limit table work =
 
 module _ (d : Desk) (m : List ℤ) (limit : ℕ) (table work : List ℤ) where
   same-by : (q : ℕ) (room : Bool) → T room → deskBy (q then ask room 22) d m limit table work .analysed ≡ analyseBy q m limit table work
-  unfolding orElse
+  unfolding _then_
   same-by zero true h = refl
   same-by (suc q) true h = refl
   same-by q false h = absurd h

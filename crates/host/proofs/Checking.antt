@@ -7,8 +7,8 @@ use native.Mathlib.Omega.{arith}
 use lib.IntN.{ℤ}
 use lib.ListN.{length, take}
 use Rattle.integers.specs.Words.{onto}
-use Rattle.integers.proofs.Counted.{is-true}
-use Rattle.plant.specs.Ask.{orElse, _then_}
+use Rattle.integers.proofs.Tests.{is-true}
+use Rattle.plant.specs.Ask.{_then_}
 use Rattle.plant.specs.Questions.{modelQuestions}
 use Rattle.plant.specs.Tables.{tableSize, tableOk}
 use Rattle.plant.specs.declared.Count.the-variants.{Done, Refused}
@@ -64,12 +64,12 @@ module _ (m : List ℤ) (asks : modelQuestions m ≡ 0) (t : List ℕ) where
 -- ---- the numbers
 
 refused-code : (k rest : ℕ) → (k ≡ 0 → ⊥) → k ≡ checkBy (k then rest) .code
-unfolding orElse
+unfolding _then_
 refused-code zero rest n = absurd (n refl)
 refused-code (suc k) rest n = refl
 
 past-yes : (k rest : ℕ) → k ≡ 0 → (k then rest) ≡ rest
-unfolding orElse
+unfolding _then_
 past-yes k rest z = rw z refl
 
 module _ (m : List ℤ) (t : List ℕ) where

@@ -8,7 +8,7 @@ use lib.IntN.{ℤ, pos}
 use lib.ListN.{length, take, replicate, length-replicate}
 use Rattle.integers.specs.Words.{onto}
 use Rattle.plant.specs.declared.Answer.{Answer}
-use Rattle.plant.specs.Ask.{orElse, _then_}
+use Rattle.plant.specs.Ask.{_then_}
 use Rattle.plant.specs.Questions.{modelQuestions}
 use Rattle.plant.specs.Tables.{tableSize, longestTableFile}
 use Rattle.plant.specs.Calls.{refused, answerReply, Analysed, replyOf, analysis, answerTable, answered, passesOf, bytesQuestion}
@@ -68,7 +68,7 @@ module _ (m : List ℤ) (file : List ℕ) (limit : ℕ) where
 
 module _ (s file : List ℕ) (limit : ℕ) where
   refuses : (k rest : ℕ) → (k ≡ 0 → ⊥) → _≡_ {A = Decided} (record { number = packed (refused k); file = file }) (decideBy (k then rest) (modelOf s) file limit)
-  unfolding orElse
+  unfolding _then_
   refuses zero rest n = absurd (n refl)
   refuses (suc k) rest n = refl
 
@@ -78,5 +78,5 @@ module _ (s file : List ℕ) (limit : ℕ) where
   decide-refused p e n = rw (p, e) (refuses (modelFileQuestions s) (bytesQuestion (modelOf s) (length file)) n)
 
   pub decide-words : {d : Decided} {m : List ℤ} → modelFileQuestions s ≡ 0 → m ≡ modelOf s → d ≡ decideBy (bytesQuestion m (length file)) m file limit → d ≡ decideCall s file limit
-  unfolding decideCall orElse
+  unfolding decideCall _then_
   decide-words {d} {m} z w e = rw z (rw w at e)

@@ -11,7 +11,7 @@ use lib.ListN.{length, take, replicate, length-replicate}
 use lib.Seq.{length-take-le}
 use Rattle.integers.specs.Words.{AreWords, AreBytes, onto}
 use Rattle.integers.proofs.Buffers.{take-onto}
-use Rattle.plant.specs.Ask.{orElse, _then_}
+use Rattle.plant.specs.Ask.{_then_}
 use Rattle.plant.specs.Model.{n#, L#, E#, B#, headSize, modelSize}
 use Rattle.plant.specs.Questions.{rangesQuestions, recordsQuestions, modelQuestions}
 use Rattle.plant.specs.declared.Count.{Count}
@@ -63,18 +63,18 @@ most-bytes h there e = let a = head-passed h there e in rw (file-end h) (few (mo
 
 -- a question after a that is yes wherever a is may be left out
 left-out : (a five y : ℕ) → (a ≡ 0 → five ≡ 0) → ((a then five) then y) ≡ (a then y)
-unfolding orElse
+unfolding _then_
 left-out zero five y h = ap (λ (x : ℕ). x then y) (h refl)
 left-out (suc a) five y h = refl
 
 -- the answer to both chains is that to the two as one
 one-chain : (x y : ℕ) (u v : List ℤ) (next : ReadOutcome) → unlessRefused x u (unlessRefused y v next) .count ≡ unlessRefused (x then y) v next .count
-unfolding orElse unlessRefused
+unfolding _then_ unlessRefused
 one-chain zero y u v next = refl
 one-chain (suc x) y u v next = refl
 
 both-yes : (x y : ℕ) (u v : List ℤ) (next : ReadOutcome) → (x then y) ≡ 0 → unlessRefused x u (unlessRefused y v next) ≡ next
-unfolding orElse unlessRefused
+unfolding _then_ unlessRefused
 both-yes zero zero u v next e = refl
 both-yes zero (suc y) u v next e = absurd (omega arith)
 both-yes (suc x) y u v next e = absurd (omega arith)

@@ -6,6 +6,7 @@ ghost use lib.ListN.{length};
 ghost use lib.Signed.{leZ};
 ghost use Rattle.integers.specs.Words as W;
 ghost use Rattle.plant.specs.Ask as S;
+ghost use Rattle.plant.specs.Ask.{_then_};
 ghost use Rattle.plant.specs.Model as M;
 ghost use Rattle.plant.specs.Questions as Q;
 ghost use Rattle.records.specs.Whole.{Whole, Numbered, Placed};
@@ -25,7 +26,7 @@ pub fn ask(yes: bool, k: u32) -> u32
 
 // The first answer that is not yes.
 pub fn or_else(a: u32, b: u32) -> u32
-    ensures { λ r. ⌜ r ≡ S.orElse a b ⌝ }
+    ensures { λ r. ⌜ r ≡ (a then b) ⌝ }
 {
     if a == 0 { b } else { a }
 }

@@ -8,7 +8,7 @@ use Rattle.integers.specs.Counted.{cat, allBelow}
 use Rattle.wire.specs.Bytes.{bitsAt, wordAt, wordsAt, wordBytes, wordsBytes}
 use Rattle.wire.specs.Fields.{fieldAt, field}
 use Rattle.plant.specs.declared.Count.the-variants.{Done, Refused}
-use Rattle.plant.specs.Ask.{orElse, first}
+use Rattle.plant.specs.Ask.{_then_, first}
 use Rattle.plant.specs.Box.{low, high, boxBy, boxAt}
 use Rattle.plant.specs.Model.{locationAt, invariant, rate, startFlag, startBox, switchAt, forbiddenAt, forbiddenLocation, forbiddenBox, modelSize}
 use Rattle.plant.specs.Questions.{boxOk, insideOk, zerosOk, startOk, locationQuestions, forbiddenQuestion, rangesQuestions, recordsQuestions}
@@ -26,7 +26,7 @@ record Read : Type 0 where
   no-byte : readModelCall [] (replicate 22 (pos 7)) ≡ record { count = Refused 1; words = replicate 22 (pos 7) }
 
 read : Read
-unfolding onto cat allBelow bitsAt wordAt wordsAt wordBytes wordsBytes fieldAt field orElse first low high boxBy boxAt locationAt invariant rate startFlag startBox switchAt forbiddenAt forbiddenLocation forbiddenBox modelSize boxOk insideOk zerosOk startOk locationQuestions forbiddenQuestion rangesQuestions recordsQuestions plantP P modelFile runQuestions headWords headQuestions bodyQuestions runWords fileWords recordsFileQuestions unlessRefused readModelCall
+unfolding onto cat allBelow bitsAt wordAt wordsAt wordBytes wordsBytes fieldAt field _then_ first low high boxBy boxAt locationAt invariant rate startFlag startBox switchAt forbiddenAt forbiddenLocation forbiddenBox modelSize boxOk insideOk zerosOk startOk locationQuestions forbiddenQuestion rangesQuestions recordsQuestions plantP P modelFile runQuestions headWords headQuestions bodyQuestions runWords fileWords recordsFileQuestions unlessRefused readModelCall
 read = record {
   file-length = refl;
   reads = refl;

@@ -13,7 +13,7 @@ use Rattle.wire.specs.Bytes.{wordsAt}
 use Rattle.wire.specs.Fields.{payloadLength, fieldPlace, fieldAt, isField}
 use Rattle.wire.proofs.Words.{length-words}
 use Rattle.wire.proofs.Fields.{Due, due, place-small}
-use Rattle.plant.specs.Ask.{ask, orElse, _then_}
+use Rattle.plant.specs.Ask.{ask, _then_}
 use Rattle.wire.specs.declared.Field.{Field}
 use Rattle.plant.specs.Model.{n#, L#, E#, B#, locationSize, switchSize, forbiddenSize, locationAt, switchAt, forbiddenAt, modelSize}
 use Rattle.plant.specs.Questions.{rangesQuestions}
@@ -191,7 +191,7 @@ head-filled s h d x e f = f ∙ ap (λ (r : List ℤ). onto r d) (run-one s 0 4 
 
 -- questions in a row are asked in their order, however they are taken together
 pub then-assoc : (a b c : ℕ) → ((a then b) then c) ≡ (a then (b then c))
-unfolding orElse
+unfolding _then_
 then-assoc zero b c = refl
 then-assoc (suc a) b c = refl
 

@@ -9,7 +9,8 @@ use lib.IntN.{ℤ, pos}
 use lib.ListN.{length, take}
 use lib.Seq.{length-take-le}
 use Rattle.integers.specs.Words.{word, eqZ}
-use Rattle.integers.proofs.Counted.{eqZ-eq, true-is}
+use Rattle.integers.proofs.Tests.{true-is}
+use Rattle.integers.proofs.Counted.{eqZ-eq}
 use Rattle.integers.proofs.Buffers.{cat-ext}
 use Rattle.plant.specs.Box.{boxAt, Face, absent, present, faceWords, join}
 use Rattle.plant.specs.Steps.{wallStep, switchStep}

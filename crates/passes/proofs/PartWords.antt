@@ -12,8 +12,8 @@ use lib.IntN.{ℤ, pos}
 use lib.ListN.{length, take, drop, length-drop}
 use lib.Seq.{getD-take, getD-drop, drop-drop, take-take, length-take-le}
 use Rattle.integers.specs.Words.{word, eqZ}
-use Rattle.integers.proofs.Tests.{by-test}
-use Rattle.integers.proofs.Counted.{eqZ-eq, eqZ-intro, is-true, split}
+use Rattle.integers.proofs.Tests.{by-test, is-true}
+use Rattle.integers.proofs.Counted.{eqZ-eq, eqZ-intro, split}
 use Rattle.delays.specs.Ranges.{Level, Levels, Rates}
 use Rattle.plant.specs.Box.{low, high, boxAt, Face, absent, present}
 use Rattle.plant.specs.Model.{n#, L#, locationAt, invariant, rate, startFlag, startBox}

@@ -10,7 +10,8 @@ use lib.IntN.{ℤ}
 use lib.ListN.{length, take, drop}
 use Rattle.integers.specs.Words.{word}
 use Rattle.integers.specs.Counted.{cat, allBelow}
-use Rattle.integers.proofs.Counted.{all-yes, true-is}
+use Rattle.integers.proofs.Tests.{true-is}
+use Rattle.integers.proofs.Counted.{all-yes}
 use Rattle.integers.proofs.Buffers.{cat-parts, cat-ext}
 use Rattle.plant.specs.Box.{Face, faceWords, join, joins}
 use Rattle.plant.specs.Model.{n#, L#, E#, invariant, rate, source, target, resetMask, guard, reset, variableOf, sideOf, faceWall}

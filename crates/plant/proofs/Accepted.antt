@@ -9,7 +9,7 @@ use lib.Dec.{T, T-not, not-T, leb, le→leb}
 use lib.IntN.{ℤ}
 use lib.ListN.{length, take}
 use Rattle.integers.specs.Words.{onto}
-use Rattle.integers.proofs.Counted.{same-eq, same-intro}
+use Rattle.integers.proofs.Counted.{equal-eq, equal-intro}
 use Rattle.plant.specs.Ask.{ask}
 use Rattle.plant.specs.Box.{Face, FaceIn}
 use Rattle.plant.specs.Model.{n#, L#}
@@ -66,7 +66,7 @@ module _ (m : List ℤ) (asks : modelQuestions m ≡ 0) where
   closed-of t h = record {
     closed = λ l f u v.
         face-trans (n# m) (newFace m t l f) (ends (n# m) (newFace m t l f)) (faceOf m t l f) (in-ends (n# m) (newFace m t l f))
-        (face-eq (n# m) (sym (face-read m (filled m ok) t (newFace m t) (sym (same-eq (pass m t) (take (tableSize m) t) h)) l f u v)));
+        (face-eq (n# m) (sym (face-read m (filled m ok) t (newFace m t) (sym (equal-eq (pass m t) (take (tableSize m) t) h)) l f u v)));
   }
 
   pub accepted : (t : List ℤ) → Accepts m t → Accepted m t
@@ -119,7 +119,7 @@ module _ (m : List ℤ) (asks : modelQuestions m ≡ 0) where
       (then-intro asks
       (then-intro (ask-intro (leb (tableSize m) (length t)) 20 (le→leb (tableSize m) (length t) (long-enough m (filled m ok) t (facesAfter m k) begins)))
       (then-intro (ask-intro (tableOk m t) 32 (made-ok m (filled m ok) t (facesAfter m k) begins (faces-ok m ok k)))
-      (then-intro (ask-intro (unchanged m t) 33 (same-intro same-words)) (ask-intro (not (touching m t)) 34 (not-T (touching m t) clears))))))
+      (then-intro (ask-intro (unchanged m t) 33 (equal-intro same-words)) (ask-intro (not (touching m t)) 34 (not-T (touching m t) clears))))))
     where
       t : List ℤ
       t = onto (tableAfter m k) s

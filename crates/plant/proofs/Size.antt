@@ -10,8 +10,8 @@ use lib.IntN.{ℤ, pos, negsuc, natAbs, _-ℤ_}
 use lib.Signed.{_≤ℤ_}
 use Rattle.integers.specs.Counted.{sumBelow}
 use Rattle.integers.proofs.Parts.{arithZ, #_, _⊟_}
-use Rattle.integers.proofs.Tests.{by-test₂}
-use Rattle.integers.proofs.Counted.{sum-le, sum-back, is-false}
+use Rattle.integers.proofs.Tests.{by-test₂, is-false}
+use Rattle.integers.proofs.Counted.{sum-le, sum-back}
 use Rattle.plant.specs.Box.{low, high, Ordered, Inside, Face, absent, present, faceWords, FaceIn}
 use Rattle.plant.specs.Model.{n#, L#, invariant, variableOf}
 use Rattle.plant.specs.Tables.{faceOf, newFace, pass, tableAfter, widths, ceilingOf}

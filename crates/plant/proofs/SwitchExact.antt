@@ -8,8 +8,7 @@ use lib.IntN.{ℤ, pos, _*ℤ_}
 use lib.Signed.{_≤ℤ_, ≤ℤ-refl}
 use Rattle.integers.specs.Words.{word}
 use Rattle.integers.proofs.Order.{antisym, mul-monoℕ}
-use Rattle.integers.proofs.Tests.{by-test}
-use Rattle.integers.proofs.Counted.{is-false}
+use Rattle.integers.proofs.Tests.{by-test, is-false}
 use Rattle.plant.specs.Box.{low, high, ordered, Ordered, cut, Face, absent, present, unlessEmpty, onBox}
 use Rattle.plant.specs.Model.{n#, E#, invariant, target, resetMask, masked, guard, reset}
 use Rattle.plant.specs.Runs.{InBox}

@@ -13,8 +13,7 @@ use Rattle.integers.proofs.Parts.{⁺, ⁻, arithZ, #_, _⊕_, _⊟_, _⊙_, _�
 use Rattle.integers.proofs.Order.{antisym, mul-monoℕ, cancelℕ}
 use Rattle.integers.proofs.Extremes.{max-left, max-right, max-least}
 use Rattle.integers.proofs.Rounding.{floor-le, floor-max, ceil-ge, ceil-min}
-use Rattle.integers.proofs.Tests.{by-test, by-test₂}
-use Rattle.integers.proofs.Counted.{is-true}
+use Rattle.integers.proofs.Tests.{by-test, by-test₂, is-true}
 use Rattle.plant.specs.declared.Fraction.{Fraction}
 use Rattle.plant.specs.declared.Interval.{Interval}
 use Rattle.plant.specs.declared.Delays.{Delays}

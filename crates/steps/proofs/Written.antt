@@ -11,7 +11,8 @@ use lib.Signed.{ltZ, leZ}
 use lib.ListN.{length, set}
 use Rattle.integers.specs.Words.{onto}
 use Rattle.integers.specs.Counted.{allBelow}
-use Rattle.integers.proofs.Counted.{all-yes, is-true, true-is, all-ext}
+use Rattle.integers.proofs.Tests.{is-true, true-is}
+use Rattle.integers.proofs.Counted.{all-yes, all-ext}
 use Rattle.integers.proofs.Buffers.{onto-none, onto-two, cat-none, cat-more}
 use Rattle.plant.specs.Box.{low, high, boxBy, ordered}
 use Rattle.plant.proofs.Boxes.{low-boxBy, high-boxBy, length-boxBy}

@@ -8,7 +8,7 @@ use Rattle.integers.specs.Counted.{cat, allBelow, sumBelow}
 use Rattle.wire.specs.Bytes.{bitsAt, wordAt, wordsAt, wordBytes, wordsBytes}
 use Rattle.wire.specs.Fields.{fieldAt, field}
 use Rattle.plant.specs.declared.Count.the-variants.{Done, Refused}
-use Rattle.plant.specs.Ask.{orElse, first}
+use Rattle.plant.specs.Ask.{_then_, first}
 use Rattle.plant.specs.Box.{low, high, boxBy, boxAt, ordered, faceWords}
 use Rattle.plant.specs.Model.{locationAt, invariant, rate, startFlag, startBox, switchAt, forbiddenAt, forbiddenLocation, forbiddenBox, modelSize, wall, faceWall}
 use Rattle.plant.specs.Questions.{boxOk, insideOk, zerosOk, startOk, locationQuestions, forbiddenQuestion, rangesQuestions, recordsQuestions, modelQuestions}
@@ -26,7 +26,7 @@ record Table : Type 0 where
   writes : writeTableCall P (tableP 2) (replicate 115 9) .count ≡ Done 61
 
 table : Table
-unfolding onto cat allBelow sumBelow bitsAt wordAt wordsAt wordBytes wordsBytes fieldAt field orElse first low high boxBy boxAt ordered faceWords locationAt invariant rate startFlag startBox switchAt forbiddenAt forbiddenLocation forbiddenBox modelSize wall faceWall boxOk insideOk zerosOk startOk locationQuestions forbiddenQuestion rangesQuestions recordsQuestions modelQuestions wordsPerLocation tableSize faceAt tableBy faceRead faceOf onWall absentOk presentOk faceOk tableOk plantP P tableP unlessRefused presentFaces faceFields tableFile countWord countQuestion faceFieldWords placeOk faceQuestion fileFace fileTable fieldsQuestions tableFileQuestions roomQuestions readTableCall longestTableFile writeQuestions writeTableCall
+unfolding onto cat allBelow sumBelow bitsAt wordAt wordsAt wordBytes wordsBytes fieldAt field _then_ first low high boxBy boxAt ordered faceWords locationAt invariant rate startFlag startBox switchAt forbiddenAt forbiddenLocation forbiddenBox modelSize wall faceWall boxOk insideOk zerosOk startOk locationQuestions forbiddenQuestion rangesQuestions recordsQuestions modelQuestions wordsPerLocation tableSize faceAt tableBy faceRead faceOf onWall absentOk presentOk faceOk tableOk plantP P tableP unlessRefused presentFaces faceFields tableFile countWord countQuestion faceFieldWords placeOk faceQuestion fileFace fileTable fieldsQuestions tableFileQuestions roomQuestions readTableCall longestTableFile writeQuestions writeTableCall
 table = record {
   file-length = refl;
   reads = refl;

@@ -19,8 +19,8 @@ use mir.Facts.{sfits-lit}
 use Rattle.integers.specs.Words.{word, num, AreWords, AreBytes, within, onto}
 use Rattle.integers.proofs.Parts.{arithZ}
 use Rattle.integers.proofs.Order.{trans}
-use Rattle.integers.proofs.Tests.{and-intro}
-use Rattle.integers.proofs.Counted.{split, is-true}
+use Rattle.integers.proofs.Tests.{and-intro, is-true}
+use Rattle.integers.proofs.Counted.{split}
 use Rattle.integers.specs.Counted.{cat}
 use Rattle.integers.proofs.Every.{every-append, every-cat}
 use Rattle.integers.proofs.Buffers.{cat-ext, take-onto}

@@ -18,15 +18,15 @@ use mir.Syntax.{w32, w64}
 use mir.Val.{toZ, ofZ}
 use mir.Facts.{toZ-ofZ}
 use Rattle.integers.specs.Words.{word, num, within, onto}
-use Rattle.integers.proofs.Tests.{and-yes}
-use Rattle.integers.proofs.Counted.{within-abs, is-true, true-is}
+use Rattle.integers.proofs.Tests.{and-yes, is-true, true-is}
+use Rattle.integers.proofs.Counted.{within-abs}
 use Rattle.integers.proofs.Signed.{got32, widened, as-signed}
 use Rattle.integers.proofs.Buffers.{onto-all}
 use Rattle.wire.specs.Bytes.{wordAt, wordsAt}
 use Rattle.wire.specs.Fields.{headerSize, payloadLength, fieldAt, isField}
 use Rattle.wire.proofs.Words.{length-words, words-nth}
 use Rattle.wire.proofs.Fields.{field-lies, due, whole-is}
-use Rattle.plant.specs.Ask.{ask, orElse, _then_, first}
+use Rattle.plant.specs.Ask.{ask, _then_, first}
 use Rattle.plant.specs.Box.{boxAt, present, faceWords}
 use Rattle.plant.specs.Model.{n#, L#}
 use Rattle.plant.specs.Tables.{faceSize, tableSize, faceAt, tableBy, tableOk}
@@ -74,14 +74,14 @@ number-is {r = r} {most = most} e ok er few =
 
 module _ (m : List ℤ) (s : List ℕ) where
   pub count-refused : isField (fieldAt s 0) 6 4 ≡ false → 35 ≡ countQuestion m s
-  unfolding countQuestion orElse
+  unfolding countQuestion _then_
   count-refused e = rw e refl
 
   pub head-there : isField (fieldAt s 0) 6 4 ≡ true → 7 ≤ length s
   head-there e = due s 0 6 4 (true-is e) .there
 
   pub count-asked : {b : Bool} {r : ℕ} → isField (fieldAt s 0) 6 4 ≡ true → within (pos 0) (pos (2 * n# m * L# m)) (wordAt s 3) ≡ b → r ≡ ask b 35 → r ≡ countQuestion m s
-  unfolding countQuestion countWord orElse
+  unfolding countQuestion countWord _then_
   count-asked e f er = rw (e, f) er
 
   module _ (start least : ℕ) where
@@ -118,7 +118,7 @@ module _ (m : List ℤ) (s : List ℕ) where
     len = payloadLength (faceFieldSize (n# m))
 
     pub face-refused : isField (fieldAt s at) 5 len ≡ false → 36 ≡ faceQuestion m s at least
-    unfolding faceQuestion orElse
+    unfolding faceQuestion _then_
     face-refused e = rw e refl
 
     module _ (whole : T (isField (fieldAt s at) 5 len)) {start : ℕ} (es : start ≡ at + headerSize) where
@@ -126,7 +126,7 @@ module _ (m : List ℤ) (s : List ℕ) where
       field-there = omega (arith, due s at 5 len whole .there)
 
       pub face-answered : {b : Bool} → b ≡ placeOk m (wordsAt s start (faceFieldSize (n# m))) least → faceQuestion m s at least ≡ ask b 37
-      unfolding faceQuestion orElse
+      unfolding faceQuestion _then_
       face-answered {b} e =
           let w : isField (fieldAt s at) 5 len ≡ true = is-true whole in
           rw (w, ← es) (ap (λ (x : Bool). ask x 37) (sym e))
@@ -216,7 +216,7 @@ module _ (m : List ℤ) (s : List ℕ) (h : Head m) (e : countQuestion m s ≡ 0
   counted-few ec = omega (arith, ec, within-abs (countWord s) (2 * n# m * L# m) (count-yes m s (h .n-positive) (h .L-positive) e .1), keys-few m h)
 
 pub fields-made : (m : List ℤ) (s : List ℕ) {c q r e r38 : ℕ} → c ≡ count# s → r ≡ first c (faceQuestions m s) → e ≡ facePlace (n# m) c → r38 ≡ ask (eqb (length s) e) 38
-    → q ≡ orElse r r38 → q ≡ (first (count# s) (faceQuestions m s) then ask (eqb (length s) (facePlace (n# m) (count# s))) 38)
+    → q ≡ (r then r38) → q ≡ (first (count# s) (faceQuestions m s) then ask (eqb (length s) (facePlace (n# m) (count# s))) 38)
 fields-made m s ec er ee e38 eq =
     both eq (er ∙ ap (λ (k : ℕ). first k (faceQuestions m s)) ec) (e38 ∙ ap (λ (k : ℕ). ask (eqb (length s) k) 38) (ee ∙ ap (facePlace (n# m)) ec))
 

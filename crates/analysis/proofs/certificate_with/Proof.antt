@@ -4,7 +4,7 @@ use mathlib.Core.Bool.{true}
 use native.Mathlib.Omega.{arith}
 use borrow.Author.Needs.{needs}
 use borrow.Author.Tests.{not-true, not-false}
-use Rattle.integers.specs.Words.{same}
+use Rattle.integers.specs.Words.{equal}
 use Rattle.plant.specs.Tables.{pass}
 use Rattle.analysis.proofs.Calls.{changes, touches, certified}
 use Rattle.analysis.proofs.certificate_with.Statement.{statement}
@@ -26,7 +26,7 @@ same-length-2 : tie.Need-same-length-2
 same-length-2 c = search needs
 
 -- after 33: a pass leaves the table as it is
-fixed : (c : tie.Else1) → same (pass (c .before .before .before .before .args .model .now) (c .before .before .before .before .args .table .now)) (c .before .before .before .before .args .table .now) ≡ true
+fixed : (c : tie.Else1) → equal (pass (c .before .before .before .before .args .model .now) (c .before .before .before .before .args .table .now)) (c .before .before .before .before .args .table .now) ≡ true
 fixed c = sym (c .before .before .fixpoint .ensures .0) ∙ not-false _ (c .if1 .left)
 
 returns-2 : tie.Need-returns-2

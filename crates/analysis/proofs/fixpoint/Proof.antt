@@ -4,7 +4,7 @@ use mathlib.Core.List.{List}
 use native.Mathlib.Omega.{arith}
 use borrow.Author.Needs.{needs}
 use lib.IntN.{ℤ}
-use Rattle.integers.specs.Words.{same}
+use Rattle.integers.specs.Words.{equal}
 use Rattle.analysis.proofs.fixpoint.Statement.{statement}
 use Rattle.analysis.proofs.fixpoint.Tie as tie
 
@@ -20,7 +20,7 @@ same-length : tie.Need-same-length
 same-length c = search needs
 
 returns : tie.Need-returns
-returns c = (c .equal .ensures ∙ ap (λ (w : List ℤ). same w (c .before .before .before .before .before .args .table .now)) (c .before .before .before .pass .ensures), c .before .before .before .pass .ensures)
+returns c = (c .equal .ensures ∙ ap (λ (w : List ℤ). equal w (c .before .before .before .before .before .args .table .now)) (c .before .before .before .pass .ensures), c .before .before .before .pass .ensures)
 
 pub fixpoint-spec : {M : Type 1} → statement M
 fixpoint-spec = tie.close (tie.spec pass-requires equal-requires same-length returns)

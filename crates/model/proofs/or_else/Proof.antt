@@ -1,12 +1,12 @@
 -- A first answer that is not yes ends the chain.
 use mathlib.Core.Path.{refl}
-use Rattle.plant.specs.Ask.{orElse}
+use Rattle.plant.specs.Ask.{_then_}
 use Rattle.plant.proofs.Asks.{halt}
 use Rattle.model.proofs.or_else.Statement.{statement}
 use Rattle.model.proofs.or_else.Tie as tie
 
 returns : tie.Need-returns
-unfolding orElse
+unfolding _then_
 returns c = rw (c .if1 .taken)
 
 returns-2 : tie.Need-returns-2

@@ -3,7 +3,8 @@ use mathlib.Core.Path.{sym, _∙_}
 use lib.IntN.{pos}
 use Rattle.integers.specs.Words.{word}
 use Rattle.integers.proofs.Signed.{got32}
-use Rattle.integers.proofs.Counted.{eqZ-eq, true-is}
+use Rattle.integers.proofs.Tests.{true-is}
+use Rattle.integers.proofs.Counted.{eqZ-eq}
 use Rattle.tables.proofs.Faces.{join-placed, join-widened}
 use borrow.Author.Needs.{needs}
 use Rattle.tables.proofs.join.Statement.{statement}

@@ -6,7 +6,7 @@ use native.Mathlib.Omega.{arith}
 use borrow.Author.Tests.{not-true, not-false}
 use borrow.Author.Needs.{needs}
 use lib.Dec.{T}
-use Rattle.integers.proofs.Counted.{true-is}
+use Rattle.integers.proofs.Tests.{true-is}
 use Rattle.wire.specs.Fields.{headerSize, payloadLength, fieldAt, isField}
 use Rattle.wire.specs.declared.Field.{Field}
 use Rattle.wire.proofs.Fields.{due-given, due-whole}
