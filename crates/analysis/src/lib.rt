@@ -1,4 +1,6 @@
-// The ceiling, the checker and the analysis of a model's words (document 01, "Checker" and "Analysis").
+// The ceiling, the checker and the analysis of a model's words (document 01, "Checker" and "Analysis"). Outsiders call ceiling,
+// check and analyse; questions, certificate_questions and analyse_passed serve the desk and the host, which ask for themselves
+// what these ask of their callers.
 ghost use mathlib.Core.Path.{_≡_};
 ghost use mathlib.Core.Bool.{true};
 ghost use Rattle.integers.specs.Words.{equal};

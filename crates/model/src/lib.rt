@@ -1,4 +1,4 @@
-// The questions of a model's words, 2 to 5 and 11 to 19.
+// The questions of a model's words, 2 to 5 and 11 to 19. These functions serve the crates above and are no calls of outsiders.
 ghost use mathlib.Core.Path.{_≡_};
 ghost use mathlib.Core.Bool.{_&&_};
 ghost use Prim.Native.Nat.{_+_, _*_, _≤_, _<_};

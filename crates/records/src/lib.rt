@@ -1,4 +1,5 @@
-// Reading a model's words: its numbers of variables, locations, switches and forbidden boxes, where the records stand, and what they hold.
+// Reading a model's words: its numbers of variables, locations, switches and forbidden boxes, where the records stand, and what they
+// hold. These functions serve the crates above and are no calls of outsiders: what they are lent has passed its questions so far.
 ghost use mathlib.Core.Path.{_≡_};
 ghost use Prim.Native.Nat.{_+_, _*_, _≤_, _<_};
 ghost use lib.Dec.{T};
