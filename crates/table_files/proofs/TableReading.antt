@@ -35,7 +35,7 @@ use Rattle.plant.specs.Calls.{ReadOutcome, zeroed}
 use Rattle.plant.proofs.Asks.{ask-yes, asked, or-left, go, halt, both}
 use Rattle.plant.proofs.Boxes.{length-boxAt, box-ends}
 use Rattle.plant.proofs.Passed.{within-nonneg}
-use Rattle.plant.proofs.Tables.{table-length}
+use Rattle.plant.proofs.Tables.{face-inside, table-length}
 use Rattle.plant.proofs.Reading.{refused-at, past}
 use Rattle.records.specs.Whole.{Head}
 use Rattle.records.proofs.Positions.{row-within}
@@ -192,13 +192,15 @@ module _ (m : List ℤ) (h : Head m) (s : List ℕ) (y : FieldsYes m s) where
             n-small = omega (arith, en, h .n-small);
           }
 
-      -- the words of its face lie in the table
-      pub key-inside : {n k : ℕ} → n ≡ n# m → k ≡ faceKey n (wordsAt s start (faceFieldSize n)) → k * faceSize n + faceSize n ≤ tableSize m
-      key-inside {n} {k} en ek =
-          let p : PlaceYes m s i = place-yes-at in
-          let ek′ : k ≡ faceKey (n# m) (fieldWords m s i) = ek ∙ ap (λ (a : ℕ). faceKey a (wordsAt s start (faceFieldSize a))) en ∙ ap (faceKey (n# m)) words-are in
-          let u : k < keys m = omega (arith, ek′, mul-le-mul-right (2 * n# m) (p .location-below), p .face-below) in
-          rw en (omega (arith, row-within (faceSize (n# m)) u, size-is m h))
+      -- its location l and face number f, and where the words of the face stand in the table
+      module _ {l f to : ℕ} (el : l ≡ natAbs (locationWord s start)) (ef : f ≡ natAbs (faceWord s start)) (et : to ≡ faceAt m l f) where
+        pub place-is : to ≡ faceAt m (num (fieldWords m s i) 0) (num (fieldWords m s i) 1)
+        place-is =
+            et ∙ ap₂ (faceAt m) (el ∙ ap natAbs (sym (location-at (n# m) s start)) ∙ ap (λ (w : List ℤ). num w 0) words-are)
+            (ef ∙ ap natAbs (sym (face-at (n# m) s start)) ∙ ap (λ (w : List ℤ). num w 1) words-are)
+
+        pub place-inside : to + faceSize (n# m) ≤ tableSize m
+        place-inside = let p : PlaceYes m s i = place-yes-at in omega (arith, place-is, face-inside m (full m h) _ _ (p .location-below) (p .face-below))
 
 pub asked-count : (m : List ℤ) (s : List ℕ) → fieldsQuestions m s ≡ 0 → countQuestion m s ≡ 0
 unfolding fieldsQuestions
@@ -264,11 +266,9 @@ module _ (m : List ℤ) (h : Head m) (s : List ℕ) where
   -- one face more
   pub table-more : (i start : ℕ) (x : List ℤ) → start ≡ facePlace (n# m) i + headerSize → PlaceYes m s i
       → x ≡ tableBy m (fileFace m s i)
-      → putMid (faceKey (n# m) (wordsAt s start (faceFieldSize (n# m))) * w) w x (pos 1 ∷ wordsAt s (start + 8) N) ≡ tableBy m (fileFace m s (i + 1))
-  unfolding faceFieldWords
+      → putMid (faceAt m (num (fieldWords m s i) 0) (num (fieldWords m s i) 1)) w x (pos 1 ∷ wordsAt s (start + 8) N) ≡ tableBy m (fileFace m s (i + 1))
   table-more i start x e p ex =
-      let place : faceKey (n# m) (wordsAt s start (faceFieldSize (n# m))) * w ≡ faceAt m l f = ap (λ (a : ℕ). faceKey (n# m) (wordsAt s a (faceFieldSize (n# m))) * w) e ∙ sym (face-key m h l f) in
-      ap₂ (λ (k : ℕ) (y : List ℤ). putMid k w y (pos 1 ∷ wordsAt s (start + 8) N)) place ex
+      ap (λ (y : List ℤ). putMid (faceAt m l f) w y (pos 1 ∷ wordsAt s (start + 8) N)) ex
       ∙ ap (putMid (faceAt m l f) w (tableBy m (fileFace m s i))) (ap (λ (a : ℕ). pos 1 ∷ wordsAt s a N) (omega arith) ∙ face-is i ∙ ap (faceWords (n# m)) (sym here))
       ∙ face-put m (full m h) (fileFace m s i) (fileFace m s (i + 1)) l f (p .location-below) (p .face-below) elsewhere
     where
@@ -285,12 +285,12 @@ module _ (m : List ℤ) (h : Head m) (s : List ℕ) where
       elsewhere a b no-face = named-elsewhere i a b (λ p q. no-face (sym p) (sym q))
 
   -- as the code puts it: at the place to of the words x, up to end
-  pub table-put : (i start : ℕ) (x y : List ℤ) {n k from : ℕ} → n ≡ n# m → start ≡ facePlace (n# m) i + headerSize → PlaceYes m s i → x ≡ tableBy m (fileFace m s i)
-      → k ≡ faceKey n (wordsAt s start (faceFieldSize n)) → from ≡ start + payloadLength placeSize
-      → y ≡ pos 1 ∷ wordsAt s from (2 * n) → putMid (k * faceSize n) (k * faceSize n + faceSize n - k * faceSize n) x y ≡ tableBy m (fileFace m s (i + 1))
-  table-put i start x y {n} {k} en e p ex ek ef ey =
-      let ez : k * faceSize n + faceSize n - k * faceSize n ≡ faceSize n = omega arith in
-      rw (ez, ey, ef, ek, en) (table-more i start x e p ex)
+  pub table-put : (i start : ℕ) (x y : List ℤ) {n to size from : ℕ} → n ≡ n# m → size ≡ faceSize n → start ≡ facePlace (n# m) i + headerSize → PlaceYes m s i → x ≡ tableBy m (fileFace m s i)
+      → to ≡ faceAt m (num (fieldWords m s i) 0) (num (fieldWords m s i) 1) → from ≡ start + payloadLength placeSize
+      → y ≡ pos 1 ∷ wordsAt s from (2 * n) → putMid to (to + size - to) x y ≡ tableBy m (fileFace m s (i + 1))
+  table-put i start x y {n} {to} {size} en es e p ex et ef ey =
+      let ez : to + size - to ≡ faceSize (n# m) = omega (arith, en) in
+      rw (ez, ey, ef, et, en) (table-more i start x e p ex)
 
   pub table-size : (i : ℕ) {x : List ℤ} → x ≡ tableBy m (fileFace m s i) → length x ≡ tableSize m
   table-size i e = rw e (table-length m (full m h) (fileFace m s i))

@@ -153,8 +153,8 @@ module _ (m : List ℤ) (h : Head m) {l n : ℕ} (el : l ≡ L# m) (en : n ≡ n
       let ek : k ≡ keys m = omega (arith, ap₂ (λ (a b : ℕ). a * (2 * b)) el en) in
       e ∙ ap₂ (λ (a b : ℕ). countedBelow a t b) en ek ∙ counted-keys m t h
 
-pub next-row : (n k : ℕ) {at : ℕ} → at ≡ k * faceSize n → at + faceSize n ≡ (k + 1) * faceSize n
-next-row n k e = omega arith
+pub next-row : (n k : ℕ) {at size : ℕ} → size ≡ faceSize n → at ≡ k * faceSize n → at + size ≡ (k + 1) * faceSize n
+next-row n k es e = omega arith
 
 -- ---- the field of a face
 

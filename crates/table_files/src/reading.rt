@@ -147,7 +147,7 @@ fn fill(model: &[i32], file: &[u8], table: &mut [i32])
 {
     integers::clear(table);
     let n = records::variables(model);
-    let size = 1 + 2 * n;
+    let size = tables::face_size(n);
     let count = count_of(file);
     let mut at = faces_from();
     let mut i: usize = 0;
@@ -156,7 +156,9 @@ fn fill(model: &[i32], file: &[u8], table: &mut [i32])
         let wire::Field::Whole { start, next, .. } = field else {
             return;
         };
-        let to = key_at(file, start, n) * size;
+        let l = number_at(file, start);
+        let f = number_at(file, start + wire::WORD_SIZE);
+        let to = tables::face_at(model, l, f);
         let end = to + size;
         let from = start + wire::payload_length(PLACE_SIZE);
         fill_face(file, from, n, &mut table[to..end]);

@@ -62,12 +62,13 @@ fn present_faces(model: &[i32], table: &[i32]) -> usize
 {
     let n = records::variables(model);
     let faces = records::locations(model) * (2 * n);
+    let size = tables::face_size(n);
     let mut count: usize = 0;
     let mut at: usize = 0;
     let mut k: usize = 0;
     while k < faces {
         count = count + presence(table[at]);
-        at = at + (1 + 2 * n);
+        at = at + size;
         k = k + 1;
     }
     count
@@ -114,12 +115,13 @@ fn put_faces(model: &[i32], table: &[i32], file: &mut [u8]) -> usize
 {
     let n = records::variables(model);
     let faces = records::locations(model) * (2 * n);
+    let size = tables::face_size(n);
     let mut to = faces_from();
     let mut at: usize = 0;
     let mut k: usize = 0;
     while k < faces {
         to = put_face(n, table, at, k / (2 * n), k % (2 * n), file, to);
-        at = at + (1 + 2 * n);
+        at = at + size;
         k = k + 1;
     }
     to

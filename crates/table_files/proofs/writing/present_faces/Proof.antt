@@ -10,10 +10,10 @@ use Rattle.table_files.proofs.writing.present_faces.Statement.{statemen
 use Rattle.table_files.proofs.writing.present_faces.Tie as tie
 
 abbrev Inv-loop : tie.InvT-loop
-Inv-loop model table n faces count₀ at₀ k₀ count at k = (k ≤ faces) × (at ≡ k * faceSize n) × (count ≡ countedBelow n table k)
+Inv-loop model table n faces size count₀ at₀ k₀ count at k = (k ≤ faces) × (at ≡ k * faceSize n) × (count ≡ countedBelow n table k)
 
 abbrev μ-loop : tie.MeasureT-loop
-μ-loop model table n faces count₀ at₀ k₀ count at k = faces - k
+μ-loop model table n faces size count₀ at₀ k₀ count at k = faces - k
 
 variables-requires : tie.Need-variables-requires Inv-loop μ-loop
 variables-requires c κs = search needs
@@ -27,41 +27,41 @@ mul-faces c = search needs
 mul-faces-2 : tie.Need-mul-faces-2 Inv-loop μ-loop
 mul-faces-2 c = record { fits = omega (arith, faces-fit _ (c .before .before .pre .0) (c .locations .ensures) (c .before .variables .ensures)) }
 
+face-size-requires : tie.Need-face-size-requires Inv-loop μ-loop
+face-size-requires c κs = search needs
+
 loop-holds : tie.Need-loop-holds Inv-loop μ-loop
-loop-holds c = (omega arith, omega arith, counted-none _ _)
+loop-holds c =
+    (omega arith, omega arith, counted-none _ _)
 
 mul-presence : tie.Need-mul-presence Inv-loop μ-loop
-mul-presence c = record { fits = omega (arith, row-few _ (c .before .before .before .before .pre .0) (c .before .before .locations .ensures) (c .before .before .before .variables .ensures) (c .loop-test .taken) (c .before .loop .inv .1)) }
+mul-presence c = record { fits = omega (arith, row-few _ (c .before .before .before .before .before .pre .0) (c .before .before .before .locations .ensures) (c .before .before .before .before .variables .ensures) (c .loop-test .taken) (c .before .loop .inv .1)) }
 
 shared-slice-copy-out-presence : tie.Need-shared-slice-copy-out-presence Inv-loop μ-loop
-shared-slice-copy-out-presence c = omega (arith, row-inside _ (c .before .before .before .before .pre .0) (c .before .before .locations .ensures) (c .before .before .before .variables .ensures) (c .loop-test .taken) (c .before .loop .inv .1), c .before .before .before .before .pre .1)
+shared-slice-copy-out-presence c = omega (arith, row-inside _ (c .before .before .before .before .before .pre .0) (c .before .before .before .locations .ensures) (c .before .before .before .before .variables .ensures) (c .loop-test .taken) (c .before .loop .inv .1), c .before .before .before .before .before .pre .1)
 
 presence-requires : tie.Need-presence-requires Inv-loop μ-loop
 presence-requires c κs = tt
 
 add-count : tie.Need-add-count Inv-loop μ-loop
-add-count c = record { fits = omega (arith, count-few _ (c .before .before .before .before .before .before .pre .0) (c .before .before .before .before .locations .ensures) (c .before .before .before .before .before .variables .ensures) (c .before .before .before .before .before .before .args .table .now) (c .before .before .loop-test .taken) (c .before .before .before .loop .inv .2) (c .presence .ensures .1)) }
-
-mul-at : tie.Need-mul-at Inv-loop μ-loop
-mul-at c = search needs
+add-count c = record { fits = omega (arith, count-few _ (c .before .before .before .before .before .before .before .pre .0) (c .before .before .before .before .before .locations .ensures) (c .before .before .before .before .before .before .variables .ensures) (c .before .before .before .before .before .before .before .args .table .now) (c .before .before .loop-test .taken) (c .before .before .before .loop .inv .2) (c .presence .ensures .1)) }
 
 add-at : tie.Need-add-at Inv-loop μ-loop
-add-at c = search needs
-
-add-at-2 : tie.Need-add-at-2 Inv-loop μ-loop
-add-at-2 c = record { fits = omega (arith, row-few _ (c .before .before .before .before .before .before .pre .0) (c .before .before .before .before .locations .ensures) (c .before .before .before .before .before .variables .ensures) (c .before .before .loop-test .taken) (c .before .before .before .loop .inv .1)) }
+add-at c = record { fits = omega (arith, c .before .before .before .before .face-size .ensures, row-few _ (c .before .before .before .before .before .before .before .pre .0) (c .before .before .before .before .before .locations .ensures) (c .before .before .before .before .before .before .variables .ensures) (c .before .before .loop-test .taken) (c .before .before .before .loop .inv .1)) }
 
 add-k : tie.Need-add-k Inv-loop μ-loop
-add-k c = record { fits = omega (arith, faces-fit _ (c .before .before .before .before .before .before .pre .0) (c .before .before .before .before .locations .ensures) (c .before .before .before .before .before .variables .ensures)) }
+add-k c = record { fits = omega (arith, faces-fit _ (c .before .before .before .before .before .before .before .pre .0) (c .before .before .before .before .before .locations .ensures) (c .before .before .before .before .before .before .variables .ensures)) }
 
 loop-less : tie.Need-loop-less Inv-loop μ-loop
 loop-less c = omega arith
 
 loop-again : tie.Need-loop-again Inv-loop μ-loop
-loop-again c = (omega arith, next-row _ _ (c .before .before .before .loop .inv .1), counted-more _ _ _ (c .before .before .before .loop .inv .1) (c .before .before .before .loop .inv .2) (rw (got32 _ (c .before .presence-arg .given)) at (c .presence .ensures .0)))
+loop-again c =
+    let p = c .before .before .before .loop in
+    (omega arith, next-row _ _ (c .before .before .before .before .face-size .ensures) (p .inv .1), counted-more _ _ _ (p .inv .1) (p .inv .2) (rw (got32 _ (c .before .presence-arg .given)) at (c .presence .ensures .0)))
 
 returns : tie.Need-returns Inv-loop μ-loop
-returns c = counted-all _ (c .before .before .before .before .pre .0) (c .before .before .locations .ensures) (c .before .before .before .variables .ensures) _ (c .before .loop .inv .0) (c .loop-test .left) (c .before .loop .inv .2)
+returns c = counted-all _ (c .before .before .before .before .before .pre .0) (c .before .before .before .locations .ensures) (c .before .before .before .before .variables .ensures) _ (c .before .loop .inv .0) (c .loop-test .left) (c .before .loop .inv .2)
 
 pub present-faces-spec : {M : Type 1} → statement M
 present-faces-spec =
@@ -73,14 +73,13 @@ present-faces-spec =
     locations-requires
     mul-faces
     mul-faces-2
+    face-size-requires
     loop-holds
     mul-presence
     shared-slice-copy-out-presence
     presence-requires
     add-count
-    mul-at
     add-at
-    add-at-2
     add-k
     loop-less
     loop-again

@@ -9,10 +9,10 @@ use Rattle.table_files.proofs.writing.put_faces.Statement.{statement}
 use Rattle.table_files.proofs.writing.put_faces.Tie as tie
 
 abbrev Inv-loop : tie.InvT-loop
-Inv-loop model table file₀ n faces to₀ at₀ k₀ file to at k = (k ≤ faces) × (at ≡ k * faceSize n) × Written n table file₀ k to file
+Inv-loop model table file₀ n faces size to₀ at₀ k₀ file to at k = (k ≤ faces) × (at ≡ k * faceSize n) × Written n table file₀ k to file
 
 abbrev μ-loop : tie.MeasureT-loop
-μ-loop model table file₀ n faces to₀ at₀ k₀ file to at k = faces - k
+μ-loop model table file₀ n faces size to₀ at₀ k₀ file to at k = faces - k
 
 variables-requires : tie.Need-variables-requires Inv-loop μ-loop
 variables-requires c κs = search needs
@@ -26,12 +26,15 @@ mul-faces c = search needs
 mul-faces-2 : tie.Need-mul-faces-2 Inv-loop μ-loop
 mul-faces-2 c = record { fits = omega (arith, faces-fit _ (c .before .before .before .pre .head) (c .locations .ensures) (c .before .variables .ensures)) }
 
+face-size-requires : tie.Need-face-size-requires Inv-loop μ-loop
+face-size-requires c κs = search needs
+
 faces-from-requires : tie.Need-faces-from-requires Inv-loop μ-loop
 faces-from-requires c κs = search needs
 
 loop-holds : tie.Need-loop-holds Inv-loop μ-loop
 loop-holds c =
-    (omega arith, omega arith, written-none _ _ _ (c .faces-from .ensures) (omega (arith, longest-least (c .before .before .before .before .args .model .now), c .before .before .before .before .pre .bytes)))
+    (omega arith, omega arith, written-none _ _ _ (c .faces-from .ensures) (omega (arith, longest-least (c .before .before .before .before .before .args .model .now), c .before .before .before .before .before .pre .bytes)))
 
 mul-put-face : tie.Need-mul-put-face Inv-loop μ-loop
 mul-put-face c = search needs
@@ -47,37 +50,31 @@ rem-put-face c = search needs
 
 put-face-requires : tie.Need-put-face-requires Inv-loop μ-loop
 put-face-requires c κs =
-    face-room _ _ _ (c .before .before .before .before .before .before .before .pre) (c .before .before .before .before .locations .ensures) (c .before .before .before .before .before .variables .ensures) (c .before .loop-test .taken) (c .before .before .loop .inv .1) (c .before .before .loop .inv .2)
-
-mul-at : tie.Need-mul-at Inv-loop μ-loop
-mul-at c = search needs
+    face-room _ _ _ (c .before .before .before .before .before .before .before .before .pre) (c .before .before .before .before .before .locations .ensures) (c .before .before .before .before .before .before .variables .ensures) (c .before .loop-test .taken) (c .before .before .loop .inv .1) (c .before .before .loop .inv .2)
 
 add-at : tie.Need-add-at Inv-loop μ-loop
-add-at c = search needs
-
-add-at-2 : tie.Need-add-at-2 Inv-loop μ-loop
-add-at-2 c = record { fits = omega (arith, row-few _ (c .before .before .before .before .before .before .before .before .before .before .pre .head) (c .before .before .before .before .before .before .before .locations .ensures) (c .before .before .before .before .before .before .before .before .variables .ensures) (c .before .before .before .before .loop-test .taken) (c .before .before .before .before .before .loop .inv .1)) }
+add-at c = record { fits = omega (arith, c .before .before .before .before .before .before .before .face-size .ensures, row-few _ (c .before .before .before .before .before .before .before .before .before .before .before .pre .head) (c .before .before .before .before .before .before .before .before .locations .ensures) (c .before .before .before .before .before .before .before .before .before .variables .ensures) (c .before .before .before .before .loop-test .taken) (c .before .before .before .before .before .loop .inv .1)) }
 
 add-k : tie.Need-add-k Inv-loop μ-loop
-add-k c = record { fits = omega (arith, faces-fit _ (c .before .before .before .before .before .before .before .before .before .before .pre .head) (c .before .before .before .before .before .before .before .locations .ensures) (c .before .before .before .before .before .before .before .before .variables .ensures)) }
+add-k c = record { fits = omega (arith, faces-fit _ (c .before .before .before .before .before .before .before .before .before .before .before .pre .head) (c .before .before .before .before .before .before .before .before .locations .ensures) (c .before .before .before .before .before .before .before .before .before .variables .ensures)) }
 
 loop-less : tie.Need-loop-less Inv-loop μ-loop
 loop-less c = omega arith
 
 loop-again : tie.Need-loop-again Inv-loop μ-loop
 loop-again c =
-    let s = c .before .before .before .before .before .before .before .before .before .before in
+    let s = c .before .before .before .before .before .before .before .before .before .before .before in
     let p = c .before .before .before .before .before .loop in (
       omega arith,
-      next-row _ _ (p .inv .1),
+      next-row _ _ (c .before .before .before .before .before .before .before .face-size .ensures) (p .inv .1),
       written-more _ _ _ (omega (arith, longest-least (s .args .model .now), s .pre .bytes)) (p .inv .2) (p .inv .1) (c .before .before .put-face .ensures .0) (c .before .before .put-face .ensures .1),
     )
 
 same-length : tie.Need-same-length Inv-loop μ-loop
-same-length c = length-written _ _ _ (c .before .before .before .before .before .before .pre) (c .before .before .before .locations .ensures) (c .before .before .before .before .variables .ensures) (c .before .loop .inv .0) (c .before .loop .inv .2) .0
+same-length c = length-written _ _ _ (c .before .before .before .before .before .before .before .pre) (c .before .before .before .before .locations .ensures) (c .before .before .before .before .before .variables .ensures) (c .before .loop .inv .0) (c .before .loop .inv .2) .0
 
 returns : tie.Need-returns Inv-loop μ-loop
-returns c = written-all _ _ _ (c .before .before .before .before .before .before .pre) (c .before .before .before .locations .ensures) (c .before .before .before .before .variables .ensures) (c .before .loop .inv .0) (c .loop-test .left) (c .before .loop .inv .2)
+returns c = written-all _ _ _ (c .before .before .before .before .before .before .before .pre) (c .before .before .before .before .locations .ensures) (c .before .before .before .before .before .variables .ensures) (c .before .loop .inv .0) (c .loop-test .left) (c .before .loop .inv .2)
 
 pub put-faces-spec : {M : Type 1} → statement M
 put-faces-spec =
@@ -89,6 +86,7 @@ put-faces-spec =
     locations-requires
     mul-faces
     mul-faces-2
+    face-size-requires
     faces-from-requires
     loop-holds
     mul-put-face
@@ -96,9 +94,7 @@ put-faces-spec =
     mul-put-face-2
     rem-put-face
     put-face-requires
-    mul-at
     add-at
-    add-at-2
     add-k
     loop-less
     loop-again
