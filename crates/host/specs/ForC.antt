@@ -6,8 +6,8 @@ use mathlib.Core.Path.{_≡_}
 use mathlib.Core.List.{List, [], _∷_}
 use Prim.Native.Nat.{ℕ}
 use lib.IntN.{ℤ}
-use Rattle.plant.specs.Calls.{Reply, Analysed, replyOf, countReply, ReadOutcome}
-use Rattle.table_files.specs.TableFile.{WriteOutcome}
+use Rattle.plant.specs.Calls.{Reply, Analysed, replyOf, ReadOutcome, readReply}
+use Rattle.table_files.specs.TableFile.{WriteOutcome, writeReply}
 use Rattle.desk.specs.declared.Desk.{Desk}
 use Rattle.desk.specs.Desks.{freshDesk, Holds, Served, Call, serve, answersOf, passesOf}
 
@@ -19,7 +19,7 @@ pub record ReadForC : Type 0 where
   pub words : List ℤ
 
 abbrev pub readForC : ReadOutcome → ReadForC
-readForC o = record { reply = countReply (o .count); words = o .words }
+readForC o = record { reply = readReply o; words = o .words }
 
 -- ---- the analysis
 
@@ -40,7 +40,7 @@ pub record WrittenForC : Type 0 where
   pub file : List ℕ
 
 abbrev pub writtenForC : WriteOutcome → WrittenForC
-writtenForC o = record { reply = countReply (o .count); file = o .file }
+writtenForC o = record { reply = writeReply o; file = o .file }
 
 -- ---- the desk
 
