@@ -2,8 +2,8 @@
  * qiifaduleh.h - can a plant reach a forbidden level?
  *
  * A plant is a model of locations, ranges for levels and rates, switches and forbidden boxes. The
- * library says whether a run of the model can meet a forbidden box, with a table of reached faces
- * behind the answer; and it checks a table that anyone made.
+ * library says that no run of the model meets a forbidden box, or that this is unknown, with a
+ * table of reached faces behind the answer; and it checks a table that anyone made.
  *
  *     On files:  decide            finds the answer, and writes the table's file
  *                check             says whether a table's file shows that a model is safe
@@ -74,16 +74,18 @@
  *                 forbidden   location, box
  *     Wall      Wall (d, side) of a location is the low or high end of d in its invariant. Its face
  *               has the number 2d + side.
- *     Run       Starts in the start box of a location with start flag 1. A delay of t moves each
- *               level by at least t times its low rate and at most t times its high rate. A switch
- *               leads from levels in its guard to levels in its reset box, with the masked
- *               variables set to their reset value and the others unchanged. The levels always lie
- *               in the location's invariant. Levels and delays need not be whole numbers.
+ *     Run       Starts in the start box of a location with start flag 1. A delay of t stays in its
+ *               location and moves each level by at least t times its low rate and at most t times
+ *               its high rate. A switch leads from its source location, with levels in its guard,
+ *               to its target location, with levels in its reset box: the masked variables set to
+ *               their reset value, the others unchanged. The levels always lie in the location's
+ *               invariant. Levels and delays need not be whole numbers. A run meets a forbidden box
+ *               if it starts in one of its location, or a delay or switch of it ends in one.
  *     Table     For each location its 2n faces, each a flag and a box: 1 and the reached part of
  *               the wall, or all zeros where none is reached.
  *     Pass      A pass widens each face by what can be reached in one step from the start boxes and
- *               the faces before it, rounded outward. Table 0 is all zeros, table k is the table
- *               after k passes.
+ *               from the faces of the table before the pass, rounded outward. Table 0 is all zeros,
+ *               table k is the table after k passes.
  *
  *     Words past the end of a model or of a table are not part of it: a list may be longer.
  *
@@ -107,7 +109,8 @@
  * WHAT THE FILES SAY
  *
  *     A file is a row of fields: a byte for the tag, two bytes for the length of what follows, then
- *     that many bytes, words of four bytes each; the highest byte comes first everywhere.
+ *     that many bytes, words of four bytes each, in two's complement; the highest byte comes first
+ *     everywhere.
  *
  *     Model     tag 1: n, L, E, B; then L of tag 2, E of tag 3, B of tag 4, each one record.
  *     Table     tag 6: the number of present faces; then for each a tag 5: location, face, box; by
@@ -118,8 +121,8 @@
  * For C99 and C++11 on x86-64 Linux. Link with libhost.a, whose only global names are the nine
  * calls declared here. All other names of this header begin with qii_ or QII_.
  */
-#ifndef QIIFADULEH_H
-#define QIIFADULEH_H
+#ifndef QII_H
+#define QII_H
 
 #include <stddef.h>
 #include <stdint.h>
@@ -257,8 +260,8 @@ uint32_t qii_analyse(const int32_t *model, size_t model_len, uint32_t limit, int
  *     after a refusal                   both counters as they were.
  *
  * So for every list of calls of one desk, from counters 0 on: jobs is the number of answered calls,
- * and passes is the sum of the passes answered. The counters never wrap: a call whose limit the
- * counter could not take is refused by 22 before any pass is made.
+ * and passes is the sum of the passes answered. The counters never wrap: a call whose job or whose
+ * limit the counters could not take is refused by 22 before any pass is made.
  *
  * The library keeps no desk: the counters are the caller's, and nothing but these calls may change
  * them in between. Two threads need two desks, or a lock around the call.
@@ -512,7 +515,7 @@ static inline const char *qii_meaning(uint32_t number)
     case QII_TABLE_FACE:
         return "a face of the table is not well formed, not inside its location or not on its wall";
     case QII_TABLE_GROWS:
-        return "a pass changes the table: more can be reached than it says";
+        return "a pass changes the table: it is not all that a step from it gives";
     case QII_TABLE_TOUCHES:
         return "a start box or a face of the table touches a forbidden box";
     case QII_TABLE_HEAD:

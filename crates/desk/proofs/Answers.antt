@@ -63,6 +63,11 @@ module _ (d : Desk) (m : List ℤ) (limit : ℕ) (table work : List ℤ) where
       (then-intro (ask-intro (leb (tableSize m) (length table)) 20 (le→leb (tableSize m) (length table) (r .table-room))) (ask-intro (leb (tableSize m) (length work)) 21 (le→leb (tableSize m) (length work) (r .work-room)))))
       (ask-intro (countersOk d limit) 22 fits)
 
+  -- no refusal has an answer's number
+  answered-yes : (q : ℕ) → q ≤ 22 → 100 ≤ replyOf (deskBy q d m limit table work .analysed) .code → q ≡ 0
+  answered-yes zero l h = refl
+  answered-yes (suc q) l h = absurd (omega arith)
+
   -- what the call adds to the counters
   moves-by : (q : ℕ) → q ≤ 22 → let s = deskBy q d m limit table work in
       (s .desk .passes ≡ d .passes + cond (isAnswer (replyOf (s .analysed))) (replyOf (s .analysed) .value) 0)
@@ -109,6 +114,7 @@ desk-first-demand d m = record {
       subst (λ (a : Analysed). let code = replyOf a .code in (code ≡ 100) ⊎ ((code ≡ 101) ⊎ (code ≡ 102))) (sym (is-analysis d m limit table work fits))
       (first-demand m .is-answered asks limit table work r);
   with-table = λ asks limit table work r fits. ap (λ (q : ℕ). deskBy q d m limit table work) (all-yes d m limit table work asks r fits);
+  only-passing = λ limit table work h. answered-yes d m limit table work (deskQuestions d m limit table work) (questions-le d m limit table work) h;
   refused-by = λ limit table work q e. ap (λ (k : ℕ). deskBy k d m limit table work) e;
 }
 

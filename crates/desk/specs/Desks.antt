@@ -28,7 +28,7 @@ countersOk d limit = leb (d .jobs + 1) most && leb (d .passes + limit) most
 unfoldable pub deskQuestions : (d : Desk) (m : List ℤ) (limit : ℕ) (table work : List ℤ) → ℕ
 deskQuestions d m limit table work = analysisQuestions m table work then ask (countersOk d limit) 22
 
--- the desk, and the reply with the lent buffers
+-- the desk, and the answer with the lent buffers
 pub record Served : Type 0 where
   pub desk : Desk
   pub analysed : Analysed
@@ -55,6 +55,9 @@ pub record DeskFirstDemand (d : Desk) (m : List ℤ) : Type 0 where
   pub with-table :
       modelQuestions m ≡ 0 → (limit : ℕ) (table work : List ℤ) → Room m table work → T (countersOk d limit)
       → deskCall d m limit table work ≡ counted d (answered m (analysis m limit) table work)
+  -- only an input that passes all the desk's questions is answered
+  pub only-passing :
+      (limit : ℕ) (table work : List ℤ) → 100 ≤ replyOf (deskCall d m limit table work .analysed) .code → deskQuestions d m limit table work ≡ 0
   -- every other input gets the number of the first of the desk's questions that it fails, and changes nothing
   pub refused-by :
       (limit : ℕ) (table work : List ℤ) (q : ℕ) → deskQuestions d m limit table work ≡ suc q

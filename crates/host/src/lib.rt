@@ -83,8 +83,7 @@ fn decide_words(model: &[i32], file: &mut [u8], limit: u32) -> u64
 pub extern "C" fn decide(model: &[u8], table: &mut [u8], limit: u32) -> u64
     ensures { λ r. ⌜ record { number = r; file = now (table .exit) } ≡ decideCall (now (model .entry)) (now (table .entry)) limit ⌝ }
 {
-    // The longest model: 6 variables, 64 locations, 128 switches, 64 forbidden boxes.
-    let mut words = [0i32; 7044];
+    let mut words = [0i32; records::MOST_WORDS];
     let read = model_files::read_model(model, &mut words);
     match read {
         Count::Done(size) => decide_words(&words[..size], table, limit),
@@ -94,7 +93,7 @@ pub extern "C" fn decide(model: &[u8], table: &mut [u8], limit: u32) -> u64
 
 // ---- check
 
-// 33 and 34 of a table that has been read, with words lent for it: 100, or a refusal's number.
+// Reads a table file (35 to 38, 32) into words lent for it, and asks 33 and 34 of the table: 100, or a refusal's number.
 fn check_with<'a>(model: &'a [i32], file: &'a [u8], table: &mut [i32]) -> u64
     requires { ⌜ (modelQuestions (now model) ≡ 0) × (tableSize (now model) ≤ length (now table)) ⌝ }
     ensures { λ r. ⌜ r ≡ checkBy (certificateFileQuestions (now (model .entry)) (now (file .entry))) .code ⌝ }
@@ -131,7 +130,7 @@ fn verdict_code(q: u32) -> u64
 pub extern "C" fn check(model: &[u8], table: &[u8]) -> u64
     ensures { λ r. ⌜ r ≡ hostCheckCall (now (model .entry)) (now (table .entry)) ⌝ }
 {
-    let mut words = [0i32; 7044];
+    let mut words = [0i32; records::MOST_WORDS];
     let read = model_files::read_model(model, &mut words);
     match read {
         Count::Done(size) => check_words(&words[..size], table),

@@ -1,4 +1,4 @@
--- A model and a wider one: when the tables of the first lie in those of the second.
+-- A model m and a wider one m′: rates, starts, switches and forbidden boxes of the first lie in those of the second.
 use mathlib.Core.Path.{_≡_}
 use mathlib.Core.List.{List}
 use Prim.Native.Nat.{ℕ, _<_}

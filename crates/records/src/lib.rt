@@ -66,6 +66,9 @@ pub fn forbidden_size(n: usize) -> usize
     1 + 2 * n
 }
 
+// The words of the largest model: 6 variables, 64 locations, 128 switches, 64 forbidden boxes.
+pub const MOST_WORDS: usize = 7044;
+
 // ---- where the records stand
 
 pub fn location_at(model: &[i32], l: usize) -> usize

@@ -16,7 +16,7 @@ use Rattle.plant.specs.Box.{low, high, boxBy, boxAt, Face, absent, present}
 use Rattle.plant.specs.Model.{n#, L#}
 use Rattle.plant.specs.Questions.{modelQuestions}
 use Rattle.plant.specs.Tables.{tableSize, tableBy, faceOf, tableOk}
-use Rattle.plant.specs.Calls.{Reply, countReply, ReadOutcome, unlessRefused, zeroed, bytesQuestion}
+use Rattle.plant.specs.Calls.{Reply, countReply, ReadOutcome, unlessRefused, zeroed, tableRoomQuestion, bytesQuestion}
 
 -- ---- the file of a table: tag 6 (count of present faces), then a tag 5 for each (location, face number, box), by location, then face
 
@@ -133,7 +133,7 @@ tableFileQuestions m s = fieldsQuestions m s then ask (tableOk m (fileTable m s)
 
 -- the model's questions, then: table buffer or list long enough? 20
 unfoldable pub roomQuestions : (m : List ℤ) (room : ℕ) → ℕ
-roomQuestions m room = modelQuestions m then ask (leb (tableSize m) room) 20
+roomQuestions m room = modelQuestions m then tableRoomQuestion m room
 
 -- once these are yes
 abbrev pub readFaces : (m : List ℤ) (s : List ℕ) (table : List ℤ) → ReadOutcome
