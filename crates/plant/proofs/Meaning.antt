@@ -1,24 +1,28 @@
 -- What the procedures mean, from the laws of each.
-use mathlib.Core.Path.{_≡_, refl, subst}
+use mathlib.Core.Path.{_≡_, refl, sym, subst}
 use mathlib.Core.List.{List}
 use Prim.Native.Nat.{ℕ, _+_, _<_}
 use native.Mathlib.Omega.{arith}
 use lib.IntN.{ℤ}
+use lib.Signed.{_≤ℤ_, ≤ℤ-refl}
+use Rattle.integers.specs.Rounding.{floorZ, ceilZ}
 use Rattle.integers.specs.Words.{word}
+use Rattle.integers.proofs.Parts.{arithZ}
 use Rattle.integers.proofs.Order.{trans, mul-monoℕ}
+use Rattle.integers.proofs.Extremes.{max-left, max-right, max-least, min-left, min-right, min-greatest}
 use Rattle.integers.proofs.Rounding.{floor-le, floor-max, ceil-ge, ceil-min}
 use Rattle.plant.specs.declared.Interval.{Interval}
 use Rattle.plant.specs.declared.Delays.{Delays}
 use Rattle.plant.specs.declared.Delays.the-variants.{Between, Never}
-use Rattle.plant.specs.Box.{low, high, Ordered}
+use Rattle.plant.specs.Box.{low, high, Ordered, Inside, present, FaceIn}
 use Rattle.plant.specs.Model.{n#, E#, invariant, rate, source, target}
 use Rattle.plant.specs.Delays.{In}
-use Rattle.plant.specs.Steps.{Bound, unbounded, bound, lowAfter, highAfter, boxAfter, faceAfter, wallDelays, wallStep}
-use Rattle.plant.specs.Meaning.{Brings, TightLow, TightHigh, WallBox, WallMeans, Single, SwitchMeans, Meaning}
+use Rattle.plant.specs.Steps.{Bound, unbounded, bound, cutLow, cutHigh, lowAfter, highAfter, boxAfter, faceAfter, wallDelays, wallStep}
+use Rattle.plant.specs.Meaning.{AtEnd, at-earliest, at-latest, Brings, Reached, TightLow, TightHigh, WallBox, WallMeans, Single, SwitchMeans, Meaning}
 use Rattle.plant.proofs.DelaysExact.{delays-exact}
 use Rattle.plant.proofs.Touching.{touches-exact}
 use Rattle.plant.proofs.Bounds.{Lowest, Highest, Above, Below}
-use Rattle.plant.proofs.Boxes.{low-boxBy, high-boxBy, FaceAll, unless-all}
+use Rattle.plant.proofs.Boxes.{low-boxBy, high-boxBy, inside-ordered, FaceAll, not-empty, unless-all}
 use Rattle.plant.proofs.WallStep.{above-low, below-high, in-delays, delay-lows, delay-highs, wall-holds-delay, wall-mono}
 use Rattle.plant.proofs.Tight.{lowBefore, highBefore, AttainedLow, AttainedHigh, to-wall, low-attained, high-attained}
 use Rattle.plant.proofs.SwitchStep.{switch-holds, switch-mono}
@@ -69,6 +73,48 @@ module _ (m : List ℤ) (l : ℕ) (part : List ℤ) (d : ℕ) (b : ℤ) (rates :
       not-empty = o;
     }
 
+    -- a low that no level is below is at most every tight one, so at most it after the cut too; a high likewise is at least it
+    module _ (i : ℕ) (x : ℤ) where
+      low-most : (u v : Bound) → ((D t : ℕ) (y z : List ℤ) → Brings m l part d b D t y z → Above D (word z i) u) → TightLow m l part d b s i v → cutLow u x ≤ℤ cutLow v x
+      low-most unbounded unbounded k h = ≤ℤ-refl x
+      low-most unbounded (bound v) k h = max-right v x
+      low-most (bound u) unbounded k h = let r = h u .reached in omega (arithZ, k (h u .D) (h u .t) (r .before) (r .after) (r .brings), r .level)
+      low-most (bound u) (bound v) k h = max-least (trans (by (h .0)) (max-left v x)) (max-right v x)
+        where
+          by : AtEnd (λ f. Reached m l part d b i (f .den) (f .num) (λ X. v ≡ floorZ X (f .den))) s → u ≤ℤ v
+          by (at-earliest r) = rw (r .level) (floor-max (s .earliest .den) (r .brings .denominator) (k (s .earliest .den) (s .earliest .num) (r .before) (r .after) (r .brings)))
+          by (at-latest {f} g r) = rw (r .level) (floor-max (f .den) (r .brings .denominator) (k (f .den) (f .num) (r .before) (r .after) (r .brings)))
+
+      high-least : (u v : Bound) → ((D t : ℕ) (y z : List ℤ) → Brings m l part d b D t y z → Below D (word z i) u) → TightHigh m l part d b s i v → cutHigh v x ≤ℤ cutHigh u x
+      high-least unbounded unbounded k h = ≤ℤ-refl x
+      high-least unbounded (bound v) k h = min-right v x
+      high-least (bound u) unbounded k h = let r = h u .reached in omega (arithZ, k (h u .D) (h u .t) (r .before) (r .after) (r .brings), r .level)
+      high-least (bound u) (bound v) k h = min-greatest (trans (min-left v x) (by (h .0))) (min-right v x)
+        where
+          by : AtEnd (λ f. Reached m l part d b i (f .den) (f .num) (λ X. v ≡ ceilZ X (f .den))) s → v ≤ℤ u
+          by (at-earliest r) = rw (r .level) (ceil-min (s .earliest .den) (r .brings .denominator) (k (s .earliest .den) (s .earliest .num) (r .before) (r .after) (r .brings)))
+          by (at-latest {f} g r) = rw (r .level) (ceil-min (f .den) (r .brings .denominator) (k (f .den) (f .num) (r .before) (r .after) (r .brings)))
+
+  -- the box of a wall step lies in what the step gives, so the step gives something
+  module _ (box : List ℤ) (w : WallBox m l part d b box) where
+    box-inside : Inside (n# m) box (boxAfter (n# m) (invariant m l) (rate m l) part d b (w .delays))
+    unfolding boxAfter lowAfter highAfter
+    box-inside = record {
+      lower = λ i li. rw (
+        w .low-cut i li,
+        low-boxBy (n# m) (lowAfter (n# m) (invariant m l) (rate m l) part d b (w .delays)) (highAfter (n# m) (invariant m l) (rate m l) part d b (w .delays)) i li,
+      ) (low-most (w .delays) (w .are-delays) i (low (invariant m l) i) (lowBefore m l part d b (w .delays) i) (w .lows i) (λ D t x y h. above D t x y h (w .delays) (w .are-delays) i li) (w .low-tight i li));
+      higher = λ i li. rw (
+        w .high-cut i li,
+        high-boxBy (n# m) (lowAfter (n# m) (invariant m l) (rate m l) part d b (w .delays)) (highAfter (n# m) (invariant m l) (rate m l) part d b (w .delays)) i li,
+      ) (high-least (w .delays) (w .are-delays) i (high (invariant m l) i) (highBefore m l part d b (w .delays) i) (w .highs i) (λ D t x y h. below D t x y h (w .delays) (w .are-delays) i li) (w .high-tight i li));
+    }
+
+    box-in-step : FaceIn (n# m) (present box) (wallStep (n# m) (invariant m l) (rate m l) part d b)
+    unfolding wallStep
+    box-in-step = subst (λ (ds : Delays). FaceIn (n# m) (present box) (faceAfter (n# m) (invariant m l) (rate m l) part d b ds)) (sym (w .are-delays))
+        (subst (FaceIn (n# m) (present box)) (sym (not-empty (n# m) (boxAfter (n# m) (invariant m l) (rate m l) part d b (w .delays)) (inside-ordered box-inside (w .not-empty)))) box-inside)
+
   wall-boxes : (ds : Delays) → wallDelays (n# m) (invariant m l) (rate m l) part d b ≡ ds → FaceAll (WallBox m l part d b) (faceAfter (n# m) (invariant m l) (rate m l) part d b ds)
   wall-boxes Never e = tt
   wall-boxes (Between s) e = unless-all (n# m) (boxAfter (n# m) (invariant m l) (rate m l) part d b s) (WallBox m l part d b) (wall-box s e)
@@ -82,6 +128,7 @@ module _ (m : List ℤ) (l : ℕ) (part : List ℤ) (d : ℕ) (b : ℤ) (rates :
     );
     holds = λ D t x y h i. wall-holds-delay m D (record { location = l; levels = x }) t (record { location = l; levels = y }) part (h .is-delay) (h .from-part) d b (h .denominator) ld i (h .at-wall);
     tight = λ box e. subst (FaceAll (WallBox m l part d b)) e (wall-boxes (wallDelays (n# m) (invariant m l) (rate m l) part d b) refl);
+    nothing = λ e box w. subst (FaceIn (n# m) (present box)) e (box-in-step box w);
   }
 
 -- ---- the switch step

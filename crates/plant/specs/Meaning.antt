@@ -96,6 +96,8 @@ module _ (m : List ℤ) (l : ℕ) (part : List ℤ) (d : ℕ) (b : ℤ) where
         → Holds (n# m) D y (wallStep (n# m) (invariant m l) (rate m l) part d b)
     -- and it is no wider than document 01 says
     pub tight : (box : List ℤ) → wallStep (n# m) (invariant m l) (rate m l) part d b ≡ present box → WallBox box
+    -- where it gives nothing, there is no such box
+    pub nothing : wallStep (n# m) (invariant m l) (rate m l) part d b ≡ absent → (box : List ℤ) → WallBox box → ⊥
 
 -- ---- switch step of switch e
 
@@ -137,7 +139,7 @@ pub record Meaning : Type 0 where
   -- down is to the greatest whole number that is at most z / d, up to the least that is at least z / d
   pub down : (v z : ℤ) (d : ℕ) → 0 < d → (v ≤ℤ floorZ z d) ↔ ((v *ℤ pos d) ≤ℤ z)
   pub up : (v z : ℤ) (d : ℕ) → 0 < d → (ceilZ z d ≤ℤ v) ↔ (z ≤ℤ (v *ℤ pos d))
-  -- the wall step holds what a delay brings to the wall, and is tight
+  -- the wall step holds what a delay brings to the wall, is tight, and gives nothing only where there is nothing to give
   pub wall-step :
       (m : List ℤ) (l : ℕ) (part : List ℤ) (d : ℕ) (b : ℤ) → Ordered (n# m) (rate m l) → Ordered (n# m) part → d < n# m
       → WallMeans m l part d b
