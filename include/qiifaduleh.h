@@ -515,7 +515,7 @@ static inline const char *qii_meaning(uint32_t number)
     case QII_TABLE_FACE:
         return "a face of the table is not well formed, not inside its location or not on its wall";
     case QII_TABLE_GROWS:
-        return "a pass changes the table: it is not all that a step from it gives";
+        return "a pass changes the table: a step from it leads outside it";
     case QII_TABLE_TOUCHES:
         return "a start box or a face of the table touches a forbidden box";
     case QII_TABLE_HEAD:
