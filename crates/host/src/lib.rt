@@ -1,6 +1,5 @@
 // The host's calls, for C (document 01, "Desk and host"). Nothing is kept between calls: each holds its words on the stack.
 ghost use mathlib.Core.Path.{_≡_};
-ghost use mathlib.Core.Bool.{true};
 ghost use Prim.Native.Nat.{_≤_};
 ghost use lib.ListN.{length};
 ghost use Rattle.plant.specs.Questions.{modelQuestions};
@@ -12,6 +11,11 @@ use plant::Answer;
 use plant::Count;
 
 mod calls;
+
+// How many bytes the longest model file and the longest table file of all models have.
+pub const LONGEST_MODEL_FILE: usize = 28947;
+
+pub const LONGEST_TABLE_FILE: usize = 45319;
 
 // ---- decide
 

@@ -130,11 +130,10 @@ fn print_listing(number: u64, table: &[u8])
 }
 
 fn main() {
-    // The longest model file has 28,947 bytes. One more is read, so that every longer file is refused by 8 if by nothing before.
-    let mut model = [0u8; 28948];
+    // One byte more than the longest model file has is read, so that every longer file is refused by 8 if by nothing before.
+    let mut model = [0u8; host::LONGEST_MODEL_FILE + 1];
     let n = io::read_full(STDIN_FILENO, &mut model);
-    // The longest table file: 7 + 64 × 12 × (11 + 48) bytes.
-    let mut table = [0u8; 45319];
+    let mut table = [0u8; host::LONGEST_TABLE_FILE];
     let number = listed(&model[..n], &mut table);
     print_listing(number, &table)
 }

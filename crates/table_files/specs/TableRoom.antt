@@ -6,7 +6,7 @@ use lib.IntN.{ℤ, natAbs}
 use lib.Signed.{nonNeg}
 use lib.ListN.{length}
 use Rattle.wire.specs.Bytes.{wordSize, wordAt}
-use Rattle.wire.specs.Fields.{headerSize, payloadLength, fieldLength}
+use Rattle.wire.specs.Fields.{payloadLength, fieldLength}
 use Rattle.plant.specs.Tables.{faceSize, tableSize, longestTableFile}
 use Rattle.records.specs.Whole.{Head}
 use Rattle.table_files.specs.TableFile.{countFieldSize, placeSize, faceFieldSize, countWord}
