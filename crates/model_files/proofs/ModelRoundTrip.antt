@@ -7,11 +7,9 @@ use Prim.Native.Nat.{ℕ, _+_, _*_, _≤_, _<_}
 use native.Mathlib.Omega.{arith}
 use lib.Dec.{T, leb, eqb, le→leb, eqb-refl}
 use lib.IntN.{ℤ, pos}
-use lib.ListN.{length, getD, take, drop, length-append, take-append-drop}
+use lib.ListN.{length, take, drop, length-append, take-append-drop}
 use lib.Seq.{take-add, take-at, drop-at, take-all, length-take-le, getD-take}
-use mir.Syntax.{w32}
-use mir.Val.{SFits}
-use Rattle.integers.specs.Words.{word, AreWords, AreBytes, onto}
+use Rattle.integers.specs.Words.{AreWords, AreBytes, onto}
 use Rattle.integers.specs.Counted.{cat}
 use Rattle.integers.proofs.Buffers.{cat-ext, cat-at, cat-parts, length-cat, take-onto}
 use Rattle.wire.specs.Bytes.{wordsAt, wordsBytes, part}
@@ -27,7 +25,7 @@ use Rattle.plant.proofs.Asks.{ask-intro, ask-le, asked, then-both, then-intro, 
 use Rattle.plant.proofs.Numbers.{records-le, ranges-le}
 use Rattle.plant.proofs.Passed.{Passed, passed}
 use Rattle.plant.specs.declared.Count.the-variants.{Done}
-use Rattle.plant.specs.Calls.{ReadOutcome, readReply, wordsRead}
+use Rattle.plant.specs.Calls.{readReply, wordsRead}
 use Rattle.plant.proofs.Reading.{past, done}
 use Rattle.records.specs.Whole as model
 use Rattle.records.proofs.Positions.{head-first, location-within, switch-within, forbidden-within}
@@ -35,7 +33,7 @@ use Rattle.model.proofs.Passing.{whole-passed}
 use Rattle.model_files.specs.ModelFile.{recordField, modelFile, hasTag, fieldQuestions, runQuestions, headWords, headQuestions, bufferQuestion, recordsFileQuestions, switchesFrom, forbiddensFrom, fileEnd, bodyQuestions, runWords, fileWords, readModelCall}
 use Rattle.model_files.specs.ModelFilesExact.{IsModelFile, ModelFilesExact}
 use Rattle.model_files.proofs.Beginning.{records-yes}
-use Rattle.model_files.proofs.ModelReading.{SameHead, same-size, same-ranges, same-body, same-words, same-allowed, same-file, length-file, length-head, length-run, BodyPassed, body-passed, switches-at, forbiddens-at, words-end, buffer-room}
+use Rattle.model_files.proofs.ModelReading.{SameHead, same-size, same-ranges, same-body, same-words, same-allowed, same-file, length-file, length-head, length-run, BodyPassed, body-passed, switches-at, forbiddens-at, words-end}
 
 -- ---- lists in four parts
 
@@ -382,6 +380,6 @@ read-is-file s words b e =
 
 pub model-files-exact : ModelFilesExact
 model-files-exact = record {
-  file-reads = λ m words e f room. let r = sym (file-read m words e f room) in record { number = ap readReply r; buffer = ap (λ (o : ReadOutcome). o .words) r };
+  file-reads = λ m words e f room. sym (file-read m words e f room);
   read-is-file = read-is-file;
 }

@@ -5,9 +5,10 @@ use Prim.Native.Nat.{ℕ, _≤_}
 use lib.IntN.{ℤ}
 use lib.ListN.{length, take}
 use Rattle.integers.specs.Words.{AreWords, AreBytes, onto}
+use Rattle.plant.specs.declared.Count.the-variants.{Done}
 use Rattle.plant.specs.Model.{modelSize}
 use Rattle.plant.specs.Questions.{modelQuestions}
-use Rattle.plant.specs.Calls.{readReply, wordsRead, Reads}
+use Rattle.plant.specs.Calls.{readReply, wordsRead}
 use Rattle.model_files.specs.ModelFile.{modelFile, readModelCall}
 
 -- the bytes s are the file of the words m, which pass the questions and are a model's and no more
@@ -19,6 +20,6 @@ pub record IsModelFile (s : List ℕ) (m : List ℤ) : Type 0 where
 pub record ModelFilesExact : Type 0 where
   -- the file of words that pass is read into every buffer that is long enough, and gives them
   pub file-reads : (m words : List ℤ) → modelQuestions m ≡ 0 → AreWords m → modelSize m ≤ length words
-      → Reads (readModelCall (modelFile m) words) (modelSize m) (onto (take (modelSize m) m) words)
+      → readModelCall (modelFile m) words ≡ record { count = Done (modelSize m); words = onto (take (modelSize m) m) words }
   -- bytes that are read are the file of the words that they give
   pub read-is-file : (s : List ℕ) (words : List ℤ) → AreBytes s → readReply (readModelCall s words) .code ≡ 100 → IsModelFile s (wordsRead (readModelCall s words))

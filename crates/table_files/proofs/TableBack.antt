@@ -40,10 +40,10 @@ use Rattle.plant.proofs.Numbers.{model-le}
 use Rattle.plant.proofs.Boxes.{low-boxBy, high-boxBy, length-boxBy, length-boxAt, box-ends}
 use Rattle.plant.proofs.Passed.{InRange, Passed, passed}
 use Rattle.plant.proofs.Tables.{Filled, filled, ends, words-ends, table-length, table-ext, begins-itself, face-read, OkFace, ok-valid, made-ok}
-use Rattle.plant.specs.Calls.{ReadOutcome, readReply, wordsRead, Reads, zeroed}
+use Rattle.plant.specs.Calls.{ReadOutcome, readReply, wordsRead, zeroed}
 use Rattle.plant.proofs.Reading.{past, done}
 use Rattle.table_files.specs.TableFile.{faceFieldSize, tableFile, fileLength, facePlace, countWord, countQuestion, wordsOfField, faceFieldWords, faceKey, leastKey, placeOk, faceQuestion, faceQuestions, fileFace, count#, fileTable, fieldsQuestions, tableFileQuestions, roomQuestions, readFaces, readTableCall, writeQuestions, WriteOutcome, writeReply, writeBy, writeTableCall}
-use Rattle.table_files.specs.TableBack.{bytesWritten, Writes, TableBack}
+use Rattle.table_files.specs.TableBack.{bytesWritten, TableBack}
 use Rattle.table_files.proofs.Keys.{key-location, key-face, Among, Ascending, Listing, listing, no-longer}
 use Rattle.table_files.proofs.Faces.{key-below, table-again}
 use Rattle.table_files.proofs.Listed.{isPresent, boxOf, entry, listed, atKey, keys, file-listed, head-back, count-back, face-field-back, face-words-back, file-length, length-told, fieldWords, InOrder, keyOf, key-l, key-f, face-of-field, in-order}
@@ -421,29 +421,22 @@ module _ (m : List ℤ) where
 
 -- ---- the theorem
 
--- by the calls' numbers and buffers
-is-read : {o : ReadOutcome} {k : ℕ} {words : List ℤ} → o ≡ record { count = Done k; words = words } → Reads o k words
-is-read e = record { number = ap readReply e; buffer = ap (λ (o : ReadOutcome). o .words) e }
-
-is-written : {o : WriteOutcome} (s bytes : List ℕ) → o ≡ record { count = Done (length s); file = onto s bytes } → Writes o s bytes
-is-written s bytes e = record { number = ap writeReply e; buffer = ap (λ (o : WriteOutcome). o .file) e }
-
 written : (m t : List ℤ) (bytes : List ℕ) → modelQuestions m ≡ 0 → tableSize m ≤ length t → T (tableOk m t) → longestTableFile m ≤ length bytes
-    → Writes (writeTableCall m t bytes) (tableFile m t) bytes
-written m t bytes asks long good room = is-written (tableFile m t) bytes (writes m t bytes (room-asked m asks (length t) long, good, room))
+    → writeTableCall m t bytes ≡ record { count = Done (length (tableFile m t)); file = onto (tableFile m t) bytes }
+written m t bytes asks long good room = writes m t bytes (room-asked m asks (length t) long, good, room)
 
 written-read : (m t : List ℤ) (bytes : List ℕ) (buffer : List ℤ) → writeReply (writeTableCall m t bytes) .code ≡ 100 → tableSize m ≤ length buffer
-    → Reads (readTableCall m (bytesWritten (writeTableCall m t bytes)) buffer) (tableSize m) (onto (take (tableSize m) t) buffer)
+    → readTableCall m (bytesWritten (writeTableCall m t bytes)) buffer ≡ record { count = Done (tableSize m); words = onto (take (tableSize m) t) buffer }
 written-read m t bytes buffer code room =
     let y : AsksWrite m t (length bytes) = write-yes m t bytes code in
     let p : (modelQuestions m ≡ 0) × (tableSize m ≤ length t) = room-yes m (length t) (y .0) in
     let f : bytesWritten (writeTableCall m t bytes) ≡ tableFile m t = ap bytesWritten (writes m t bytes y) ∙ take-onto (tableFile m t) bytes (length (tableFile m t)) refl in
-    is-read (ap (λ (s : List ℕ). readTableCall m s buffer) f
+    ap (λ (s : List ℕ). readTableCall m s buffer) f
     ∙ reads m (tableFile m t) buffer (room-asked m (p .0) (length buffer) room) (file-asked m t (p .0) (p .1) (y .1))
-    ∙ ap (λ (w : List ℤ). record { count = Done (tableSize m); words = onto w buffer }) (file-table m t (p .0) (p .1) (y .1)))
+    ∙ ap (λ (w : List ℤ). record { count = Done (tableSize m); words = onto w buffer }) (file-table m t (p .0) (p .1) (y .1))
 
 read-written : (m : List ℤ) (s : List ℕ) (buffer : List ℤ) (bytes : List ℕ) → AreBytes s → readReply (readTableCall m s buffer) .code ≡ 100 → longestTableFile m ≤ length bytes
-    → Writes (writeTableCall m (wordsRead (readTableCall m s buffer)) bytes) s bytes
+    → writeTableCall m (wordsRead (readTableCall m s buffer)) bytes ≡ record { count = Done (length s); file = onto s bytes }
 unfolding tableFileQuestions fileTable
 read-written m s buffer bytes are code room =
     let r : (roomQuestions m (length buffer) ≡ 0) × (tableFileQuestions m s ≡ 0) = read-yes m s buffer code in
@@ -452,9 +445,9 @@ read-written m s buffer bytes are code room =
     let q : (fieldsQuestions m s ≡ 0) × _ = then-both (fieldsQuestions m s) _ (r .1) in
     let l : length (fileTable m s) ≡ tableSize m = table-length m (filled m ok) (fileFace m s (count# s)) in
     let w : wordsRead (readTableCall m s buffer) ≡ fileTable m s = ap wordsRead (reads m s buffer (r .0) (r .1)) ∙ take-onto (fileTable m s) buffer (tableSize m) l in
-    is-written s bytes (ap (λ (t : List ℤ). writeTableCall m t bytes) w
+    ap (λ (t : List ℤ). writeTableCall m t bytes) w
     ∙ writes m (fileTable m s) bytes (room-asked m asks (length (fileTable m s)) (omega (arith, l)), ask-yes (tableOk m (fileTable m s)) 32 (omega arith) (q .1), room)
-    ∙ ap (λ (x : List ℕ). record { count = Done (length x); file = onto x bytes }) (again m ok s (fields-yes m s (ok .n-positive) (ok .L-positive) (q .0)) are))
+    ∙ ap (λ (x : List ℕ). record { count = Done (length x); file = onto x bytes }) (again m ok s (fields-yes m s (ok .n-positive) (ok .L-positive) (q .0)) are)
 
 pub table-back : TableBack
 table-back = record { written = written; written-read = written-read; read-written = read-written }
