@@ -16,7 +16,7 @@ pub struct Times {
 
 pub struct Pair {
     pub host: Times,
-    pub second: Times,
+    pub other: Times,
 }
 
 /// Seconds for one of `turns` calls.
@@ -34,19 +34,19 @@ fn times(mut rounds: Vec<f64>) -> Times {
 }
 
 /// Rounds of both calls in turns; which of them comes first changes from round to round.
-pub fn pair(mut host: impl FnMut(), mut second: impl FnMut()) -> Pair {
-    let one = seconds(1, &mut host).max(seconds(1, &mut second)).max(1e-7);
+pub fn pair(mut host: impl FnMut(), mut other: impl FnMut()) -> Pair {
+    let one = seconds(1, &mut host).max(seconds(1, &mut other)).max(1e-7);
     let turns = ((ROUND_SECONDS / one) as usize).max(1);
     let rounds = ((PAIR_SECONDS / (2.0 * turns as f64 * one)) as usize).clamp(FEWEST_ROUNDS, MOST_ROUNDS);
-    let (mut of_host, mut of_second) = (Vec::new(), Vec::new());
+    let (mut of_host, mut of_other) = (Vec::new(), Vec::new());
     for round in 0..rounds {
         if round % 2 == 0 {
             of_host.push(seconds(turns, &mut host));
-            of_second.push(seconds(turns, &mut second));
+            of_other.push(seconds(turns, &mut other));
         } else {
-            of_second.push(seconds(turns, &mut second));
+            of_other.push(seconds(turns, &mut other));
             of_host.push(seconds(turns, &mut host));
         }
     }
-    Pair { host: times(of_host), second: times(of_second) }
+    Pair { host: times(of_host), other: times(of_other) }
 }
