@@ -165,10 +165,10 @@ module _ (m : List ℤ) (limit : ℕ) (table work : List ℤ) where
     analyse-answered x z is = is ∙ ap (λ (k : ℕ). analyseBy k m limit table work) (sym z ∙ e)
 
   -- an answer a that leaves t at the front of the table buffer and w in the work buffer
-  module _ (asks : modelQuestions m ≡ 0) (a : Answer) (is-analysis : a ≡ analysis m limit) (t : List ℤ) (is-table : t ≡ answerTable m a) (size : ℕ) (is-size : size ≡ tableSize m) (w : List ℤ) (is-clear : w ≡ replicate (length work) (pos 0)) where
+  module _ (a : Answer) (is-analysis : a ≡ analysis m limit) (t : List ℤ) (is-table : t ≡ answerTable m a) (size : ℕ) (is-size : size ≡ tableSize m) (w : List ℤ) (is-clear : w ≡ replicate (length work) (pos 0)) where
     length-is : size ≡ length (answerTable m a)
     unfolding answerTable
-    length-is = is-size ∙ sym (after-length m (passed m asks) (passesOf a))
+    length-is = is-size ∙ sym (after-length m (passesOf a))
 
     begins : t ++ drop size table ≡ onto (answerTable m a) table
     unfolding onto

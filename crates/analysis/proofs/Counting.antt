@@ -18,7 +18,7 @@ use Rattle.plant.specs.Model.{n#, L#}
 use Rattle.plant.specs.Tables.{wordsPerLocation, faceSize, tableSize, tableBy, tableOk, pass, tableAfter, touching}
 use Rattle.plant.specs.Calls.{search, analysis, answerTable}
 use Rattle.plant.proofs.Passed.{Passed}
-use Rattle.plant.proofs.Tables.{Filled, filled, made-ok}
+use Rattle.plant.proofs.Tables.{words-per-location, made-ok}
 use Rattle.plant.proofs.Keeps.{facesAfter, faces-ok, after-length, after-begins, after-pass}
 
 -- ---- table 0 is all zero words
@@ -28,16 +28,16 @@ unfolding cat
 cat-zeros zero w g h = rw zero-mul refl
 cat-zeros (suc k) w g h = ap₂ (λ (a b : List ℤ). a ++ b) (cat-zeros k w g h) (h k) ∙ replicate-append-replicate (k * w) w (pos 0) ∙ ap (λ (x : ℕ). replicate x (pos 0)) (sym (suc-mul k w))
 
-zeros-first : (m : List ℤ) → Filled m → replicate (tableSize m) (pos 0) ≡ tableAfter m 0
+zeros-first : (m : List ℤ) → replicate (tableSize m) (pos 0) ≡ tableAfter m 0
 unfolding tableAfter tableBy tableSize faceWords
-zeros-first m full =
+zeros-first m =
     sym (cat-zeros (L# m) (wordsPerLocation (n# m)) (λ l. cat (2 * n# m) (λ f. faceWords (n# m) absent))
-    (λ l. cat-zeros (2 * n# m) (faceSize (n# m)) (λ f. faceWords (n# m) absent) (λ f. refl) ∙ ap (λ (x : ℕ). replicate x (pos 0)) (sym full)))
+    (λ l. cat-zeros (2 * n# m) (faceSize (n# m)) (λ f. faceWords (n# m) absent) (λ f. refl) ∙ ap (λ (x : ℕ). replicate x (pos 0)) (sym (words-per-location (n# m)))))
 
 -- ---- each table k passes 32
 
 pub after-ok : (m : List ℤ) → Passed m → (k : ℕ) → tableOk m (tableAfter m k) ≡ true
-after-ok m ok k = is-true (made-ok m (filled m ok) (tableAfter m k) (facesAfter m k) (after-begins m ok k) (faces-ok m ok k))
+after-ok m ok k = is-true (made-ok m (tableAfter m k) (facesAfter m k) (after-begins m k) (faces-ok m ok k))
 
 -- ---- the answer at table k
 
@@ -71,12 +71,12 @@ pub record Going (m : List ℤ) (limit : ℕ) (table work : List ℤ) (k : ℕ) 
   pub table-is : table ≡ tableAfter m k
   pub work-size : length work ≡ tableSize m
 
-pub going-first : (m : List ℤ) → Passed m → (limit : ℕ) (table work : List ℤ) → length table ≡ tableSize m → length work ≡ tableSize m → Going m limit (replicate (length table) (pos 0)) work 0
+pub going-first : (m : List ℤ) (limit : ℕ) (table work : List ℤ) → length table ≡ tableSize m → length work ≡ tableSize m → Going m limit (replicate (length table) (pos 0)) work 0
 unfolding analysis
-going-first m ok limit table work e f = record {
+going-first m limit table work e f = record {
   k-within = omega arith;
   goes-on = ap (λ (left : ℕ). search m left 0) (omega arith);
-  table-is = ap (λ (x : ℕ). replicate x (pos 0)) e ∙ zeros-first m (filled m ok);
+  table-is = ap (λ (x : ℕ). replicate x (pos 0)) e ∙ zeros-first m;
   work-size = f;
 }
 
@@ -85,8 +85,8 @@ abbrev Answers : List ℤ → ℕ → List ℤ → Answer → Type 0
 Answers m limit table a = (a ≡ analysis m limit) × (table ≡ answerTable m a)
 
 module _ (m : List ℤ) (limit : ℕ) (table work : List ℤ) (k : ℕ) (g : Going m limit table work k) where
-  pub going-length : Passed m → length table ≡ tableSize m
-  going-length ok = ap length (g .table-is) ∙ after-length m ok k
+  pub going-length : length table ≡ tableSize m
+  going-length = ap length (g .table-is) ∙ after-length m k
 
   pub going-ok : Passed m → tableOk m table ≡ true
   going-ok ok = rw (g .table-is) (after-ok m ok k)

@@ -19,7 +19,7 @@ use Rattle.plant.specs.Tables.{faceSize, tableSize, faceAt, faceRead, faceOf, a
 use Rattle.plant.specs.Calls.{unchanged, certificateQuestions, tableQuestions}
 use Rattle.plant.proofs.Boxes.{joins-ext}
 use Rattle.plant.proofs.Passed.{Passed, SwitchPassed}
-use Rattle.plant.proofs.Tables.{filled, face-inside, table-ext}
+use Rattle.plant.proofs.Tables.{face-inside, table-ext}
 
 -- the table that a list of words begins with
 abbrev pub front : List ℤ → List ℤ → List ℤ
@@ -29,8 +29,8 @@ module _ (m : List ℤ) (ok : Passed m) (t : List ℤ) where
   face-front : (l f : ℕ) → l < L# m → f < 2 * n# m → faceOf m (front m t) l f ≡ faceOf m t l f
   unfolding faceOf faceRead boxAt
   face-front l f u v = ap₂ (λ (z : ℤ) (b : List ℤ). cond (eqZ z (pos 1)) (present b) absent)
-      (getD-take (tableSize m) t (faceAt m l f) (pos 0) (omega (arith, face-inside m (filled m ok) l f u v)))
-      (part-front (faceAt m l f + 1) (2 * n# m) (tableSize m) t (omega (arith, face-inside m (filled m ok) l f u v)))
+      (getD-take (tableSize m) t (faceAt m l f) (pos 0) (omega (arith, face-inside m l f u v)))
+      (part-front (faceAt m l f + 1) (2 * n# m) (tableSize m) t (omega (arith, face-inside m l f u v)))
 
   parts-front : (l p : ℕ) → l < L# m → p < suc (2 * n# m) → partOf m (front m t) l p ≡ partOf m t l p
   unfolding partOf
@@ -43,7 +43,7 @@ module _ (m : List ℤ) (ok : Passed m) (t : List ℤ) where
       all-ext (L# m) (λ l. allBelow (2 * n# m) (faceOk m (front m t) l)) (λ l. allBelow (2 * n# m) (faceOk m t l))
       (λ l u. all-ext (2 * n# m) (faceOk m (front m t) l) (faceOk m t l)
       (λ f v. ap (λ (s : List ℤ). absentOk (n# m) s || presentOk (n# m) (invariant m l) (variableOf f) (faceWall m l f) s)
-      (part-front (faceAt m l f) (faceSize (n# m)) (tableSize m) t (face-inside m (filled m ok) l f u v))))
+      (part-front (faceAt m l f) (faceSize (n# m)) (tableSize m) t (face-inside m l f u v))))
 
   -- ---- a pass
 

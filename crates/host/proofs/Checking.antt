@@ -2,21 +2,19 @@
 use mathlib.Core.Path.{_≡_, refl, sym, ap, _∙_}
 use mathlib.Core.Bool.{true}
 use mathlib.Core.List.{List}
-use Prim.Native.Nat.{ℕ, zero, suc, _<_, _≤_}
+use Prim.Native.Nat.{ℕ, zero, suc, _≤_}
 use native.Mathlib.Omega.{arith}
 use lib.IntN.{ℤ}
 use lib.ListN.{length, take}
 use Rattle.integers.specs.Words.{onto}
 use Rattle.integers.proofs.Tests.{is-true}
 use Rattle.plant.specs.Ask.{_then_}
-use Rattle.plant.specs.Questions.{modelQuestions}
 use Rattle.plant.specs.Tables.{tableSize, tableOk}
 use Rattle.plant.specs.declared.Count.the-variants.{Done, Refused}
 use Rattle.plant.specs.Calls.{certificateQuestions, checkBy, ReadOutcome, readReply, zeroed}
 use Rattle.plant.proofs.Asks.{ask-yes, then-both}
 use Rattle.plant.proofs.Reading.{done}
-use Rattle.plant.proofs.Passed.{passed}
-use Rattle.plant.proofs.Tables.{filled, table-length}
+use Rattle.plant.proofs.Tables.{table-length}
 use Rattle.table_files.specs.TableFile.{count#, fileFace, fileTable, tableFileQuestions, readFaces}
 use Rattle.table_files.proofs.TableBack.{table-le}
 use Rattle.host.specs.Hosts.{modelOf, modelFileQuestions, certificateFileQuestions, hostCheckCall}
@@ -25,10 +23,10 @@ use Rattle.host.proofs.Reading.{refused-number}
 
 -- ---- reading the table file into words that are lent for it
 
-module _ (m : List ℤ) (asks : modelQuestions m ≡ 0) (t : List ℕ) where
+module _ (m : List ℤ) (t : List ℕ) where
   pub length-table : length (fileTable m t) ≡ tableSize m
   unfolding fileTable
-  length-table = table-length m (filled m (passed m asks)) (fileFace m t (count# t))
+  length-table = table-length m (fileFace m t (count# t))
 
   module _ (held : List ℤ) (fits : tableSize m ≤ length held) where
     abbrev all : ReadOutcome

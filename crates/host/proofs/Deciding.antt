@@ -13,7 +13,6 @@ use Rattle.plant.specs.Questions.{modelQuestions}
 use Rattle.plant.specs.Tables.{tableSize, longestTableFile}
 use Rattle.plant.specs.Calls.{refused, answerReply, Analysed, replyOf, analysis, answerTable, answered, passesOf, bytesQuestion}
 use Rattle.plant.proofs.Asks.{ask-yes}
-use Rattle.plant.proofs.Passed.{passed}
 use Rattle.plant.proofs.Keeps.{after-length}
 use Rattle.model.proofs.Passing.{head-ready}
 use Rattle.tables.proofs.Faces.{table-most}
@@ -27,13 +26,13 @@ use Rattle.host.proofs.Held.{Front, front}
 pub table-fits : (m : List ℤ) → modelQuestions m ≡ 0 → tableSize m ≤ length (replicate 9984 (pos 0))
 table-fits m asks = omega (arith, table-most m (head-ready m asks), length-replicate 9984 (pos 0))
 
-module _ (m : List ℤ) (asks : modelQuestions m ≡ 0) (limit : ℕ) where
+module _ (m : List ℤ) (limit : ℕ) where
   abbrev a : Answer
   a = analysis m limit
 
   pub length-answer : length (answerTable m a) ≡ tableSize m
   unfolding answerTable
-  length-answer = after-length m (passed m asks) (passesOf a)
+  length-answer = after-length m (passesOf a)
 
   -- with words lent for the table
   module _ (table work : List ℤ) (fits : tableSize m ≤ length table) {q : Answer} {t w : List ℤ} (e : _≡_ {A = Analysed} (record { answer = q; table = t; work = w }) (answered m a table work)) where

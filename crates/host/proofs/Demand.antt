@@ -61,7 +61,7 @@ module _ (s : List ℕ) where
       let asks : modelQuestions m ≡ 0 = model-asked s (y .0) in
       ap (λ (q : ℕ). checkBy q .code)
       (then-intro asks
-      (then-intro (ask-intro (leb (tableSize m) (length (fileTable m t))) 20 (le→leb (tableSize m) (length (fileTable m t)) (omega (arith, length-table m asks t))))
+      (then-intro (ask-intro (leb (tableSize m) (length (fileTable m t))) 20 (le→leb (tableSize m) (length (fileTable m t)) (omega (arith, length-table m t))))
       (then-intro (then-both _ _ (y .1) .1) (y .2))))
 
   no-run-meets : (t : List ℕ) → hostCheckCall s t ≡ 100 → NoRunMeets m
@@ -153,7 +153,7 @@ module _ (s : List ℕ) where
       t = answerTable m a
 
       long : tableSize m ≤ length t
-      long = omega (arith, length-answer m asks limit)
+      long = omega (arith, length-answer m limit)
 
       written : decideCall s file limit .file ≡ onto (tableFile m t) file
       written = ap (λ (d : Decided). d .file) is-decided

@@ -16,14 +16,14 @@ use Rattle.plant.specs.Box.{Face, absent, faceWords, join, joins}
 use Rattle.plant.specs.Model.{n#, L#, E#, target}
 use Rattle.plant.specs.Tables.{wordsPerLocation, faceSize, faceAt, tableBy, faceOf, targetFace, switchOnto, wallsJoined, newFace, pass}
 use Rattle.plant.proofs.Boxes.{length-face}
-use Rattle.plant.proofs.Tables.{Filled, words-ends, begins-itself, face-read, face-inside, table-ext, table-length}
+use Rattle.plant.proofs.Tables.{words-per-location, words-ends, begins-itself, face-read, face-inside, table-ext, table-length}
 use Rattle.passes.specs.Joining.{IsFace, IsTable, joinedWith, locationBy, landing, withSwitch}
 use Rattle.passes.proofs.Joined.{is-face, joined-words, join-absent, join-ends}
 use Rattle.passes.proofs.Blocks.{put-between, mid-between, Differ, differ}
 
 -- ---- one face of a table
 
-module _ (m : List ℤ) (full : Filled m) (g h : ℕ → ℕ → Face) (l f : ℕ) (u : l < L# m) (v : f < 2 * n# m)
+module _ (m : List ℤ) (g h : ℕ → ℕ → Face) (l f : ℕ) (u : l < L# m) (v : f < 2 * n# m)
     (elsewhere : (l′ f′ : ℕ) → (l′ ≡ l → f′ ≡ f → ⊥) → g l′ f′ ≡ h l′ f′) where
   in-location : Differ (2 * n# m) (λ f. faceWords (n# m) (g l f)) (λ f. faceWords (n# m) (h l f)) f
   in-location = differ (2 * n# m) _ _ f v (λ j w k. ap (faceWords (n# m)) (elsewhere l j (λ _ e. k e)))
@@ -55,7 +55,7 @@ module _ (m : List ℤ) (full : Filled m) (g h : ℕ → ℕ → Face) (l f : �
   before-length = omega (
     arith,
     length-append (cat l (λ l. locationBy (n# m) (g l))) (cat f (λ f. faceWords (n# m) (g l f))),
-    length-cat l (wordsPerLocation (n# m)) (λ l. locationBy (n# m) (g l)) (λ j w. length-cat (2 * n# m) (faceSize (n# m)) (λ f. faceWords (n# m) (g j f)) (λ i x. length-face (n# m) (g j i)) ∙ sym full),
+    length-cat l (wordsPerLocation (n# m)) (λ l. locationBy (n# m) (g l)) (λ j w. length-cat (2 * n# m) (faceSize (n# m)) (λ f. faceWords (n# m) (g j f)) (λ i x. length-face (n# m) (g j i)) ∙ sym (words-per-location (n# m))),
     length-cat f (faceSize (n# m)) (λ f. faceWords (n# m) (g l f)) (λ j w. length-face (n# m) (g l j)),
   )
 
@@ -87,7 +87,7 @@ module _ (m t : List ℤ) (e : ℕ) where
   lands-nowhere-else l f h = by-tests (eqb (target m e) l) (eqb (targetFace m e) f) (landing m t e) (λ p q. h (sym (eqb→eq (target m e) l p)) (sym (eqb→eq (targetFace m e) f q)))
 
 -- a table whose words are those of its faces, of which k words at a place are the face on which switch e lands
-module _ (m t : List ℤ) (full : Filled m) (e : ℕ) (u : target m e < L# m) (v : targetFace m e < 2 * n# m) (out : List ℤ) (table : IsTable m out) where
+module _ (m t : List ℤ) (e : ℕ) (u : target m e < L# m) (v : targetFace m e < 2 * n# m) (out : List ℤ) (table : IsTable m out) where
   abbrev landedFace : ℕ → ℕ → Face
   landedFace l f = join (n# m) (faceOf m out l f) (switchOnto m t l f e)
 
@@ -95,12 +95,12 @@ module _ (m t : List ℤ) (full : Filled m) (e : ℕ) (u : target m e < L# m) (v
   elsewhere l f h = sym (ap (join (n# m) (faceOf m out l f)) (lands-nowhere-else m t e l f h) ∙ join-absent (n# m) (faceOf m out l f))
 
   pub lands-inside : faceAt m (target m e) (targetFace m e) + faceSize (n# m) ≤ length out
-  lands-inside = omega (arith, face-inside m full (target m e) (targetFace m e) u v, table-length m full (faceOf m out), ap length table)
+  lands-inside = omega (arith, face-inside m (target m e) (targetFace m e) u v, table-length m (faceOf m out), ap length table)
 
   module _ {at k : ℕ} (at-is : at ≡ faceAt m (target m e) (targetFace m e)) (k-is : k ≡ faceSize (n# m)) where
     target-words : midOf at k out ≡ faceWords (n# m) (faceOf m out (target m e) (targetFace m e))
     target-words = rw (at-is, k-is)
-        (ap (midOf (faceAt m (target m e) (targetFace m e)) (faceSize (n# m))) (sym table) ∙ face-part m full (faceOf m out) landedFace (target m e) (targetFace m e) u v elsewhere)
+        (ap (midOf (faceAt m (target m e) (targetFace m e)) (faceSize (n# m))) (sym table) ∙ face-part m (faceOf m out) landedFace (target m e) (targetFace m e) u v elsewhere)
 
     pub target-is-face : IsFace (n# m) (midOf at k out)
     target-is-face = is-face (n# m) (faceOf m out (target m e) (targetFace m e)) target-words
@@ -112,7 +112,7 @@ module _ (m t : List ℤ) (full : Filled m) (e : ℕ) (u : target m e < L# m) (v
     pub landed : {words : List ℤ} → words ≡ joinedWith (n# m) (midOf at k out) (landing m t e) → putMid at k out words ≡ withSwitch m t e out
     landed h = rw (h, landed-words, at-is, k-is)
         (ap (λ (s : List ℤ). putMid (faceAt m (target m e) (targetFace m e)) (faceSize (n# m)) s (faceWords (n# m) (landedFace (target m e) (targetFace m e)))) (sym table)
-        ∙ face-put m full (faceOf m out) landedFace (target m e) (targetFace m e) u v elsewhere)
+        ∙ face-put m (faceOf m out) landedFace (target m e) (targetFace m e) u v elsewhere)
 
 -- ---- the switches below e
 
@@ -129,15 +129,14 @@ module _ (m t : List ℤ) where
   unfolding pass newFace
   switches-all = refl
 
-  module _ (full : Filled m) where
-    pub is-table : (g : ℕ → ℕ → Face) {out : List ℤ} → out ≡ tableBy m g → IsTable m out
-    is-table g e = rw e (table-ext m (faceOf m (tableBy m g)) g
-        (λ l f u v. ap (faceWords (n# m)) (face-read m full (tableBy m g) g (begins-itself m full g) l f u v) ∙ words-ends (n# m) (g l f)))
+  pub is-table : (g : ℕ → ℕ → Face) {out : List ℤ} → out ≡ tableBy m g → IsTable m out
+  is-table g e = rw e (table-ext m (faceOf m (tableBy m g)) g
+      (λ l f u v. ap (faceWords (n# m)) (face-read m (tableBy m g) g (begins-itself m g) l f u v) ∙ words-ends (n# m) (g l f)))
 
-    pub switches-more : (e : ℕ) {out : List ℤ} → out ≡ tableBy m (joinedBelow m t e) → withSwitch m t e out ≡ tableBy m (joinedBelow m t (e + 1))
-    unfolding joins
-    switches-more e h =
-        let g = joinedBelow m t e in
-        rw (h, add-one e) (table-ext m (λ l f. join (n# m) (faceOf m (tableBy m g) l f) (switchOnto m t l f e)) (joinedBelow m t (suc e))
-        (λ l f u v. ap (λ (x : Face). faceWords (n# m) (join (n# m) x (switchOnto m t l f e))) (face-read m full (tableBy m g) g (begins-itself m full g) l f u v)
-        ∙ join-ends (n# m) (g l f) (switchOnto m t l f e)))
+  pub switches-more : (e : ℕ) {out : List ℤ} → out ≡ tableBy m (joinedBelow m t e) → withSwitch m t e out ≡ tableBy m (joinedBelow m t (e + 1))
+  unfolding joins
+  switches-more e h =
+      let g = joinedBelow m t e in
+      rw (h, add-one e) (table-ext m (λ l f. join (n# m) (faceOf m (tableBy m g) l f) (switchOnto m t l f e)) (joinedBelow m t (suc e))
+      (λ l f u v. ap (λ (x : Face). faceWords (n# m) (join (n# m) x (switchOnto m t l f e))) (face-read m (tableBy m g) g (begins-itself m g) l f u v)
+      ∙ join-ends (n# m) (g l f) (switchOnto m t l f e)))

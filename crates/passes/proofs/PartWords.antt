@@ -21,7 +21,7 @@ use Rattle.plant.specs.Questions.{modelQuestions}
 use Rattle.plant.specs.Tables.{faceSize, tableSize, faceAt, faceRead, faceOf, tableOk, startPart, partOf}
 use Rattle.plant.proofs.Boxes.{FaceAll, length-boxAt}
 use Rattle.plant.proofs.Passed.{InRange, Passed, LocationPassed, passed}
-use Rattle.plant.proofs.Tables.{take-behind, filled, face-inside, OkBox, ok-valid}
+use Rattle.plant.proofs.Tables.{take-behind, face-inside, OkBox, ok-valid}
 use Rattle.records.specs.Whole.{Whole}
 use Rattle.records.proofs.Positions.{location-within, length-invariant, length-rate, length-startBox}
 use Rattle.model.proofs.Passing.{whole-passed}
@@ -125,12 +125,12 @@ module _ (m : List ℤ) (ok : Passed m) (l : ℕ) (u : l < L# m) where
     -- face f's words, at the place that code has
     module _ (f : ℕ) (v : f < 2 * n# m) {n at : ℕ} (n-is : n ≡ n# m) (at-is : at ≡ faceAt m l f) where
       pub face-end : at + faceSize n ≤ length t
-      face-end = omega (arith, n-is, at-is, face-inside m (filled m ok) l f u v)
+      face-end = omega (arith, n-is, at-is, face-inside m l f u v)
 
       pub face-part : {words : List ℤ} → words ≡ take (faceSize n) (drop at t) → IsPart (n# m) words (faceOf m t l f)
       unfolding faceOf
       face-part e = rw (e, at-is, n-is) (record {
-        sized = length-take-le (faceSize (n# m)) (drop (faceAt m l f) t) (omega (arith, length-drop (faceAt m l f) t, face-inside m (filled m ok) l f u v));
+        sized = length-take-le (faceSize (n# m)) (drop (faceAt m l f) t) (omega (arith, length-drop (faceAt m l f) t, face-inside m l f u v));
         gives = face-there (n# m) t (faceAt m l f);
       })
 
@@ -146,7 +146,7 @@ module _ (m : List ℤ) (ok : Passed m) (l : ℕ) (u : l < L# m) where
         flagged h =
             let k : OkBox m l f (boxAt (n# m) t (faceAt m l f + 1)) = subst (FaceAll (OkBox m l f)) (there h) (ok-valid m t valid .valid l f u v) in
             in-levels {n = n# m} {inv = invariant m l} {b = boxAt (n# m) t (faceAt m l f + 1)} (invariant-in m ok l u)
-            (record { sized = length-boxAt (n# m) t (faceAt m l f + 1) (omega (arith, face-inside m (filled m ok) l f u v)); is-ordered = k .ordered; inside = k .inside })
+            (record { sized = length-boxAt (n# m) t (faceAt m l f + 1) (omega (arith, face-inside m l f u v)); is-ordered = k .ordered; inside = k .inside })
 
     pub part-levels : T (tableOk m t) → (p : ℕ) → p ≤ 2 * n# m → FaceAll (Levels (n# m)) (partOf m t l p)
     unfolding partOf

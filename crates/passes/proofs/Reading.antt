@@ -2,7 +2,7 @@
 -- in their words.
 use mathlib.Core.Path.{_≡_, refl, sym, ap, _∙_}
 use mathlib.Core.List.{List}
-use Prim.Native.Nat.{ℕ, suc, _+_, _*_, _<_, _≤_}
+use Prim.Native.Nat.{ℕ, _+_, _*_, _<_, _≤_}
 use native.Mathlib.Nat.{mul-le-mul-right}
 use native.Mathlib.Numerals.{add-one}
 use native.Mathlib.Omega.{arith}
@@ -18,7 +18,7 @@ use Rattle.plant.specs.Model.{n#, L#, E#, invariant, rate, source, target, rese
 use Rattle.plant.specs.Steps.{switchStep}
 use Rattle.plant.specs.Tables.{faceSize, wordsPerLocation, tableSize, faceAt, tableBy, faceRead, faceOf, faceOk, tableOk, startPart, partOf, wallStepAt, wallFrom, wallsJoined, switchStepAt, sourceFace, targetFace}
 use Rattle.plant.proofs.Passed.{SwitchPassed, Passed, passed}
-use Rattle.plant.proofs.Tables.{Filled, filled, face-inside, wordsOf}
+use Rattle.plant.proofs.Tables.{words-per-location, face-inside, wordsOf}
 use Rattle.tables.proofs.Faces.{faces-begin, face-begins, table-most}
 use Rattle.records.specs.Whole.{Whole, Placed}
 use Rattle.records.proofs.Positions.{length-guard, length-reset}
@@ -48,9 +48,6 @@ module _ (m t : List ℤ) (ok : Checked m t) where
 
   pub whole : Whole m
   whole = whole-passed m model-passed
-
-  pub table-filled : Filled m
-  table-filled = filled m model-passed
 
   pub placed : (e : ℕ) → e < E# m → Placed m e
   placed e l = switch-placed m model-passed e l
@@ -84,7 +81,7 @@ module _ (m t : List ℤ) (ok : Checked m t) where
     -- the words that it has in the table
     pub old-location : {from k : ℕ} → from ≡ faceAt m l 0 → k ≡ wordsPerLocation (n# m) → take k (drop from t) ≡ locationBy (n# m) (faceOf m t l)
     old-location a b =
-        rw (a, b ∙ table-filled) (sym (cat-parts t (faceAt m l 0) (faceSize (n# m)) (2 * n# m)))
+        rw (a, b ∙ words-per-location (n# m)) (sym (cat-parts t (faceAt m l 0) (faceSize (n# m)) (2 * n# m)))
         ∙ cat-ext (2 * n# m) _ (λ f. faceWords (n# m) (faceOf m t l f)) (λ f v. ap (λ (k : ℕ). take (faceSize (n# m)) (drop k t)) (face-begins m l f) ∙ old-words l f u v)
 
     -- its faces, joined with the wall steps from the parts below p
@@ -156,15 +153,15 @@ pub all-locations : (m t : List ℤ) → cat (L# m) (locationsOf m t) ≡ tableB
 unfolding tableBy
 all-locations m t = refl
 
-module _ (m t : List ℤ) (ok : Checked m t) where
-  pub locations-sized : (l : ℕ) → length (locationsOf m t l) ≡ wordsPerLocation (n# m)
-  locations-sized l = location-length (n# m) (wallsJoined m t l) ∙ sym (table-filled m t ok)
+pub locations-sized : (m t : List ℤ) (l : ℕ) → length (locationsOf m t l) ≡ wordsPerLocation (n# m)
+locations-sized m t l = location-length (n# m) (wallsJoined m t l) ∙ sym (words-per-location (n# m))
 
+module _ (m t : List ℤ) (ok : Checked m t) where
   pub table-small : tableSize m ≤ 9984
   table-small = table-most m (whole m t ok .head)
 
   pub face-small : (l f : ℕ) → l < L# m → f < 2 * n# m → faceAt m l f + faceSize (n# m) ≤ 9984
-  face-small l f u v = omega (arith, face-inside m (table-filled m t ok) l f u v, table-small)
+  face-small l f u v = omega (arith, face-inside m l f u v, table-small)
 
   -- the words of location l: where they begin and end, by what code has
   module _ (l : ℕ) {at end : ℕ} (at-is : at ≡ faceAt m l 0) (end-is : end ≡ faceAt m (l + 1) 0) where

@@ -21,7 +21,7 @@ use Rattle.plant.proofs.Asks.{ask-yes, ask-intro, ask-le, asked, then-b
 use Rattle.plant.proofs.Numbers.{model-le}
 use Rattle.plant.proofs.Boxes.{face-eq, face-trans, face-antisym}
 use Rattle.plant.proofs.Passed.{Passed, passed}
-use Rattle.plant.proofs.Tables.{filled, Begins, ends, ends-in, in-ends, long-enough, face-read, table-ext, Valid, ok-valid, made-valid, made-ok}
+use Rattle.plant.proofs.Tables.{Begins, ends, ends-in, in-ends, long-enough, face-read, table-ext, Valid, ok-valid, made-valid, made-ok}
 use Rattle.plant.proofs.Growth.{TableIn, narrower-refl, new-mono}
 use Rattle.plant.proofs.Keeps.{facesAfter, faces-ok, after-made, after-pass, after-begins, onto-begins, after-valid}
 use Rattle.plant.proofs.Forbidden.{touching-mono}
@@ -66,7 +66,7 @@ module _ (m : List ℤ) (asks : modelQuestions m ≡ 0) where
   closed-of t h = record {
     closed = λ l f u v.
         face-trans (n# m) (newFace m t l f) (ends (n# m) (newFace m t l f)) (faceOf m t l f) (in-ends (n# m) (newFace m t l f))
-        (face-eq (n# m) (sym (face-read m (filled m ok) t (newFace m t) (sym (equal-eq (pass m t) (take (tableSize m) t) h)) l f u v)));
+        (face-eq (n# m) (sym (face-read m t (newFace m t) (sym (equal-eq (pass m t) (take (tableSize m) t) h)) l f u v)));
   }
 
   pub accepted : (t : List ℤ) → Accepts m t → Accepted m t
@@ -81,7 +81,7 @@ module _ (m : List ℤ) (asks : modelQuestions m ≡ 0) where
   -- t holds table k if it holds the faces of which table k is made
   table-held : (t : List ℤ) (k : ℕ) → ((l f : ℕ) → l < L# m → f < 2 * n# m → FaceIn (n# m) (facesAfter m k l f) (faceOf m t l f)) → TableIn m (tableAfter m k) t
   table-held t k h = record {
-    each = λ l f u v. subst (λ (x : Face). FaceIn (n# m) x (faceOf m t l f)) (sym (face-read m (filled m ok) (tableAfter m k) (facesAfter m k) (after-begins m ok k) l f u v))
+    each = λ l f u v. subst (λ (x : Face). FaceIn (n# m) x (faceOf m t l f)) (sym (face-read m (tableAfter m k) (facesAfter m k) (after-begins m k) l f u v))
         (face-trans (n# m) (ends (n# m) (facesAfter m k l f)) (facesAfter m k l f) (faceOf m t l f) (ends-in (n# m) (facesAfter m k l f)) (h l f u v));
   }
 
@@ -105,7 +105,7 @@ module _ (m : List ℤ) (asks : modelQuestions m ≡ 0) where
 
   -- lists of words that begin with the same faces
   same-faces : (t t′ : List ℤ) (g : ℕ → ℕ → Face) → Begins m t g → Begins m t′ g → TableIn m t t′
-  same-faces t t′ g b b′ = record { each = λ l f u v. face-eq (n# m) (face-read m (filled m ok) t g b l f u v ∙ sym (face-read m (filled m ok) t′ g b′ l f u v)) }
+  same-faces t t′ g b b′ = record { each = λ l f u v. face-eq (n# m) (face-read m t g b l f u v ∙ sym (face-read m t′ g b′ l f u v)) }
 
   same-pass : (t t′ : List ℤ) → Valid m t → Valid m t′ → TableIn m t t′ → TableIn m t′ t → pass m t ≡ pass m t′
   unfolding pass
@@ -117,24 +117,24 @@ module _ (m : List ℤ) (asks : modelQuestions m ≡ 0) where
   unfolding checkCall checkerQuestions tableQuestions certificateQuestions unchanged
   repeats-accepted k clear repeats s = ap (λ (q : ℕ). checkBy q .code)
       (then-intro asks
-      (then-intro (ask-intro (leb (tableSize m) (length t)) 20 (le→leb (tableSize m) (length t) (long-enough m (filled m ok) t (facesAfter m k) begins)))
-      (then-intro (ask-intro (tableOk m t) 32 (made-ok m (filled m ok) t (facesAfter m k) begins (faces-ok m ok k)))
+      (then-intro (ask-intro (leb (tableSize m) (length t)) 20 (le→leb (tableSize m) (length t) (long-enough m t (facesAfter m k) begins)))
+      (then-intro (ask-intro (tableOk m t) 32 (made-ok m t (facesAfter m k) begins (faces-ok m ok k)))
       (then-intro (ask-intro (unchanged m t) 33 (equal-intro same-words)) (ask-intro (not (touching m t)) 34 (not-T (touching m t) clears))))))
     where
       t : List ℤ
       t = onto (tableAfter m k) s
 
       begins : Begins m t (facesAfter m k)
-      begins = onto-begins m ok k s
+      begins = onto-begins m k s
 
       valid-t : Valid m t
-      valid-t = made-valid m (filled m ok) t (facesAfter m k) begins (faces-ok m ok k)
+      valid-t = made-valid m t (facesAfter m k) begins (faces-ok m ok k)
 
       into : TableIn m t (tableAfter m k)
-      into = same-faces t (tableAfter m k) (facesAfter m k) begins (after-begins m ok k)
+      into = same-faces t (tableAfter m k) (facesAfter m k) begins (after-begins m k)
 
       from : TableIn m (tableAfter m k) t
-      from = same-faces (tableAfter m k) t (facesAfter m k) (after-begins m ok k) begins
+      from = same-faces (tableAfter m k) t (facesAfter m k) (after-begins m k) begins
 
       same-words : pass m t ≡ take (tableSize m) t
       same-words = same-pass t (tableAfter m k) valid-t (after-valid m ok k) into from ∙ after-pass m k ∙ repeats ∙ after-made m k ∙ sym begins

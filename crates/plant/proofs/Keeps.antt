@@ -19,7 +19,7 @@ use Rattle.plant.proofs.Boxes.{FaceAll, joins-all, onBox-all}
 use Rattle.plant.proofs.Passed.{Passed, SwitchPassed}
 use Rattle.plant.proofs.WallStep.{OnWall, hull-on-wall, wall-ok}
 use Rattle.plant.proofs.SwitchStep.{switch-ok}
-use Rattle.plant.proofs.Tables.{filled, OkBox, OkFace, Valid, Begins, begins-itself, begins-onto, begins-again, table-length, made-valid}
+use Rattle.plant.proofs.Tables.{OkBox, OkFace, Valid, Begins, begins-itself, begins-onto, begins-again, table-length, made-valid}
 
 module _ (m : List ℤ) (ok : Passed m) where
   -- a wall step lies on the wall of its face
@@ -72,7 +72,7 @@ module _ (m : List ℤ) (ok : Passed m) where
 
   pub pass-valid : (t : List ℤ) → Valid m t → Valid m (pass m t)
   unfolding pass
-  pass-valid t good = made-valid m (filled m ok) (pass m t) (newFace m t) (begins-itself m (filled m ok) (newFace m t)) (new-ok t good)
+  pass-valid t good = made-valid m (pass m t) (newFace m t) (begins-itself m (newFace m t)) (new-ok t good)
 
 -- ---- the tables of the passes
 
@@ -90,27 +90,28 @@ pub after-pass : (m : List ℤ) (k : ℕ) → pass m (tableAfter m k) ≡ tableA
 unfolding tableAfter
 after-pass m k = refl
 
-module _ (m : List ℤ) (ok : Passed m) where
+module _ (m : List ℤ) where
   pub after-length : (k : ℕ) → length (tableAfter m k) ≡ tableSize m
-  after-length k = ap length (after-made m k) ∙ table-length m (filled m ok) (facesAfter m k)
+  after-length k = ap length (after-made m k) ∙ table-length m (facesAfter m k)
 
   -- table k, and with words put behind it
   pub after-begins : (k : ℕ) → Begins m (tableAfter m k) (facesAfter m k)
-  after-begins k = ap (take (tableSize m)) (after-made m k) ∙ begins-itself m (filled m ok) (facesAfter m k)
+  after-begins k = ap (take (tableSize m)) (after-made m k) ∙ begins-itself m (facesAfter m k)
 
   pub onto-begins : (k : ℕ) (s : List ℤ) → Begins m (onto (tableAfter m k) s) (facesAfter m k)
-  onto-begins k s = ap (λ (t : List ℤ). take (tableSize m) (onto t s)) (after-made m k) ∙ begins-onto m (filled m ok) (facesAfter m k) s
+  onto-begins k s = ap (λ (t : List ℤ). take (tableSize m) (onto t s)) (after-made m k) ∙ begins-onto m (facesAfter m k) s
 
   -- it is made of the faces that are read of it
   pub after-again : (k : ℕ) → tableAfter m k ≡ tableBy m (faceOf m (tableAfter m k))
   after-again k =
       sym (take-all (tableSize m) (tableAfter m k) (omega (arith, after-length k)))
-      ∙ begins-again m (filled m ok) (tableAfter m k) (facesAfter m k) (after-begins k)
+      ∙ begins-again m (tableAfter m k) (facesAfter m k) (after-begins k)
 
-  -- it passes 32
+-- it passes 32
+module _ (m : List ℤ) (ok : Passed m) where
   pub after-valid : (k : ℕ) → Valid m (tableAfter m k)
-  after-valid zero = made-valid m (filled m ok) (tableAfter m zero) (facesAfter m zero) (after-begins zero) (λ l f u v. tt)
-  after-valid (suc k) = made-valid m (filled m ok) (tableAfter m (suc k)) (facesAfter m (suc k)) (after-begins (suc k)) (new-ok m ok (tableAfter m k) (after-valid k))
+  after-valid zero = made-valid m (tableAfter m zero) (facesAfter m zero) (after-begins m zero) (λ l f u v. tt)
+  after-valid (suc k) = made-valid m (tableAfter m (suc k)) (facesAfter m (suc k)) (after-begins m (suc k)) (new-ok m ok (tableAfter m k) (after-valid k))
 
   pub faces-ok : (k l f : ℕ) → l < L# m → f < 2 * n# m → OkFace m l f (facesAfter m k l f)
   faces-ok zero l f u v = tt

@@ -1,6 +1,6 @@
 -- What the procedures mean, from the laws of each.
 use mathlib.Core.Path.{_≡_, refl, sym, subst}
-use mathlib.Core.List.{List}
+use mathlib.Core.List.{List, [], _∷_, map}
 use Prim.Native.Nat.{ℕ, _+_, _<_}
 use native.Mathlib.Omega.{arith}
 use lib.IntN.{ℤ}
@@ -18,6 +18,7 @@ use Rattle.plant.specs.Box.{low, high, Ordered, Inside, present, FaceIn}
 use Rattle.plant.specs.Model.{n#, E#, invariant, rate, source, target}
 use Rattle.plant.specs.Delays.{In}
 use Rattle.plant.specs.Steps.{Bound, unbounded, bound, cutLow, cutHigh, lowAfter, highAfter, boxAfter, faceAfter, wallDelays, wallStep}
+use Rattle.plant.specs.Tables.{wordsPerLocation}
 use Rattle.plant.specs.Meaning.{AtEnd, at-earliest, at-latest, Brings, Reached, TightLow, TightHigh, WallBox, WallMeans, Single, SwitchMeans, Meaning}
 use Rattle.plant.proofs.DelaysExact.{delays-exact}
 use Rattle.plant.proofs.Touching.{touches-exact}
@@ -27,6 +28,7 @@ use Rattle.plant.proofs.WallStep.{above-low, below-high, in-delays, del
 use Rattle.plant.proofs.Tight.{lowBefore, highBefore, AttainedLow, AttainedHigh, to-wall, low-attained, high-attained}
 use Rattle.plant.proofs.SwitchStep.{switch-holds, switch-mono}
 use Rattle.plant.proofs.SwitchExact.{switch-from, switch-ordered}
+use Rattle.plant.proofs.Tables.{table-length}
 
 -- ---- the wall step
 
@@ -142,6 +144,12 @@ switch-means m e l single = record {
   not-empty = λ g box e′. subst (FaceAll (Ordered (n# m))) e′ (switch-ordered m e g);
 }
 
+-- ---- how large a table is
+
+seven-sizes : map wordsPerLocation (1 ∷ 2 ∷ 3 ∷ 4 ∷ 5 ∷ 6 ∷ 7 ∷ []) ≡ 6 ∷ 20 ∷ 42 ∷ 72 ∷ 110 ∷ 156 ∷ 210 ∷ []
+unfolding wordsPerLocation
+seven-sizes = refl
+
 -- ---- all of it
 
 pub meaning : Meaning
@@ -154,4 +162,6 @@ meaning = record {
   switch-step = switch-means;
   wall-grows = λ n inv rate rate′ part part′ d b ld parts rates larger wider. wall-mono n inv rate rate′ part part′ d b larger wider ld parts rates;
   switch-grows = switch-mono;
+  seven-sizes = seven-sizes;
+  table-sized = table-length;
 }

@@ -17,7 +17,7 @@ use Rattle.plant.specs.Model.{n#, L#, invariant, variableOf}
 use Rattle.plant.specs.Tables.{faceOf, newFace, pass, tableAfter, widths, ceilingOf}
 use Rattle.plant.proofs.Boxes.{box-ext, face-trans}
 use Rattle.plant.proofs.Passed.{Passed}
-use Rattle.plant.proofs.Tables.{filled, OkFace, Valid, ends, in-ends, begins-itself, face-read, table-ext}
+use Rattle.plant.proofs.Tables.{OkFace, Valid, ends, in-ends, begins-itself, face-read, table-ext}
 use Rattle.plant.proofs.Growth.{TableIn, grows}
 use Rattle.plant.proofs.Keeps.{pass-valid, after-valid, after-again}
 
@@ -118,7 +118,7 @@ size-le-ceiling m t good = sum-le (L# m) (locationSum m t) _ (λ l u. sum-le (2 
 pub pass-grows : (m : List ℤ) → Passed m → (t : List ℤ) → TableIn m t (pass m t)
 unfolding pass
 pass-grows m ok t = record {
-  each = λ l f u v. subst (FaceIn (n# m) (faceOf m t l f)) (sym (face-read m (filled m ok) (pass m t) (newFace m t) (begins-itself m (filled m ok) (newFace m t)) l f u v))
+  each = λ l f u v. subst (FaceIn (n# m) (faceOf m t l f)) (sym (face-read m (pass m t) (newFace m t) (begins-itself m (newFace m t)) l f u v))
       (face-trans (n# m) (faceOf m t l f) (newFace m t l f) (ends (n# m) (newFace m t l f)) (grows m t l f) (in-ends (n# m) (newFace m t l f)));
 }
 
@@ -140,6 +140,6 @@ module _ (m : List ℤ) (ok : Passed m) (t : List ℤ) (good : Valid m t) where
 pub no-growth : (m : List ℤ) → Passed m → (k : ℕ) → size m (tableAfter m (suc k)) ≤ size m (tableAfter m k) → tableAfter m (suc k) ≡ tableAfter m k
 unfolding tableAfter
 no-growth m ok k h =
-    after-again m ok (suc k)
+    after-again m (suc k)
     ∙ table-ext m (faceOf m (tableAfter m (suc k))) (faceOf m (tableAfter m k)) (λ l f u v. size-same m ok (tableAfter m k) (after-valid m ok k) h l f u v)
-    ∙ sym (after-again m ok k)
+    ∙ sym (after-again m k)

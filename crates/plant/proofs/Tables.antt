@@ -1,13 +1,13 @@
 -- A table read back: where its words stand, which faces they give, and what 32 says of them. Everything that a table's layout
--- needs of the six sizes is one law, `words-per-location`.
+-- needs of the words per location is one law, `words-per-location`.
 use mathlib.Core.Path.{_≡_, refl, sym, ap, ap₂, _∙_, subst}
 use mathlib.Core.Bool.{cond, _&&_, _||_}
 use mathlib.Core.Logic.{⊎-elim}
 use mathlib.Core.List.{List, [], _∷_}
-use Prim.Native.Nat.{ℕ, zero, suc, _+_, _*_, _<_, _≤_}
+use Prim.Native.Nat.{ℕ, suc, _+_, _*_, _<_, _≤_}
 use native.Mathlib.Nat.{mul-le-mul-right}
 use native.Mathlib.Omega.{arith}
-use lib.Dec.{T, eqb, eqb→eq}
+use lib.Dec.{T}
 use lib.IntN.{ℤ, pos}
 use lib.Signed.{leZ}
 use lib.ListN.{length, take, drop, getD-replicate, length-take, length-drop}
@@ -22,31 +22,20 @@ use Rattle.plant.specs.Model.{n#, L#, invariant, variableOf, faceWall}
 use Rattle.plant.specs.Questions.{insideOk, zerosOk}
 use Rattle.plant.specs.Tables.{wordsPerLocation, faceSize, tableSize, faceAt, tableBy, faceRead, faceOf, onWall, absentOk, presentOk, faceOk, tableOk}
 use Rattle.plant.proofs.Boxes.{low-boxBy, high-boxBy, box-ext, length-face, FaceAll, inside-ends, ends-inside}
-use Rattle.plant.proofs.Passed.{Passed, inside-ordered, inside-is}
+use Rattle.plant.proofs.Passed.{inside-ordered, inside-is}
 use Rattle.plant.proofs.WallStep.{OnWall}
 
 -- ---- words per location
 
--- the six sizes, each compared with 2n faces of 1 + 2n words
-six-sizes : T (allBelow 6 (λ i. eqb (wordsPerLocation (suc i)) (2 * suc i * faceSize (suc i))))
-unfolding allBelow wordsPerLocation
-six-sizes = tt
-
-pub words-per-location : (n : ℕ) → 1 ≤ n → n ≤ 6 → wordsPerLocation n ≡ 2 * n * faceSize n
-words-per-location zero p q = absurd (omega arith)
-words-per-location (suc i) p q = eqb→eq (wordsPerLocation (suc i)) (2 * suc i * faceSize (suc i)) (all-yes 6 (λ i. eqb (wordsPerLocation (suc i)) (2 * suc i * faceSize (suc i))) six-sizes i (omega arith))
-
--- the words of a location are those of its faces
-abbrev pub Filled : List ℤ → Type 0
-Filled m = wordsPerLocation (n# m) ≡ 2 * n# m * faceSize (n# m)
-
-pub filled : (m : List ℤ) → Passed m → Filled m
-filled m ok = words-per-location (n# m) (ok .n-positive) (ok .n-small)
+-- the words of a location are those of its 2n faces
+pub words-per-location : (n : ℕ) → wordsPerLocation n ≡ 2 * n * faceSize n
+unfolding wordsPerLocation
+words-per-location n = refl
 
 -- a face's words lie in the table
-pub face-inside : (m : List ℤ) → Filled m → (l f : ℕ) → l < L# m → f < 2 * n# m → faceAt m l f + faceSize (n# m) ≤ tableSize m
+pub face-inside : (m : List ℤ) → (l f : ℕ) → l < L# m → f < 2 * n# m → faceAt m l f + faceSize (n# m) ≤ tableSize m
 unfolding faceAt tableSize
-face-inside m full l f u v = omega (arith, mul-le-mul-right (wordsPerLocation (n# m)) u, mul-le-mul-right (faceSize (n# m)) v, full)
+face-inside m l f u v = omega (arith, mul-le-mul-right (wordsPerLocation (n# m)) u, mul-le-mul-right (faceSize (n# m)) v, words-per-location (n# m))
 
 -- ---- the words of a face
 
@@ -100,9 +89,9 @@ from-words n (present b) = refl
 
 -- ---- a table made of faces
 
-module _ (m : List ℤ) (full : Filled m) (g : ℕ → ℕ → Face) where
+module _ (m : List ℤ) (g : ℕ → ℕ → Face) where
   location-length : (l : ℕ) → length (cat (2 * n# m) (λ f. faceWords (n# m) (g l f))) ≡ wordsPerLocation (n# m)
-  location-length l = length-cat (2 * n# m) (faceSize (n# m)) (λ f. faceWords (n# m) (g l f)) (λ f u. length-face (n# m) (g l f)) ∙ sym full
+  location-length l = length-cat (2 * n# m) (faceSize (n# m)) (λ f. faceWords (n# m) (g l f)) (λ f u. length-face (n# m) (g l f)) ∙ sym (words-per-location (n# m))
 
   pub table-length : length (tableBy m g) ≡ tableSize m
   unfolding tableBy tableSize
@@ -114,7 +103,7 @@ module _ (m : List ℤ) (full : Filled m) (g : ℕ → ℕ → Face) where
   table-word l f j u v w =
       ap (word (tableBy m g)) (omega arith)
       ∙ cat-at (L# m) (wordsPerLocation (n# m)) (λ l. cat (2 * n# m) (λ f. faceWords (n# m) (g l f))) (λ l u. location-length l) l (f * faceSize (n# m) + j) u
-      (omega (arith, mul-le-mul-right (faceSize (n# m)) v))
+      (omega (arith, mul-le-mul-right (faceSize (n# m)) v, words-per-location (n# m)))
       ∙ cat-at (2 * n# m) (faceSize (n# m)) (λ f. faceWords (n# m) (g l f)) (λ f u. length-face (n# m) (g l f)) f j v w
 
 pub table-ext : (m : List ℤ) (g h : ℕ → ℕ → Face) → ((l f : ℕ) → l < L# m → f < 2 * n# m → faceWords (n# m) (g l f) ≡ faceWords (n# m) (h l f)) → tableBy m g ≡ tableBy m h
@@ -127,33 +116,33 @@ table-ext m g h e = cat-ext (L# m) (λ l. cat (2 * n# m) (λ f. faceWords (n# m)
 abbrev pub Begins : List ℤ → List ℤ → (ℕ → ℕ → Face) → Type 0
 Begins m t g = take (tableSize m) t ≡ tableBy m g
 
-pub begins-itself : (m : List ℤ) → Filled m → (g : ℕ → ℕ → Face) → Begins m (tableBy m g) g
-begins-itself m full g = take-all (tableSize m) (tableBy m g) (omega (arith, table-length m full g))
+pub begins-itself : (m : List ℤ) → (g : ℕ → ℕ → Face) → Begins m (tableBy m g) g
+begins-itself m g = take-all (tableSize m) (tableBy m g) (omega (arith, table-length m g))
 
 -- with words put behind it
-pub begins-onto : (m : List ℤ) → Filled m → (g : ℕ → ℕ → Face) (s : List ℤ) → Begins m (onto (tableBy m g) s) g
+pub begins-onto : (m : List ℤ) → (g : ℕ → ℕ → Face) (s : List ℤ) → Begins m (onto (tableBy m g) s) g
 unfolding onto
-begins-onto m full g s = take-at (tableBy m g) (drop (length (tableBy m g)) s) (tableSize m) (table-length m full g)
+begins-onto m g s = take-at (tableBy m g) (drop (length (tableBy m g)) s) (tableSize m) (table-length m g)
 
-module _ (m : List ℤ) (full : Filled m) (t : List ℤ) (g : ℕ → ℕ → Face) (begins : Begins m t g) where
+module _ (m : List ℤ) (t : List ℤ) (g : ℕ → ℕ → Face) (begins : Begins m t g) where
   pub long-enough : tableSize m ≤ length t
-  long-enough = omega (arith, length-take (tableSize m) t, ap length begins, table-length m full g)
+  long-enough = omega (arith, length-take (tableSize m) t, ap length begins, table-length m g)
 
   -- the words of its faces
   pub face-words : (l f : ℕ) → l < L# m → f < 2 * n# m → wordsOf m t l f ≡ faceWords (n# m) (g l f)
   face-words l f u v = ext-getD (pos 0) (wordsOf m t l f) (faceWords (n# m) (g l f)) (long ∙ sym (length-face (n# m) (g l f))) each
     where
       long : length (wordsOf m t l f) ≡ faceSize (n# m)
-      long = length-take-le (faceSize (n# m)) (drop (faceAt m l f) t) (omega (arith, length-drop (faceAt m l f) t, long-enough, face-inside m full l f u v))
+      long = length-take-le (faceSize (n# m)) (drop (faceAt m l f) t) (omega (arith, length-drop (faceAt m l f) t, long-enough, face-inside m l f u v))
 
       each : (j : ℕ) → j < length (wordsOf m t l f) → word (wordsOf m t l f) j ≡ word (faceWords (n# m) (g l f)) j
       each j w =
           let k : j < faceSize (n# m) = omega (arith, long) in
           getD-take (faceSize (n# m)) (drop (faceAt m l f) t) j (pos 0) k
           ∙ getD-drop (faceAt m l f) t j (pos 0)
-          ∙ sym (getD-take (tableSize m) t (faceAt m l f + j) (pos 0) (omega (arith, face-inside m full l f u v)))
+          ∙ sym (getD-take (tableSize m) t (faceAt m l f + j) (pos 0) (omega (arith, face-inside m l f u v)))
           ∙ ap (λ (s : List ℤ). word s (faceAt m l f + j)) begins
-          ∙ table-word m full g l f j u v k
+          ∙ table-word m g l f j u v k
 
   -- its faces are those that it is made of
   pub face-read : (l f : ℕ) → l < L# m → f < 2 * n# m → faceOf m t l f ≡ ends (n# m) (g l f)
@@ -239,16 +228,16 @@ ok-valid m t h = record {
 }
 
 -- words that begin with a table of such faces pass 32
-module _ (m : List ℤ) (full : Filled m) (t : List ℤ) (g : ℕ → ℕ → Face) (begins : Begins m t g)
+module _ (m : List ℤ) (t : List ℤ) (g : ℕ → ℕ → Face) (begins : Begins m t g)
     (ok : (l f : ℕ) → l < L# m → f < 2 * n# m → OkFace m l f (g l f)) where
   pub made-valid : Valid m t
   made-valid = record {
-    valid = λ l f u v. subst (OkFace m l f) (sym (face-read m full t g begins l f u v))
+    valid = λ l f u v. subst (OkFace m l f) (sym (face-read m t g begins l f u v))
         (ends-on-wall (n# m) (invariant m l) (variableOf f) (faceWall m l f) (omega arith) (g l f) (ok l f u v));
   }
 
   pub made-ok : T (tableOk m t)
   unfolding tableOk faceOk
   made-ok = all-intro (L# m) (λ l. allBelow (2 * n# m) (faceOk m t l)) (λ l u. all-intro (2 * n# m) (faceOk m t l) (λ f v.
-      subst (λ (s : List ℤ). T (absentOk (n# m) s || presentOk (n# m) (invariant m l) (variableOf f) (faceWall m l f) s)) (sym (face-words m full t g begins l f u v))
+      subst (λ (s : List ℤ). T (absentOk (n# m) s || presentOk (n# m) (invariant m l) (variableOf f) (faceWall m l f) s)) (sym (face-words m t g begins l f u v))
       (words-pass (n# m) (invariant m l) (variableOf f) (faceWall m l f) (omega arith) (g l f) (ok l f u v))))

@@ -1,9 +1,9 @@
--- What the procedures of document 01, "Delays" and "Wall step and switch step", mean, so that nobody has to trust them: one record,
--- proved by one theorem. Levels, delays and switches are those of "Runs".
+-- What the procedures of document 01, "Delays" and "Wall step and switch step", mean, and how large a table is, so that nobody has to
+-- trust them: one record, proved by one theorem. Levels, delays and switches are those of "Runs".
 use mathlib.Core.Path.{_≡_}
 use mathlib.Core.Logic.{_↔_}
 use mathlib.Core.Bool.{true}
-use mathlib.Core.List.{List}
+use mathlib.Core.List.{List, [], _∷_, map}
 use Prim.Native.Nat.{ℕ, _<_}
 use lib.Dec.{T}
 use lib.IntN.{ℤ, pos, _*ℤ_}
@@ -19,6 +19,7 @@ use Rattle.plant.specs.Box.{low, high, Ordered, Inside, Face, absent, pr
 use Rattle.plant.specs.Model.{n#, E#, invariant, rate, source, target, resetMask, masked, guard, reset}
 use Rattle.plant.specs.Delays.{delaysInto, In, Reaches}
 use Rattle.plant.specs.Steps.{touches, Touch, Bound, unbounded, bound, cutLow, cutHigh, wallDelays, wallStep, switchStep}
+use Rattle.plant.specs.Tables.{wordsPerLocation, tableSize, tableBy}
 use Rattle.plant.specs.Runs.{InBox, IsDelay, IsSwitch}
 
 -- the face is there, and the levels x over D lie in its box
@@ -154,3 +155,7 @@ pub record Meaning : Type 0 where
       (n mask : ℕ) (guard guard′ reset reset′ inv : List ℤ) → Inside n guard guard′ → Inside n reset reset′
       → (g g′ : Face) → FaceIn n g g′
       → FaceIn n (switchStep n mask guard reset inv g) (switchStep n mask guard′ reset′ inv g′)
+  -- words per location, of 1 to 7 variables (document 02, T-04)
+  pub seven-sizes : map wordsPerLocation (1 ∷ 2 ∷ 3 ∷ 4 ∷ 5 ∷ 6 ∷ 7 ∷ []) ≡ 6 ∷ 20 ∷ 42 ∷ 72 ∷ 110 ∷ 156 ∷ 210 ∷ []
+  -- a table, of whatever faces, has L times the words per location
+  pub table-sized : (m : List ℤ) (g : ℕ → ℕ → Face) → length (tableBy m g) ≡ tableSize m

@@ -11,22 +11,21 @@ use Rattle.integers.proofs.Buffers.{cat-ext, cat-parts}
 use Rattle.plant.specs.Box.{Face, faceWords}
 use Rattle.plant.specs.Model.{n#, L#}
 use Rattle.plant.specs.Tables.{faceSize, tableSize, faceAt, tableBy, faceOf}
-use Rattle.plant.proofs.Tables.{Filled}
+use Rattle.plant.proofs.Tables.{words-per-location}
 use Rattle.passes.specs.Checked.{Checked}
 use Rattle.passes.proofs.Reading.{old-words}
 use Rattle.table_files.proofs.Keys.{key-location, key-face, cat-keys}
 
 -- ---- a table by key
 
-module _ (m : List ℤ) (full : Filled m) where
-  -- how many faces a location has, and where a face stands
-  pub key-at : (q : ℕ) → faceAt m (q / (2 * n# m)) (q % (2 * n# m)) ≡ q * faceSize (n# m)
+module _ (m : List ℤ) where
+  -- face f of location l stands at its key, and the other way round
+  pub face-key : (l f : ℕ) → faceAt m l f ≡ (l * (2 * n# m) + f) * faceSize (n# m)
   unfolding faceAt
-  key-at q =
-      rw full
-      (let e : q / (2 * n# m) * (2 * n# m) * faceSize (n# m) + q % (2 * n# m) * faceSize (n# m) ≡ (q / (2 * n# m) * (2 * n# m) + q % (2 * n# m)) * faceSize (n# m) = omega arith in
-      let a : q / (2 * n# m) * (2 * n# m * faceSize (n# m)) ≡ q / (2 * n# m) * (2 * n# m) * faceSize (n# m) = omega arith in
-      rw a (e ∙ ap (λ (k : ℕ). k * faceSize (n# m)) (div-add-mod' q (2 * n# m))))
+  face-key l f = rw (words-per-location (n# m)) (omega arith)
+
+  pub key-at : (q : ℕ) → faceAt m (q / (2 * n# m)) (q % (2 * n# m)) ≡ q * faceSize (n# m)
+  key-at q = face-key (q / (2 * n# m)) (q % (2 * n# m)) ∙ ap (λ (k : ℕ). k * faceSize (n# m)) (div-add-mod' q (2 * n# m))
 
   pub key-below : (q : ℕ) → 0 < n# m → q < L# m * (2 * n# m) → (q / (2 * n# m) < L# m) × (q % (2 * n# m) < 2 * n# m)
   key-below q h l = (div-lt-iff-lt-mul {k = 2 * n# m} {x = q} {y = L# m} (omega arith) .1 l, mod-lt q {m = 2 * n# m} (omega arith))
@@ -35,9 +34,10 @@ module _ (m : List ℤ) (full : Filled m) where
   unfolding tableBy
   table-keys g = cat-keys (L# m) (2 * n# m) (λ l f. faceWords (n# m) (g l f)) _ (λ l f u v. rw (key-location (2 * n# m) l f v, key-face (2 * n# m) l f v) refl)
 
-  size-keys : L# m * (2 * n# m) * faceSize (n# m) ≡ tableSize m
+  -- the table has one face for each key
+  pub size-keys : L# m * (2 * n# m) * faceSize (n# m) ≡ tableSize m
   unfolding tableSize
-  size-keys = rw full (omega arith)
+  size-keys = rw (words-per-location (n# m)) (omega arith)
 
   -- a table that passes 32 is the table of its faces
   pub table-again : (t : List ℤ) → Checked m t → 0 < n# m → take (tableSize m) t ≡ tableBy m (faceOf m t)

@@ -39,7 +39,7 @@ use Rattle.plant.proofs.Asks.{ask-intro, ask-yes, asked, then-both, then-intro,
 use Rattle.plant.proofs.Numbers.{model-le}
 use Rattle.plant.proofs.Boxes.{low-boxBy, high-boxBy, length-boxBy, length-boxAt, box-ends}
 use Rattle.plant.proofs.Passed.{InRange, Passed, passed}
-use Rattle.plant.proofs.Tables.{Filled, filled, ends, words-ends, table-length, table-ext, begins-itself, face-read, OkFace, ok-valid, made-ok}
+use Rattle.plant.proofs.Tables.{ends, words-ends, table-length, table-ext, begins-itself, face-read, OkFace, ok-valid, made-ok}
 use Rattle.plant.specs.Calls.{ReadOutcome, readReply, wordsRead, zeroed}
 use Rattle.plant.proofs.Reading.{past, done}
 use Rattle.table_files.specs.TableFile.{faceFieldSize, tableFile, fileLength, facePlace, countWord, countQuestion, wordsOfField, faceFieldWords, faceKey, leastKey, placeOk, faceQuestion, faceQuestions, fileFace, count#, fileTable, fieldsQuestions, tableFileQuestions, roomQuestions, readFaces, readTableCall, writeQuestions, WriteOutcome, writeReply, writeBy, writeTableCall}
@@ -147,7 +147,7 @@ module _ (m t : List ℤ) (asks : modelQuestions m ≡ 0) (long : tableSize m �
 
   below : (i : ℕ) → i < k → (list .key i / N < L# m) × (list .key i % N < N)
   unfolding k
-  below i u = key-below m (filled m ok) (list .key i) (ok .n-positive) (list .asc .below i u)
+  below i u = key-below m (list .key i) (ok .n-positive) (list .asc .below i u)
 
   are-words : (i : ℕ) → i < k → AreWords (words i)
   unfolding words
@@ -259,14 +259,14 @@ module _ (m t : List ℤ) (asks : modelQuestions m ≡ 0) (long : tableSize m �
           ∙ words-ends (n# m) (present b) ∙ ap (faceWords (n# m)) (sym e)
 
   table-faces : take (tableSize m) t ≡ tableBy m (faceOf m t)
-  table-faces = table-again m (filled m ok) t (record { ready = record { passes = asks; room = long }; valid = is-true good }) (ok .n-positive)
+  table-faces = table-again m t (record { ready = record { passes = asks; room = long }; valid = is-true good }) (ok .n-positive)
 
   table-is : fileTable m file ≡ take (tableSize m) t
   unfolding fileTable
   table-is = ap (λ (c : ℕ). tableBy m (fileFace m file c)) count-is ∙ table-ext m (fileFace m file k) (faceOf m t) same-words ∙ sym table-faces
 
   table-asked : T (tableOk m (fileTable m file))
-  table-asked = rw (table-is, table-faces) (made-ok m (filled m ok) (tableBy m (faceOf m t)) (faceOf m t) (begins-itself m (filled m ok) (faceOf m t)) (ok-valid m t good .valid))
+  table-asked = rw (table-is, table-faces) (made-ok m (tableBy m (faceOf m t)) (faceOf m t) (begins-itself m (faceOf m t)) (ok-valid m t good .valid))
 
   questions : tableFileQuestions m file ≡ 0
   unfolding tableFileQuestions
@@ -309,8 +309,6 @@ table-le m s =
     (omega (arith, ask-le (tableOk m (fileTable m s)) 32))
 
 module _ (m : List ℤ) (ok : Passed m) (s : List ℕ) (y : FieldsYes m s) where
-  full : Filled m
-  full = filled m ok
 
   c : ℕ
   c = count# s
@@ -322,8 +320,8 @@ module _ (m : List ℤ) (ok : Passed m) (s : List ℕ) (y : FieldsYes m s) where
   read-face : (q : ℕ) → q < keys m → atKey m (faceOf m (fileTable m s)) q ≡ ends (n# m) (atKey m (fileFace m s c) q)
   unfolding fileTable c
   read-face q u =
-      let b : (q / (2 * n# m) < L# m) × (q % (2 * n# m) < 2 * n# m) = key-below m full q (ok .n-positive) u in
-      face-read m full (tableBy m (fileFace m s (count# s))) (fileFace m s (count# s)) (begins-itself m full (fileFace m s (count# s))) (q / (2 * n# m)) (q % (2 * n# m)) (b .0) (b .1)
+      let b : (q / (2 * n# m) < L# m) × (q % (2 * n# m) < 2 * n# m) = key-below m q (ok .n-positive) u in
+      face-read m (tableBy m (fileFace m s (count# s))) (fileFace m s (count# s)) (begins-itself m (fileFace m s (count# s))) (q / (2 * n# m)) (q % (2 * n# m)) (b .0) (b .1)
 
   present-ends : (g : Face) → isPresent (ends (n# m) g) ≡ isPresent g
   present-ends absent = refl
@@ -443,7 +441,7 @@ read-written m s buffer bytes are code room =
     let asks : modelQuestions m ≡ 0 = room-yes m (length buffer) (r .0) .0 in
     let ok : Passed m = passed m asks in
     let q : (fieldsQuestions m s ≡ 0) × _ = then-both (fieldsQuestions m s) _ (r .1) in
-    let l : length (fileTable m s) ≡ tableSize m = table-length m (filled m ok) (fileFace m s (count# s)) in
+    let l : length (fileTable m s) ≡ tableSize m = table-length m (fileFace m s (count# s)) in
     let w : wordsRead (readTableCall m s buffer) ≡ fileTable m s = ap wordsRead (reads m s buffer (r .0) (r .1)) ∙ take-onto (fileTable m s) buffer (tableSize m) l in
     ap (λ (t : List ℤ). writeTableCall m t bytes) w
     ∙ writes m (fileTable m s) bytes (room-asked m asks (length (fileTable m s)) (omega (arith, l)), ask-yes (tableOk m (fileTable m s)) 32 (omega arith) (q .1), room)

@@ -3,15 +3,14 @@
 use mathlib.Core.Path.{_≡_, refl, sym, ap, ap₂, _∙_}
 use mathlib.Core.Bool.{Bool, true, false}
 use mathlib.Core.List.{List, [], _∷_, _++_}
-use Prim.Native.Nat.{ℕ, zero, suc, _+_, _*_, _-_, _≤_, _<_}
-use native.Mathlib.Nat.{mul-le-mul-right}
+use Prim.Native.Nat.{ℕ, _+_, _*_, _-_, _≤_, _<_}
 use native.Mathlib.Numerals.{add-one}
 use native.Mathlib.Omega.{arith}
-use borrow.Author.Tests.{eq-eqb, le-leb}
+use borrow.Author.Tests.{eq-eqb}
 use borrow.Rule.Slice.PartMut.{putMid}
-use lib.Dec.{T, eqb, leb, ltb}
+use lib.Dec.{T, eqb, leb}
 use lib.IntN.{ℤ, pos, natAbs}
-use lib.Signed.{nonNeg, mag}
+use lib.Signed.{mag}
 use lib.ListN.{length, take, drop, replicate, set, length-append, length-drop}
 use lib.Seq.{getD-take, getD-drop, ext-getD, take-at, length-take-le}
 use mir.Syntax.{w32, w64}
@@ -32,21 +31,20 @@ use Rattle.plant.specs.Model.{n#, L#}
 use Rattle.plant.specs.Tables.{faceSize, tableSize, faceAt, tableBy, tableOk}
 use Rattle.plant.specs.declared.Count.the-variants.{Done, Refused}
 use Rattle.plant.specs.Calls.{ReadOutcome, zeroed}
-use Rattle.plant.proofs.Asks.{ask-yes, asked, or-left, go, halt, both}
+use Rattle.plant.proofs.Asks.{or-left, go, halt, both}
 use Rattle.plant.proofs.Boxes.{length-boxAt, box-ends}
 use Rattle.plant.proofs.Passed.{within-nonneg}
 use Rattle.plant.proofs.Tables.{face-inside, table-length}
 use Rattle.plant.proofs.Reading.{refused-at, past}
 use Rattle.records.specs.Whole.{Head}
-use Rattle.records.proofs.Positions.{row-within}
 use Rattle.passes.proofs.Landing.{face-put}
 use Rattle.table_files.specs.TableFile.{placeSize, faceFieldSize, facePlace, countWord, countQuestion, faceFieldWords, faceKey, leastKey, placeOk, faceQuestion, faceQuestions, fileFace, count#, fileTable, fieldsQuestions, tableFileQuestions, readFaces, roomQuestions, readTableCall}
 use Rattle.table_files.specs.TableRoom.{CountAt, locationWord, faceWord, KeyAt}
 use Rattle.table_files.proofs.Keys.{replicate-cat}
-use Rattle.table_files.proofs.Faces.{table-keys}
+use Rattle.table_files.proofs.Faces.{size-keys, table-keys}
 use Rattle.table_files.proofs.Listed.{keys, not-named, fieldWords}
 use Rattle.table_files.proofs.TableAsked.{PlaceYes, FieldsYes, count-yes}
-use Rattle.table_files.proofs.TableWriting.{face-key, faces-few, bytes-few, full, keys-few, size-is}
+use Rattle.table_files.proofs.TableWriting.{faces-few, keys-few}
 
 -- ---- the words of a field by the position of its payload
 
@@ -200,7 +198,7 @@ module _ (m : List ℤ) (h : Head m) (s : List ℕ) (y : FieldsYes m s) where
             (ef ∙ ap natAbs (sym (face-at (n# m) s start)) ∙ ap (λ (w : List ℤ). num w 1) words-are)
 
         pub place-inside : to + faceSize (n# m) ≤ tableSize m
-        place-inside = let p : PlaceYes m s i = place-yes-at in omega (arith, place-is, face-inside m (full m h) _ _ (p .location-below) (p .face-below))
+        place-inside = let p : PlaceYes m s i = place-yes-at in omega (arith, place-is, face-inside m _ _ (p .location-below) (p .face-below))
 
 pub asked-count : (m : List ℤ) (s : List ℕ) → fieldsQuestions m s ≡ 0 → countQuestion m s ≡ 0
 unfolding fieldsQuestions
@@ -234,7 +232,7 @@ module _ (m : List ℤ) (h : Head m) (s : List ℕ) where
   -- all faces absent
   pub table-none : (k : ℕ) → k ≡ tableSize m → replicate k (pos 0) ≡ tableBy m (fileFace m s 0)
   unfolding fileFace faceWords
-  table-none k e = rw (e, ← (size-is m h)) (replicate-cat (keys m) w (pos 0)) ∙ sym (table-keys m (full m h) (fileFace m s 0))
+  table-none k e = rw (e, ← (size-keys m)) (replicate-cat (keys m) w (pos 0)) ∙ sym (table-keys m (fileFace m s 0))
 
   -- field i gives the face that it names, and no other
   named-here : (i l f : ℕ) → num (fieldWords m s i) 0 ≡ l → num (fieldWords m s i) 1 ≡ f → fileFace m s (i + 1) l f ≡ present (boxAt (n# m) (fieldWords m s i) 2)
@@ -270,7 +268,7 @@ module _ (m : List ℤ) (h : Head m) (s : List ℕ) where
   table-more i start x e p ex =
       ap (λ (y : List ℤ). putMid (faceAt m l f) w y (pos 1 ∷ wordsAt s (start + 8) N)) ex
       ∙ ap (putMid (faceAt m l f) w (tableBy m (fileFace m s i))) (ap (λ (a : ℕ). pos 1 ∷ wordsAt s a N) (omega arith) ∙ face-is i ∙ ap (faceWords (n# m)) (sym here))
-      ∙ face-put m (full m h) (fileFace m s i) (fileFace m s (i + 1)) l f (p .location-below) (p .face-below) elsewhere
+      ∙ face-put m (fileFace m s i) (fileFace m s (i + 1)) l f (p .location-below) (p .face-below) elsewhere
     where
       l : ℕ
       l = num (fieldWords m s i) 0
@@ -293,7 +291,7 @@ module _ (m : List ℤ) (h : Head m) (s : List ℕ) where
       rw (ez, ey, ef, et, en) (table-more i start x e p ex)
 
   pub table-size : (i : ℕ) {x : List ℤ} → x ≡ tableBy m (fileFace m s i) → length x ≡ tableSize m
-  table-size i e = rw e (table-length m (full m h) (fileFace m s i))
+  table-size i e = rw e (table-length m (fileFace m s i))
 
   pub table-end : (i : ℕ) → i ≡ count# s → tableBy m (fileFace m s i) ≡ fileTable m s
   unfolding fileTable
@@ -303,7 +301,7 @@ module _ (m : List ℤ) (h : Head m) (s : List ℕ) where
   module _ (d x : List ℤ) {k : ℕ} (ek : k ≡ tableSize m) (room : tableSize m ≤ length d) (ex : x ≡ fileTable m s) where
     x-length : length x ≡ k
     unfolding fileTable
-    x-length = rw (ex, ek) (table-length m (full m h) (fileFace m s (count# s)))
+    x-length = rw (ex, ek) (table-length m (fileFace m s (count# s)))
 
     pub table-front : take k (x ++ drop k d) ≡ fileTable m s
     table-front = take-at x (drop k d) k x-length ∙ ex

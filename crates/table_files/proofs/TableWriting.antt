@@ -22,17 +22,17 @@ use Rattle.plant.specs.Ask.{ask}
 use Rattle.plant.specs.Box.{low, high, boxBy, boxAt, Face, absent, present}
 use Rattle.plant.specs.Model.{n#, L#}
 use Rattle.plant.specs.Questions.{modelQuestions}
-use Rattle.plant.specs.Tables.{faceSize, tableSize, longestTableFile, faceAt, faceRead, faceOf, tableOk}
+use Rattle.plant.specs.Tables.{faceSize, tableSize, longestTableFile, faceRead, faceOf, tableOk}
 use Rattle.plant.specs.declared.Count.the-variants.{Done, Refused}
 use Rattle.plant.proofs.Asks.{ask-yes, then-both}
 use Rattle.plant.proofs.Boxes.{length-boxBy, length-boxAt, box-ends}
-use Rattle.plant.proofs.Tables.{Filled, words-per-location}
 use Rattle.records.specs.Whole.{Head}
 use Rattle.model.proofs.Passing.{head-ready}
 use Rattle.records.proofs.Positions.{row-within}
 use Rattle.tables.proofs.Faces.{table-most}
 use Rattle.table_files.specs.TableFile.{countFieldSize, placeSize, faceFieldSize, faceField, presence, presentFaces, faceFields, tableFile, facesFrom, roomQuestions, writeQuestions, writeBy, writeTableCall}
 use Rattle.table_files.specs.TableRoom.{WriteReady, FaceRoom}
+use Rattle.table_files.proofs.Faces.{face-key, size-keys}
 use Rattle.table_files.proofs.Keys.{cat-keys, sum-keys, key-location, key-face}
 use Rattle.table_files.proofs.Listed.{keys}
 
@@ -52,25 +52,13 @@ pub bytes-few : (k n : ℕ) → k ≤ 768 → n ≤ 6 → k * (11 + 8 * n) ≤ 4
 bytes-few k n h u = let f : 11 + 8 * n ≤ 59 = omega arith in let g : k * (11 + 8 * n) ≤ 768 * 59 = mul-le-mul h f in omega arith
 
 module _ (m : List ℤ) (h : Head m) where
-  pub full : Filled m
-  full = words-per-location (n# m) (h .n-positive) (h .n-small)
 
   pub keys-few : keys m ≤ 768
   keys-few = faces-few (L# m) (n# m) (h .L-small) (h .n-small)
 
-  -- the table has one face for each key
-  pub size-is : keys m * faceSize (n# m) ≡ tableSize m
-  unfolding tableSize
-  size-is = rw full (omega arith)
-
   pub longest-is : longestTableFile m ≡ 7 + keys m * (11 + 8 * n# m)
   unfolding longestTableFile
   longest-is = refl
-
-  -- face f of location l stands at its key
-  pub face-key : (l f : ℕ) → faceAt m l f ≡ (l * (2 * n# m) + f) * faceSize (n# m)
-  unfolding faceAt
-  face-key l f = rw full (omega arith)
 
   -- as the code computes them, from l locations and n variables
   module _ {l n : ℕ} (el : l ≡ L# m) (en : n ≡ n# m) where
@@ -131,16 +119,16 @@ pub counted-more : (n : ℕ) (t : List ℤ) (k : ℕ) {at count p : ℕ} → at 
 unfolding sumBelow
 counted-more n t k {at} e ec ep = ap₂ _+_ ec (ep ∙ presence-read n t at ∙ ap (λ (x : ℕ). presence (faceRead n t x)) e) ∙ rw (add-one k) refl
 
-counted-keys : (m t : List ℤ) → Head m → countedBelow (n# m) t (keys m) ≡ presentFaces m t
+counted-keys : (m t : List ℤ) → countedBelow (n# m) t (keys m) ≡ presentFaces m t
 unfolding presentFaces faceOf
-counted-keys m t h = sym (sum-keys (L# m) (2 * n# m) (λ l f. presence (faceOf m t l f)) (λ q. presence (faceRead (n# m) t (q * faceSize (n# m)))) (λ l f u v. rw (face-key m h l f) refl))
+counted-keys m t = sym (sum-keys (L# m) (2 * n# m) (λ l f. presence (faceOf m t l f)) (λ q. presence (faceRead (n# m) t (q * faceSize (n# m)))) (λ l f u v. rw (face-key m l f) refl))
 
 module _ (m : List ℤ) (h : Head m) {l n : ℕ} (el : l ≡ L# m) (en : n ≡ n# m) where
   -- face k lies in the table
   pub row-inside : {k at : ℕ} → k < l * (2 * n) → at ≡ k * faceSize n → at + faceSize n ≤ tableSize m
   row-inside {k} u e =
       let v : k < keys m = rw (en, el) at u in
-      rw en (omega (arith, row-within (faceSize (n# m)) v, size-is m h, rw en at e))
+      rw en (omega (arith, row-within (faceSize (n# m)) v, size-keys m, rw en at e))
 
   pub row-few : {k at : ℕ} → k < l * (2 * n) → at ≡ k * faceSize n → at + faceSize n ≤ 9984
   row-few u e = omega (arith, row-inside u e, table-most m h)
@@ -151,7 +139,7 @@ module _ (m : List ℤ) (h : Head m) {l n : ℕ} (el : l ≡ L# m) (en : n ≡ n
   pub counted-all : (t : List ℤ) {k count : ℕ} → k ≤ l * (2 * n) → l * (2 * n) ≤ k → count ≡ countedBelow n t k → count ≡ presentFaces m t
   counted-all t {k} u v e =
       let ek : k ≡ keys m = omega (arith, ap₂ (λ (a b : ℕ). a * (2 * b)) el en) in
-      e ∙ ap₂ (λ (a b : ℕ). countedBelow a t b) en ek ∙ counted-keys m t h
+      e ∙ ap₂ (λ (a b : ℕ). countedBelow a t b) en ek ∙ counted-keys m t
 
 pub next-row : (n k : ℕ) {at size : ℕ} → size ≡ faceSize n → at ≡ k * faceSize n → at + size ≡ (k + 1) * faceSize n
 next-row n k es e = omega arith
@@ -247,10 +235,10 @@ pub longest-least : (m : List ℤ) → 7 ≤ longestTableFile m
 unfolding longestTableFile
 longest-least m = omega arith
 
-fields-keys : (m t : List ℤ) → Head m → cat (keys m) (fieldOf (n# m) t) ≡ faceFields m t
+fields-keys : (m t : List ℤ) → cat (keys m) (fieldOf (n# m) t) ≡ faceFields m t
 unfolding faceFields faceOf
-fields-keys m t h = sym (cat-keys (L# m) (2 * n# m) (λ l f. faceField (n# m) l f (faceOf m t l f)) (fieldOf (n# m) t)
-    (λ l f u v. rw (face-key m h l f, key-location (2 * n# m) l f v, key-face (2 * n# m) l f v) refl))
+fields-keys m t = sym (cat-keys (L# m) (2 * n# m) (λ l f. faceField (n# m) l f (faceOf m t l f)) (fieldOf (n# m) t)
+    (λ l f u v. rw (face-key m l f, key-location (2 * n# m) l f v, key-face (2 * n# m) l f v) refl))
 
 module _ (m t : List ℤ) (d : List ℕ) (r : WriteReady m t d) {l n : ℕ} (el : l ≡ L# m) (en : n ≡ n# m) where
   h : Head m
@@ -282,7 +270,7 @@ module _ (m t : List ℤ) (d : List ℕ) (r : WriteReady m t d) {l n : ℕ} (el 
   pub written-all : {k to : ℕ} {x : List ℕ} → k ≤ l * (2 * n) → l * (2 * n) ≤ k → Written n t d k to x → (x ≡ onto (take 7 d ++ faceFields m t) d) × (to ≡ 7 + length (faceFields m t))
   written-all {k} {to} {x} u v w =
       let ek : k ≡ keys m = omega (arith, ap₂ (λ (a b : ℕ). a * (2 * b)) el en) in
-      let all : cat k (fieldOf n t) ≡ faceFields m t = ap₂ (λ (a b : ℕ). cat b (fieldOf a t)) en ek ∙ fields-keys m t h in
+      let all : cat k (fieldOf n t) ≡ faceFields m t = ap₂ (λ (a b : ℕ). cat b (fieldOf a t)) en ek ∙ fields-keys m t in
       (w .file-is ∙ ap (λ (s : List ℕ). onto (take 7 d ++ s) d) all, w .to-is ∙ ap (λ (s : List ℕ). 7 + length s) all)
 
 -- ---- the whole file
@@ -307,7 +295,7 @@ unfolding tableFile
 file-length m t = omega (arith, length-append (field 6 (wordBytes (pos (presentFaces m t)))) (faceFields m t), length-field 6 (wordBytes (pos (presentFaces m t))), length-word (pos (presentFaces m t)))
 
 pub present-few : (m t : List ℤ) → Head m → presentFaces m t ≤ 768
-present-few m t h = omega (arith, counted-keys m t h, counted-le (n# m) t (keys m), keys-few m h)
+present-few m t h = omega (arith, counted-keys m t, counted-le (n# m) t (keys m), keys-few m h)
 
 -- ---- how the call ends
 

@@ -18,7 +18,6 @@ use Rattle.plant.specs.Box.{low, high, boxBy, boxAt, hull, Face, absent, presen
 use Rattle.plant.specs.Model.{n#, L#}
 use Rattle.plant.specs.Tables.{wordsPerLocation, faceSize, tableSize, faceAt, faceRead}
 use Rattle.plant.proofs.Boxes.{low-boxBy, high-boxBy, length-boxBy, box-ext, low-boxAt, high-boxAt, length-boxAt, box-ends, length-hull}
-use Rattle.plant.proofs.Tables.{words-per-location}
 use Rattle.records.specs.Whole.{Head}
 
 -- ---- a buffer that is filled from the front
@@ -146,12 +145,10 @@ joined n x g e f = f ∙ ap (λ (s : List ℤ). faceWords n (join n (faceRead n 
 
 -- ---- where a face begins
 
-pub words-small : (n : ℕ) → 1 ≤ n → n ≤ 6 → wordsPerLocation n ≤ 156
-words-small n p q =
-    let a : 2 * n ≤ 12 = omega arith in
-    let b : faceSize n ≤ 13 = omega arith in
-    let g : 2 * n * faceSize n ≤ 12 * 13 = mul-le-mul a b in
-    omega (arith, words-per-location n p q)
+-- words per location grow with the number of variables
+pub words-grow : (n k : ℕ) → n ≤ k → wordsPerLocation n ≤ wordsPerLocation k
+unfolding wordsPerLocation
+words-grow n k h = let a : 2 * n ≤ 2 * k = omega arith in let b : faceSize n ≤ faceSize k = omega arith in mul-le-mul a b
 
 -- within its location
 pub within-small : (n f : ℕ) → n ≤ 6 → f ≤ 12 → f * faceSize n ≤ 156
@@ -174,8 +171,9 @@ module _ (m : List ℤ) where
 
   module _ (h : Head m) where
     pub faces-small : (l : ℕ) → l ≤ 64 → faceAt m l 0 ≤ 9984
+    unfolding wordsPerLocation
     faces-small l k =
-        let a : l * wordsPerLocation (n# m) ≤ 64 * 156 = mul-le-mul k (words-small (n# m) (h .n-positive) (h .n-small)) in
+        let a : l * wordsPerLocation (n# m) ≤ 64 * 156 = mul-le-mul k (words-grow (n# m) 6 (h .n-small)) in
         omega (arith, faces-begin l)
 
     -- the largest table: 64 locations of 6 variables

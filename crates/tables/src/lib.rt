@@ -17,22 +17,20 @@ pub const FEW_WORDS: usize = 1280;
 
 pub const MOST_WORDS: usize = 9984;
 
-// Words per location, of 1 to 6 variables. In bytes, since the compiler writes the table anew where it is read.
-const SIZES: [u8; 6] = [6, 20, 42, 72, 110, 156];
-
-fn words_per_location(n: usize) -> usize
-    requires { ⌜ (1 ≤ n) × (n ≤ 6) ⌝ }
-    ensures { λ r. ⌜ r ≡ wordsPerLocation n ⌝ }
-{
-    SIZES[n - 1] as usize
-}
-
 // How many words a face of n variables has: flag, then low and high per variable.
 pub fn face_size(n: usize) -> usize
-    requires { ⌜ n ≤ 6 ⌝ }
+    requires { ⌜ n ≤ 7 ⌝ }
     ensures { λ r. ⌜ r ≡ faceSize n ⌝ }
 {
     1 + 2 * n
+}
+
+// Words per location of n variables: 2n faces of 1 + 2n words. Models have up to 6 variables; it holds for 7 too.
+fn words_per_location(n: usize) -> usize
+    requires { ⌜ n ≤ 7 ⌝ }
+    ensures { λ r. ⌜ r ≡ wordsPerLocation n ⌝ }
+{
+    2 * n * face_size(n)
 }
 
 // How many words a table of the model has.

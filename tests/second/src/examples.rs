@@ -31,6 +31,13 @@ pub fn plant_p_wider() -> Vec<i32> {
     vec![1, 0, 0, 2, 10, 1, 10, 10, 10, 10, 0, 0, 0, 0, 0, 1, 0, 10, 10, 10]
 }
 
+/// One location of n variables in which everything stays at 0. Words and file are whole for n 7 too,
+/// which is refused.
+pub fn at_rest(n: usize) -> Draft {
+    let location = LocationDraft { invariant: vec![0; 2 * n], rates: vec![0; 2 * n], start: None };
+    Draft { n, locations: vec![location], ..Draft::default() }
+}
+
 /// Figure 1 of source 000 as a plant: x from 1 to 7, y from 1 to 7, the start is face F1
 /// (x 1, y 2..5), rates x 1..1, y 1..2. The face on y = 7 is F2: x 2..6.
 pub fn figure_1() -> Draft {

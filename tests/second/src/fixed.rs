@@ -3,7 +3,6 @@
 //! and check stand in `fixed_calls`.
 
 use crate::compare::{hex, written_table, Comparison, Difference, MOST_ROOM};
-use crate::draft::{Draft, LocationDraft};
 use crate::examples;
 use crate::files::{field, model_file, model_of_file, table_file};
 use crate::generate::byte_of_word;
@@ -82,11 +81,6 @@ fn p_up_to(level: i32) -> Vec<u8> {
 }
 
 /// One location of six variables; its first word is the last byte of the head's first word.
-fn six_variables() -> Vec<u8> {
-    let six = LocationDraft { invariant: vec![0; 12], rates: vec![0; 12], start: None };
-    model_file(&Draft { n: 6, locations: vec![six], ..Draft::default() }.words())
-}
-
 impl Comparison {
     /// All of them.
     pub fn fixed_cases(&mut self) -> Result<(), Difference> {
@@ -141,9 +135,10 @@ impl Comparison {
 
     fn other_answers(&mut self) -> Result<(), Difference> {
         let (unknown, no_start) = (p_unknown_file(), p_without_start());
-        let six = six_variables();
-        let mut seven = six.clone();
-        seven[6] = 7;
+        let six = model_file(&examples::at_rest(6).words());
+        let seven = model_file(&examples::at_rest(7).words());
+        let mut six_called_seven = six.clone();
+        six_called_seven[6] = 7;
         self.decide_gives("P, x 5, y 9..10 forbidden", &unknown, P_ROOM, 9, answer(101, 0))?;
         self.decide_gives("P, the same under limit 0", &unknown, P_ROOM, 0, answer(101, 0))?;
         self.decide_gives("P without a start, limit 0", &no_start, P_ROOM, 0, answer(100, 0))?;
@@ -151,6 +146,8 @@ impl Comparison {
         self.decide_gives("level 1,000,001", &p_up_to(1_000_001), P_ROOM, 50, answer(11, 0))?;
         self.decide_gives("n 6", &six, MOST_ROOM, 5, answer(100, 0))?;
         self.decide_gives("n 7", &seven, MOST_ROOM, 5, answer(2, 0))?;
+        self.check_gives("n 7", &seven, &field(6, &[0]), 2)?;
+        self.decide_gives("n 7, records of n 6", &six_called_seven, MOST_ROOM, 5, answer(2, 0))?;
         self.decide_gives("an empty file", &[], P_ROOM, 5, answer(1, 0))?;
         self.decide_gives("tag 9", &field(9, &[1, 1, 0, 0]), P_ROOM, 5, answer(1, 0))?;
         Ok(())

@@ -1,15 +1,15 @@
 //! The fixed cases of the C calls beside decide and check: document 01's numbers, and sweeps over
 //! every length, every cut, every bit and every word of small inputs.
 
-use crate::compare::{Comparison, Difference};
+use crate::compare::{Comparison, Difference, MOST_ROOM};
 use crate::desk::Desk;
 use crate::draft::{Draft, LocationDraft};
 use crate::examples;
 use crate::exports::{Call, Input, Slice};
-use crate::files::{model_file, table_file};
+use crate::files::{field, model_file, table_file};
 use crate::fixed::EDGES;
 use crate::lending::{Left, Lengths};
-use crate::model::{Plant, LEVEL};
+use crate::model::{words_per_location, Plant, LEVEL};
 
 /// Everything that a call can be handed for one model, all of the exact length.
 struct Whole {
@@ -57,6 +57,7 @@ impl Comparison {
     pub(crate) fn fixed_calls(&mut self) -> Result<(), Difference> {
         self.numbers_of_p()?;
         self.numbers_of_lists()?;
+        self.seven_variables()?;
         self.numbers_of_the_desk()?;
         self.every_length()?;
         self.every_word_of_a_model()?;
@@ -147,6 +148,20 @@ impl Comparison {
         let largest = Draft { n: 6, locations: vec![location; 64], ..Draft::default() }.words();
         let input = Input { model: &largest, ..none };
         self.gives("the largest ceiling", Call::Ceiling, &input, &lengths, (100, 7_680_000_768))?;
+        Ok(())
+    }
+
+    /// A whole model of seven variables, with room for its 210 words (document 02, T-04): still refused by 2.
+    fn seven_variables(&mut self) -> Result<(), Difference> {
+        let model = examples::at_rest(7).words();
+        let (table, file) = (vec![0; words_per_location(7)], model_file(&model));
+        for call in Call::ALL {
+            let file = if call == Call::ReadModel { file.clone() } else { field(6, &[0]) };
+            let words = if call == Call::ReadModel { model.len() } else { table.len() };
+            let lengths = Lengths { words, work: table.len(), file: MOST_ROOM };
+            let input = Input { model: &model, table: &table, file: &file, limit: LIMIT };
+            self.gives("n 7", call, &input, &lengths, (2, 0))?;
+        }
         Ok(())
     }
 

@@ -13,8 +13,10 @@ pub const MAX_FORBIDDEN: usize = 64;
 /// Room for the bounds of one box of the largest n.
 pub const MAX_BOX: usize = 2 * MAX_VARIABLES;
 
-/// Table words of one location, for n = 1 to 6.
-pub const WORDS_PER_LOCATION: [usize; 6] = [6, 20, 42, 72, 110, 156];
+/// Table words of one location (document 02, T-04).
+pub fn words_per_location(n: usize) -> usize {
+    2 * n * (1 + 2 * n)
+}
 
 /// The four numbers at the head of a model, once they have been allowed.
 #[derive(Clone, Copy, Debug, PartialEq, Eq)]
@@ -75,11 +77,11 @@ impl Sizes {
     }
     /// Words of a whole table.
     pub fn table_words(&self) -> usize {
-        self.locations * WORDS_PER_LOCATION[self.n - 1]
+        self.locations * words_per_location(self.n)
     }
     /// Place of the flag of a face in a table.
     pub fn face_at(&self, l: usize, face: usize) -> usize {
-        l * WORDS_PER_LOCATION[self.n - 1] + face * self.face_words()
+        l * words_per_location(self.n) + face * self.face_words()
     }
     /// Bytes that a table file can need at most (question 39).
     pub fn table_file_room(&self) -> usize {

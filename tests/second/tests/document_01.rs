@@ -9,7 +9,7 @@ use second::examples::*;
 use second::files::{field, model_file};
 use second::fraction::{down, up, Fraction};
 use second::listing::listing;
-use second::model::{Plant, Sizes, MAX_BOX, WORDS_PER_LOCATION};
+use second::model::{Plant, Sizes, MAX_BOX};
 use second::steps::wall_step;
 
 fn buffers(table: usize, work: usize) -> Buffers {
@@ -67,13 +67,6 @@ fn touching_of_the_starred_cases() {
         assert!(!touch(2, &start, &rates, &invariant, &[9, 10, 0, 4]));
         // A box whose cut is empty is never touched.
         assert!(!touch(2, &start, &rates, &invariant, &[11, 12, 0, 10]));
-    }
-}
-
-#[test]
-fn words_per_location() {
-    for n in 1..=6 {
-        assert_eq!(WORDS_PER_LOCATION[n - 1], 2 * n * (1 + 2 * n));
     }
 }
 
@@ -141,8 +134,7 @@ fn levels_and_sizes_at_their_edges() {
     assert!(calls::ceiling(&model).is_ok());
     model[7] = 1_000_001;
     assert_eq!(calls::ceiling(&model), Err(11));
-    let six = LocationDraft { invariant: vec![0; 12], rates: vec![0; 12], start: None };
-    let mut model = Draft { n: 6, locations: vec![six], ..Draft::default() }.words();
+    let mut model = at_rest(6).words();
     assert!(calls::ceiling(&model).is_ok());
     model[0] = 7;
     assert_eq!(calls::ceiling(&model), Err(2));

@@ -61,7 +61,7 @@ same-length-2 c = search needs
 
 returns : tie.Need-returns
 returns c =
-    is-answered _ _ _ (c .before .before .before .before .before .before .before .before .before .args .work .now) (model-asked _ _ _ (c .before .before .before .before .before .before .before .before .before .pre))
+    is-answered _ _ _ (c .before .before .before .before .before .before .before .before .before .args .work .now)
     _ (c .before .before .before .before .before .counted-passes .ensures .0) _ (c .before .before .before .before .before .counted-passes .ensures .1) _ (c .before .before .before .before .before .before .before .before .table-size .ensures)
     _ (c .before .clear .ensures ∙ ap (λ (n : ℕ). replicate n (pos 0)) (length-front (c .before .before .before .before .before .before .before .before .before .args .work .now) (c .before .before .before .before .before .counted-passes .last .1 .1 .1 .0) (c .before .before .before .before .before .before .before .before .table-size .result) (c .before .before .before .before .before .counted-passes .kept .1 .1 .1 .0)))
 

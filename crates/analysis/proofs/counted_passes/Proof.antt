@@ -27,7 +27,7 @@ ok : (h : Head) → Passed (h .before .before .before .before .args .model .now)
 ok h = passed (h .before .before .before .before .args .model .now) (h .before .before .before .before .pre .0 .passes)
 
 table-size : (h : Head) → length (h .loop .table) ≡ tableSize (h .before .before .before .before .args .model .now)
-table-size h = going-length _ _ _ _ _ (h .loop .inv) (ok h)
+table-size h = going-length _ _ _ _ _ (h .loop .inv)
 
 valid : (h : Head) → tableOk (h .before .before .before .before .args .model .now) (h .loop .table) ≡ true
 valid h = going-ok _ _ _ _ _ (h .loop .inv) (ok h)
@@ -60,7 +60,7 @@ loop-holds c =
     let a = c .before .before .before .args in
     let p = c .before .before .before .pre in
     subst (λ (t : List ℤ). Going (a .model .now) (a .limit) t (a .work .now) 0) (sym (c .before .clear .ensures))
-    (going-first (a .model .now) (passed (a .model .now) (p .0 .passes)) (a .limit) (a .table .now) (a .work .now) (p .0 .size) (p .1 .size))
+    (going-first (a .model .now) (a .limit) (a .table .now) (a .work .now) (p .0 .size) (p .1 .size))
 
 touching-requires : tie.Need-touching-requires Inv-loop μ-loop
 touching-requires c κs =

@@ -20,14 +20,14 @@ slice-reshare-prefix-put-table c = search needs
 slice-aggregate-put-table : tie.Need-slice-aggregate-put-table
 slice-aggregate-put-table c =
     let s = c .before .before .before .before .before .before .before .before in
-    answer-front _ (s .pre .0) _ (s .args .table .now) (s .args .work .now) (s .pre .2) (c .before .before .before .before .analyse-passed .ensures) (c .before .table-size .ensures) .lent
+    answer-front _ _ (s .args .table .now) (s .args .work .now) (s .pre .2) (c .before .before .before .before .analyse-passed .ensures) (c .before .table-size .ensures) .lent
 
 put-table-requires : tie.Need-put-table-requires
 put-table-requires c κs =
     let s = c .before .before .before .before .before .before .before .before .before in
     record {
       head = head-ready _ (s .pre .0);
-      room = omega (arith, c .before .before .table-size .ensures, answer-front _ (s .pre .0) _ (s .args .table .now) (s .args .work .now) (s .pre .2) (c .before .before .before .before .before .analyse-passed .ensures) (c .before .before .table-size .ensures) .lent);
+      room = omega (arith, c .before .before .table-size .ensures, answer-front _ _ (s .args .table .now) (s .args .work .now) (s .pre .2) (c .before .before .before .before .before .analyse-passed .ensures) (c .before .before .table-size .ensures) .lent);
       bytes = s .pre .1;
     }
 
@@ -46,7 +46,7 @@ same-length-3 c = search needs
 returns : tie.Need-returns
 returns c =
     let s = c .before .before .before .before .before .before .before .before .before .before .before .before .before in
-    is-decided _ (s .pre .0) _ (s .args .table .now) (s .args .work .now) (s .pre .2) (c .before .before .before .before .before .before .before .before .before .analyse-passed .ensures) _ (c .before .before .before .before .before .before .table-size .ensures) (c .pack-answer .ensures) (c .before .before .before .put-table .ensures .0)
+    is-decided _ _ (s .args .table .now) (s .args .work .now) (s .pre .2) (c .before .before .before .before .before .before .before .before .before .analyse-passed .ensures) _ (c .before .before .before .before .before .before .table-size .ensures) (c .pack-answer .ensures) (c .before .before .before .put-table .ensures .0)
 
 pub answer-with-spec : {M : Type 1} → statement M
 answer-with-spec =

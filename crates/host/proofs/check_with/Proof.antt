@@ -14,18 +14,18 @@ enum-known-read c = search needs
 slice-reshare-prefix-certificate-questions : tie.Need-slice-reshare-prefix-certificate-questions
 slice-reshare-prefix-certificate-questions c =
     let s = c .before .before .before .before .before .before .before in
-    table-front _ (s .pre .0) _ (s .args .table .now) (s .pre .1) (when (c .before .read .given .1) (c .before .before .before .before .read-faces .ensures)) .there
+    table-front _ _ (s .args .table .now) (s .pre .1) (when (c .before .read .given .1) (c .before .before .before .before .read-faces .ensures)) .there
 
 slice-aggregate-certificate-questions : tie.Need-slice-aggregate-certificate-questions
 slice-aggregate-certificate-questions c =
     let s = c .before .before .before .before .before .before .before .before in
-    table-front _ (s .pre .0) _ (s .args .table .now) (s .pre .1) (when (c .before .before .read .given .1) (c .before .before .before .before .before .read-faces .ensures)) .lent
+    table-front _ _ (s .args .table .now) (s .pre .1) (when (c .before .before .read .given .1) (c .before .before .before .before .before .read-faces .ensures)) .lent
 
 certificate-questions-requires : tie.Need-certificate-questions-requires
 certificate-questions-requires c κs =
     let s = c .before .before .before .before .before .before .before .before in
     let e = (when (c .before .before .read .given .1) (c .before .before .before .before .before .read-faces .ensures)) in
-    (record { passes = s .pre .0; size = table-sized _ (s .pre .0) _ (s .args .table .now) (s .pre .1) e }, table-valid _ (s .pre .0) _ (s .args .table .now) (s .pre .1) e)
+    (record { passes = s .pre .0; size = table-sized _ _ (s .args .table .now) (s .pre .1) e }, table-valid _ _ (s .args .table .now) (s .pre .1) e)
 
 verdict-code-requires : tie.Need-verdict-code-requires
 verdict-code-requires c κs = search needs
@@ -43,7 +43,7 @@ returns : tie.Need-returns
 returns c =
     let s = c .before .before .before .before .before .before .before .before .before .before in
     let e = (when (c .before .before .before .before .read .given .1) (c .before .before .before .before .before .before .before .read-faces .ensures)) in
-    file-asked _ _ (table-yes _ (s .pre .0) _ (s .args .table .now) (s .pre .1) e) (table-front _ (s .pre .0) _ (s .args .table .now) (s .pre .1) e .are) (c .before .certificate-questions .ensures) (c .verdict-code .ensures)
+    file-asked _ _ (table-yes _ _ (s .args .table .now) (s .pre .1) e) (table-front _ _ (s .args .table .now) (s .pre .1) e .are) (c .before .certificate-questions .ensures) (c .verdict-code .ensures)
 
 same-length-2 : tie.Need-same-length-2
 same-length-2 c = search needs
@@ -51,7 +51,7 @@ same-length-2 c = search needs
 returns-2 : tie.Need-returns-2
 returns-2 c =
     let s = c .before .before .before .before .before .before .before in
-    let e = table-refused _ (s .pre .0) _ (s .args .table .now) (s .pre .1) (when (c .before .read2 .given .1) (c .before .before .before .before .read-faces .ensures)) in
+    let e = table-refused _ _ (s .args .table .now) (s .pre .1) (when (c .before .read2 .given .1) (c .before .before .before .before .read-faces .ensures)) in
     file-refused _ _ (e .0) (e .1)
 
 pub check-with-spec : {M : Type 1} → statement M

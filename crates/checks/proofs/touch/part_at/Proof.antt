@@ -1,13 +1,12 @@
 -- Part 0 is the start part, any other a face.
-use mathlib.Core.Path.{_≡_, ap, sym, _∙_, subst}
+use mathlib.Core.Path.{_≡_, subst}
 use mathlib.Core.List.{List}
 use native.Mathlib.Omega.{arith}
 use Prim.Native.Nat.{ℕ, zero, suc, _+_, _*_, _-_, _<_, _≤_}
 use lib.IntN.{ℤ}
-use Rattle.plant.specs.Box.{Face}
 use Rattle.plant.specs.Model.{n#}
 use Rattle.plant.specs.Tables.{faceSize, tableSize, faceAt, startPart, faceOf, partOf}
-use Rattle.plant.proofs.Tables.{filled, face-inside}
+use Rattle.plant.proofs.Tables.{face-inside}
 use Rattle.tables.proofs.Faces.{table-most}
 use Rattle.plant.proofs.Passed.{Passed, passed}
 use Rattle.passes.specs.Parts.{IsPart}
@@ -53,7 +52,7 @@ module _ (c : tie.After-face-within) where
   inside =
       let s = c .before .before .before in
       let m = s .args .model .now in
-      omega (arith, at-is, c .before .variables .ensures, face-inside m (filled m (passed-at s)) (s .args .l) (s .args .p - 1) (s .pre .1) (is-face (c .before .before)))
+      omega (arith, at-is, c .before .variables .ensures, face-inside m (s .args .l) (s .args .p - 1) (s .pre .1) (is-face (c .before .before)))
 
 add-face : tie.Need-add-face
 add-face c = let s = c .before .before .before in omega (arith, inside c, table-most (s .args .model .now) (whole (s .args .model .now) (s .pre .0 .passes) .head))

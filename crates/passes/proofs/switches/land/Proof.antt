@@ -7,7 +7,7 @@ use Prim.Native.Nat.{ℕ, _+_, _-_, _*_, _≤_}
 use Rattle.plant.specs.Model.{n#, target, wallVariable, targetSide}
 use Rattle.plant.specs.Tables.{faceSize, faceAt, targetFace}
 use Rattle.records.specs.Whole.{Whole, Placed}
-use Rattle.passes.proofs.Reading.{whole, table-filled, placed, target-face, face-small}
+use Rattle.passes.proofs.Reading.{whole, placed, target-face, face-small}
 use Rattle.passes.proofs.Landing.{lands-inside, target-is-face, landed}
 use borrow.Author.Needs.{needs}
 use Rattle.passes.proofs.switches.land.Statement.{statement}
@@ -89,7 +89,7 @@ part-join-from-end c =
     let a = s .args in
     let m = a .model .now in
     let t = a .table .now in
-    omega (arith, at-is c, size-is c, lands-inside m t (table-filled m t (s .pre .0)) (a .e) (placed-at s .target-is) (target-face m t (s .pre .0) (a .e) (s .pre .1)) (a .out .now) (s .pre .2))
+    omega (arith, at-is c, size-is c, lands-inside m t (a .e) (placed-at s .target-is) (target-face m t (s .pre .0) (a .e) (s .pre .1)) (a .out .now) (s .pre .2))
 
 join-from-requires : tie.Need-join-from-requires
 join-from-requires c κs =
@@ -99,7 +99,7 @@ join-from-requires c κs =
     let t = a .table .now in
     let ok = s .pre .0 in
     let l = s .pre .1 in
-    (ok, l, target-is-face m t (table-filled m t ok) (a .e) (placed-at s .target-is) (target-face m t ok (a .e) l) (a .out .now) (s .pre .2) (at-is (c .before)) (part-is (c .before)))
+    (ok, l, target-is-face m t (a .e) (placed-at s .target-is) (target-face m t ok (a .e) l) (a .out .now) (s .pre .2) (at-is (c .before)) (part-is (c .before)))
 
 same-length : tie.Need-same-length
 same-length c = search needs
@@ -111,7 +111,7 @@ returns c =
     let m = a .model .now in
     let t = a .table .now in
     let ok = s .pre .0 in
-    landed m t (table-filled m t ok) (a .e) (placed-at s .target-is) (target-face m t ok (a .e) (s .pre .1)) (a .out .now) (s .pre .2) (at-is (c .before .before .before)) (part-is (c .before .before .before)) (c .before .join-from .ensures)
+    landed m t (a .e) (placed-at s .target-is) (target-face m t ok (a .e) (s .pre .1)) (a .out .now) (s .pre .2) (at-is (c .before .before .before)) (part-is (c .before .before .before)) (c .before .join-from .ensures)
 
 pub land-spec : {M : Type 1} → statement M
 land-spec =

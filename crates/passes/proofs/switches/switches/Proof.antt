@@ -7,7 +7,7 @@ use Prim.Native.Nat.{ℕ, _-_, _≤_, _<_}
 use Rattle.plant.specs.Model.{E#}
 use Rattle.plant.specs.Tables.{tableBy, wallsJoined}
 use Rattle.records.specs.Whole.{Whole}
-use Rattle.passes.proofs.Reading.{whole, table-filled}
+use Rattle.passes.proofs.Reading.{whole}
 use Rattle.passes.proofs.Landing.{joinedBelow, switches-none, switches-all, switches-more, is-table}
 use Rattle.passes.proofs.switches.switches.Statement.{statement}
 use Rattle.passes.proofs.switches.switches.Tie as tie
@@ -34,7 +34,7 @@ land-requires c κs =
     let t = s .args .table .now in
     let ok = s .pre .0 in
     let e : c .before .before .loop .e < E# m = omega (arith, c .before .loop-test .taken, c .before .before .before .switches .ensures) in
-    (ok, e, is-table m t (table-filled m t ok) (joinedBelow m t (c .before .before .loop .e)) (c .before .before .loop .inv .1))
+    (ok, e, is-table m t (joinedBelow m t (c .before .before .loop .e)) (c .before .before .loop .inv .1))
 
 add-e : tie.Need-add-e Inv-loop μ-loop
 add-e c = omega (arith, c .before .before .before .loop-test .taken, c .before .before .before .before .before .switches .ensures, whole-at (c .before .before .before .before .before .before) .head .E-small)
@@ -48,15 +48,14 @@ loop-again c =
     let m = s .args .model .now in
     let t = s .args .table .now in
     let ok = s .pre .0 in
-    (omega (arith, c .before .before .before .loop-test .taken, c .before .before .before .before .before .switches .ensures), c .before .land .ensures ∙ switches-more m t (table-filled m t ok) (c .before .before .before .before .loop .e) (c .before .before .before .before .loop .inv .1))
+    (omega (arith, c .before .before .before .loop-test .taken, c .before .before .before .before .before .switches .ensures), c .before .land .ensures ∙ switches-more m t (c .before .before .before .before .loop .e) (c .before .before .before .before .loop .inv .1))
 
 same-length : tie.Need-same-length Inv-loop μ-loop
 same-length c =
     let s = c .before .before .before in
     let m = s .args .model .now in
     let t = s .args .table .now in
-    let full = table-filled m t (s .pre .0) in
-    omega (arith, ap length (c .before .loop .inv .1), table-length m full (joinedBelow m t (c .before .loop .e)), ap length (s .pre .1), table-length m full (wallsJoined m t))
+    omega (arith, ap length (c .before .loop .inv .1), table-length m (joinedBelow m t (c .before .loop .e)), ap length (s .pre .1), table-length m (wallsJoined m t))
 
 returns : tie.Need-returns Inv-loop μ-loop
 returns c =

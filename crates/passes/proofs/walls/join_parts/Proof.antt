@@ -11,7 +11,7 @@ use Rattle.records.specs.Whole.{Whole}
 use Rattle.passes.specs.Joining.{locationBy}
 use Rattle.passes.specs.Parts.{IsPart}
 use Rattle.passes.proofs.PartWords.{face-place}
-use Rattle.passes.proofs.Reading.{LocationRead, whole, table-filled, table-small, start-is-part, face-is-part, joinedTo, joined-none, joined-all, joined-length, part-join, joined-more}
+use Rattle.passes.proofs.Reading.{LocationRead, whole, table-small, start-is-part, face-is-part, joinedTo, joined-none, joined-all, joined-length, part-join, joined-more}
 use Rattle.passes.proofs.walls.join_parts.Statement.{statement}
 use Rattle.passes.proofs.walls.join_parts.Tie as tie
 
@@ -74,7 +74,7 @@ module _ (c : tie.After-face-within Inv-loop μ-loop) where
   place-inside =
       let s = c .before .before .before .before .before .before .before .before .before .before in
       let m = s .args .model .now in
-      omega (arith, place-is, c .before .before .before .before .before .before .before .before .before .variables .ensures, face-inside m (table-filled m (s .args .table .now) (s .pre .0)) (s .args .l) (c .before .before .loop .f) (s .pre .1) (is-face (c .before)))
+      omega (arith, place-is, c .before .before .before .before .before .before .before .before .before .variables .ensures, face-inside m (s .args .l) (c .before .before .loop .f) (s .pre .1) (is-face (c .before)))
 
   place-small : c .before .before .before .before .before .before .before .before .before .before .args .at + c .face-within .result ≤ 9984
   place-small = let s = c .before .before .before .before .before .before .before .before .before .before in omega (arith, place-inside, table-small (s .args .model .now) (s .args .table .now) (s .pre .0))

@@ -31,7 +31,7 @@ mul-faces : tie.Need-mul-faces Inv-loop μ-loop
 mul-faces c = omega (arith, c .pre .n-small)
 
 face-size-requires : tie.Need-face-size-requires Inv-loop μ-loop
-face-size-requires c κs = c .pre .n-small
+face-size-requires c κs = omega (arith, c .pre .n-small)
 
 loop-holds : tie.Need-loop-holds Inv-loop μ-loop
 loop-holds c =

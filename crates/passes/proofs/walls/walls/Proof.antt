@@ -2,7 +2,6 @@
 use mathlib.Core.Path.{_≡_, refl, ap, _∙_}
 use native.Mathlib.Omega.{arith}
 use Prim.Native.Nat.{ℕ, _+_, _-_, _*_, _≤_, _<_}
-use borrow.Author.Needs.{needs}
 use Rattle.integers.specs.Words.{onto}
 use Rattle.integers.specs.Counted.{cat}
 use Rattle.plant.specs.Model.{n#, L#}
@@ -32,7 +31,7 @@ loop-holds c =
     let m = a .model .now in
     let t = a .table .now in
     let ok = s .pre .0 in
-    (omega arith, none-put (wordsPerLocation (n# m)) (locationsOf m t) (locations-sized m t ok) (a .out .now))
+    (omega arith, none-put (wordsPerLocation (n# m)) (locationsOf m t) (locations-sized m t) (a .out .now))
 
 is-location : (c : tie.In-loop Inv-loop μ-loop) → c .before .loop .l < L# (c .before .before .before .args .model .now)
 is-location c = omega (arith, c .loop-test .taken, c .before .before .locations .ensures)
@@ -77,7 +76,7 @@ part-walls-location-end c =
     let t = a .table .now in
     let ok = s .pre .0 in
     let i = c .before .before .before .loop in
-    omega (arith, inside c, s .pre .1, put-length (wordsPerLocation (n# m)) (locationsOf m t) (locations-sized m t ok) (a .out .now) (i .l) (i .inv .1) (omega (arith, from c, to c, inside c, s .pre .1)))
+    omega (arith, inside c, s .pre .1, put-length (wordsPerLocation (n# m)) (locationsOf m t) (locations-sized m t) (a .out .now) (i .l) (i .inv .1) (omega (arith, from c, to c, inside c, s .pre .1)))
 
 walls-location-requires : tie.Need-walls-location-requires Inv-loop μ-loop
 walls-location-requires c κs =
@@ -88,7 +87,7 @@ walls-location-requires c κs =
     let ok = s .pre .0 in
     let i = c .before .before .before .before .loop in
     let w = c .before in
-    (ok, is-location (w .before .before), w .before .faces-at .ensures, place-length (wordsPerLocation (n# m)) (locationsOf m t) (locations-sized m t ok) (a .out .now) (i .l) (i .inv .1) (from w) (to w) (omega (arith, inside w, s .pre .1)))
+    (ok, is-location (w .before .before), w .before .faces-at .ensures, place-length (wordsPerLocation (n# m)) (locationsOf m t) (locations-sized m t) (a .out .now) (i .l) (i .inv .1) (from w) (to w) (omega (arith, inside w, s .pre .1)))
 
 add-l : tie.Need-add-l Inv-loop μ-loop
 add-l c = omega (arith, is-location (c .before .before .before .before .before), whole-at (c .before .before .before .before .before .before .before .before) .head .L-small)
@@ -105,7 +104,7 @@ loop-again c =
     let ok = s .pre .0 in
     let i = c .before .before .before .before .before .before .loop in
     let w = c .before .before .before in
-    (omega (arith, is-location (w .before .before)), one-put (wordsPerLocation (n# m)) (locationsOf m t) (locations-sized m t ok) (a .out .now) (i .l) (i .inv .1) (from w) (to w) (omega (arith, inside w, s .pre .1)) (c .before .walls-location .ensures))
+    (omega (arith, is-location (w .before .before)), one-put (wordsPerLocation (n# m)) (locationsOf m t) (locations-sized m t) (a .out .now) (i .l) (i .inv .1) (from w) (to w) (omega (arith, inside w, s .pre .1)) (c .before .walls-location .ensures))
 
 same-length : tie.Need-same-length Inv-loop μ-loop
 same-length c =
@@ -115,7 +114,7 @@ same-length c =
     let t = a .table .now in
     let ok = s .pre .0 in
     let i = c .before .loop in
-    put-length (wordsPerLocation (n# m)) (locationsOf m t) (locations-sized m t ok) (a .out .now) (i .l) (i .inv .1) (table-within m t ok (i .l) (i .inv .0) (s .pre .1))
+    put-length (wordsPerLocation (n# m)) (locationsOf m t) (locations-sized m t) (a .out .now) (i .l) (i .inv .1) (table-within m t ok (i .l) (i .inv .0) (s .pre .1))
 
 returns : tie.Need-returns Inv-loop μ-loop
 returns c =
@@ -126,7 +125,7 @@ returns c =
     let ok = s .pre .0 in
     let i = c .before .loop in
     let e : i .l ≡ L# m = omega (arith, i .inv .0, c .loop-test .left, c .before .before .locations .ensures) in
-    all-put (wordsPerLocation (n# m)) (locationsOf m t) (locations-sized m t ok) (a .out .now) (L# m) (i .inv .1 ∙ ap (λ (k : ℕ). onto (cat k (locationsOf m t)) (a .out .now)) e) (table-sized m t ok (s .pre .1)) ∙ all-locations m t
+    all-put (wordsPerLocation (n# m)) (locationsOf m t) (locations-sized m t) (a .out .now) (L# m) (i .inv .1 ∙ ap (λ (k : ℕ). onto (cat k (locationsOf m t)) (a .out .now)) e) (table-sized m t ok (s .pre .1)) ∙ all-locations m t
 
 pub walls-spec : {M : Type 1} → statement M
 walls-spec =
