@@ -16,7 +16,7 @@ use Rattle.plant.specs.Box.{Face, absent, faceWords, join, joins}
 use Rattle.plant.specs.Model.{n#, L#, E#, target}
 use Rattle.plant.specs.Tables.{wordsPerLocation, faceSize, faceAt, tableBy, faceOf, targetFace, switchOnto, wallsJoined, newFace, pass}
 use Rattle.plant.proofs.Boxes.{length-face}
-use Rattle.plant.proofs.Tables.{words-per-location, words-ends, begins-itself, face-read, face-inside, table-ext, table-length}
+use Rattle.plant.proofs.Tables.{location-length, words-ends, begins-itself, face-read, face-inside, table-ext, table-length}
 use Rattle.passes.specs.Joining.{IsFace, IsTable, joinedWith, locationBy, landing, withSwitch}
 use Rattle.passes.proofs.Joined.{is-face, joined-words, join-absent, join-ends}
 use Rattle.passes.proofs.Blocks.{put-between, mid-between, Differ, differ}
@@ -55,7 +55,7 @@ module _ (m : List ℤ) (g h : ℕ → ℕ → Face) (l f : ℕ) (u : l < L# m) 
   before-length = omega (
     arith,
     length-append (cat l (λ l. locationBy (n# m) (g l))) (cat f (λ f. faceWords (n# m) (g l f))),
-    length-cat l (wordsPerLocation (n# m)) (λ l. locationBy (n# m) (g l)) (λ j w. length-cat (2 * n# m) (faceSize (n# m)) (λ f. faceWords (n# m) (g j f)) (λ i x. length-face (n# m) (g j i)) ∙ sym (words-per-location (n# m))),
+    length-cat l (wordsPerLocation (n# m)) (λ l. locationBy (n# m) (g l)) (λ j w. location-length (n# m) (g j)),
     length-cat f (faceSize (n# m)) (λ f. faceWords (n# m) (g l f)) (λ j w. length-face (n# m) (g l j)),
   )
 

@@ -3,7 +3,7 @@
 use mathlib.Core.Path.{_≡_, sym, ap, _∙_}
 use mathlib.Core.List.{List}
 use Prim.Native.Nat.{ℕ, _+_, _*_, _-_, _<_, _≤_}
-use native.Mathlib.Nat.{mul-le-mul, mul-le-mul-right}
+use native.Mathlib.Nat.{mul-le-mul-right}
 use native.Mathlib.Omega.{arith}
 use lib.IntN.{ℤ}
 use lib.ListN.{length}
@@ -12,16 +12,14 @@ use Rattle.integers.specs.Words.{onto}
 use Rattle.integers.specs.Counted.{cat}
 use Rattle.integers.proofs.Buffers.{cat-at, length-cat, cat-ext}
 use Rattle.plant.specs.Box.{Face, faceWords, join}
-use Rattle.plant.specs.Tables.{faceSize, faceRead}
+use Rattle.plant.specs.Tables.{wordsPerLocation, faceSize, faceRead}
 use Rattle.plant.proofs.Boxes.{length-face}
-use Rattle.plant.proofs.Tables.{ends, words-ends}
+use Rattle.plant.proofs.Tables.{words-per-location, location-length, ends, words-ends}
+use Rattle.tables.proofs.Faces.{words-grow}
 use Rattle.passes.specs.Joining.{IsFace, IsLocation, locationBy, faceIn, joinedWith, joinedAll}
 use Rattle.passes.proofs.Joined.{read-words, is-face, join-ends, joined-words}
 use Rattle.passes.proofs.PartWords.{face-there}
 use Rattle.passes.proofs.Blocks.{mid-between, place-rest}
-
-pub location-length : (n : ℕ) (g : ℕ → Face) → length (locationBy n g) ≡ 2 * n * faceSize n
-location-length n g = length-cat (2 * n) (faceSize n) (λ f. faceWords n (g f)) (λ f _. length-face n (g f))
 
 -- ---- the location with the faces g
 
@@ -47,14 +45,11 @@ module _ (n : ℕ) (g : ℕ → Face) where
 
 module _ (n : ℕ) (block : List ℤ) (loc : IsLocation n block) where
   pub block-length : length block ≡ 2 * n * faceSize n
-  block-length = ap length (sym loc) ∙ location-length n (faceIn n block)
+  block-length = ap length (sym loc) ∙ location-length n (faceIn n block) ∙ words-per-location n
 
   pub words-few : n ≤ 6 → length block ≤ 156
-  words-few h =
-      let a : 2 * n ≤ 12 = omega arith in
-      let b : faceSize n ≤ 13 = omega arith in
-      let k : 2 * n * faceSize n ≤ 12 * 13 = mul-le-mul a b in
-      omega (arith, block-length)
+  unfolding wordsPerLocation
+  words-few h = omega (arith, block-length, words-grow n 6 h)
 
   pub next-inside : (f : ℕ) → f < 2 * n → f * faceSize n + faceSize n ≤ length block
   next-inside f u = omega (arith, block-length, mul-le-mul-right (faceSize n) u)

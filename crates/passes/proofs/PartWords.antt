@@ -95,6 +95,18 @@ start-read : (m : List ℤ) (l : ℕ) → faceRead (n# m) m (locationAt m l + 4 
 unfolding startPart startFlag faceRead
 start-read m l = ap (λ (b : List ℤ). cond (eqZ (startFlag m l) (pos 1)) (present b) absent) (start-place m l)
 
+-- face f's words, at the place that code has
+module _ (m : List ℤ) (l : ℕ) (u : l < L# m) (t : List ℤ) (room : tableSize m ≤ length t) (f : ℕ) (v : f < 2 * n# m) {n at : ℕ} (n-is : n ≡ n# m) (at-is : at ≡ faceAt m l f) where
+  pub face-end : at + faceSize n ≤ length t
+  face-end = omega (arith, n-is, at-is, face-inside m l f u v)
+
+  pub face-part : {words : List ℤ} → words ≡ take (faceSize n) (drop at t) → IsPart (n# m) words (faceOf m t l f)
+  unfolding faceOf
+  face-part e = rw (e, at-is, n-is) (record {
+    sized = length-take-le (faceSize (n# m)) (drop (faceAt m l f) t) (omega (arith, length-drop (faceAt m l f) t, face-inside m l f u v));
+    gives = face-there (n# m) t (faceAt m l f);
+  })
+
 module _ (m : List ℤ) (ok : Passed m) (l : ℕ) (u : l < L# m) where
   -- the start part's words, from the number of variables and the location's place that code has
   module _ {n from : ℕ} (n-is : n ≡ n# m) (from-is : from ≡ locationAt m l) where
@@ -122,18 +134,6 @@ module _ (m : List ℤ) (ok : Passed m) (l : ℕ) (u : l < L# m) where
           (record { sized = length-startBox m (whole-passed m ok) l u; is-ordered = k .start-ordered e; inside = k .start-inside e })
 
   module _ (t : List ℤ) (room : tableSize m ≤ length t) where
-    -- face f's words, at the place that code has
-    module _ (f : ℕ) (v : f < 2 * n# m) {n at : ℕ} (n-is : n ≡ n# m) (at-is : at ≡ faceAt m l f) where
-      pub face-end : at + faceSize n ≤ length t
-      face-end = omega (arith, n-is, at-is, face-inside m l f u v)
-
-      pub face-part : {words : List ℤ} → words ≡ take (faceSize n) (drop at t) → IsPart (n# m) words (faceOf m t l f)
-      unfolding faceOf
-      face-part e = rw (e, at-is, n-is) (record {
-        sized = length-take-le (faceSize (n# m)) (drop (faceAt m l f) t) (omega (arith, length-drop (faceAt m l f) t, face-inside m l f u v));
-        gives = face-there (n# m) t (faceAt m l f);
-      })
-
     -- the box of a part is one of levels
     face-levels : T (tableOk m t) → (f : ℕ) → f < 2 * n# m → FaceAll (Levels (n# m)) (faceOf m t l f)
     unfolding faceOf faceRead

@@ -18,7 +18,7 @@ use Rattle.plant.specs.Model.{n#, L#, E#, invariant, rate, source, target, rese
 use Rattle.plant.specs.Steps.{switchStep}
 use Rattle.plant.specs.Tables.{faceSize, wordsPerLocation, tableSize, faceAt, tableBy, faceRead, faceOf, faceOk, tableOk, startPart, partOf, wallStepAt, wallFrom, wallsJoined, switchStepAt, sourceFace, targetFace}
 use Rattle.plant.proofs.Passed.{SwitchPassed, Passed, passed}
-use Rattle.plant.proofs.Tables.{words-per-location, face-inside, wordsOf}
+use Rattle.plant.proofs.Tables.{words-per-location, location-length, face-inside, wordsOf}
 use Rattle.tables.proofs.Faces.{faces-begin, face-begins, table-most}
 use Rattle.records.specs.Whole.{Whole, Placed}
 use Rattle.records.proofs.Positions.{length-guard, length-reset}
@@ -29,7 +29,7 @@ use Rattle.passes.specs.Parts.{IsPart}
 use Rattle.passes.specs.Joining.{PartOk, IsFace, PartJoin, SwitchJoin, joinedWith, joinedAll, wallsFrom, locationBy, landing}
 use Rattle.passes.proofs.PartWords.{levels-from, invariant-in, rate-in, face-part, part-levels, is-part-ok}
 use Rattle.passes.proofs.Joined.{words-kept}
-use Rattle.passes.proofs.Locations.{location-length, is-location, all-joined}
+use Rattle.passes.proofs.Locations.{is-location, all-joined}
 
 -- the wall of a face is one word of the invariant
 pub wall-word : (m : List ℤ) (l f : ℕ) → faceWall m l f ≡ word (invariant m l) f
@@ -64,13 +64,13 @@ module _ (m t : List ℤ) (ok : Checked m t) where
 
   pub face-is-part : (l f : ℕ) → l < L# m → f < 2 * n# m → {n at : ℕ} → n ≡ n# m → at ≡ faceAt m l f → {words : List ℤ} → words ≡ take (faceSize n) (drop at t) → IsPart (n# m) words (partOf m t l (f + 1))
   unfolding partOf
-  face-is-part l f u v e a h = rw (add-one f) (face-part m model-passed l u t (ok .ready .room) f v e a h)
+  face-is-part l f u v e a h = rw (add-one f) (face-part m l u t (ok .ready .room) f v e a h)
 
   -- the words of a face of the table are those of the face
   pub old-words : (l f : ℕ) → l < L# m → f < 2 * n# m → wordsOf m t l f ≡ faceWords (n# m) (faceOf m t l f)
   unfolding tableOk faceOk
   old-words l f u v =
-      let part : IsPart (n# m) (wordsOf m t l f) (faceOf m t l f) = face-part m model-passed l u t (ok .ready .room) f v {at = faceAt m l f} refl refl refl in
+      let part : IsPart (n# m) (wordsOf m t l f) (faceOf m t l f) = face-part m l u t (ok .ready .room) f v {at = faceAt m l f} refl refl refl in
       sym (words-kept (n# m) (invariant m l) (variableOf f) (faceWall m l f) (wordsOf m t l f) (part .sized)
       (all-yes (2 * n# m) (faceOk m t l) (all-yes (L# m) (λ l. allBelow (2 * n# m) (faceOk m t l)) (true-is (ok .valid)) l u) f v))
       ∙ ap (faceWords (n# m)) (part .gives)
@@ -97,7 +97,7 @@ module _ (m t : List ℤ) (ok : Checked m t) where
     joined-all = rw (add-one (2 * n# m))
 
     pub joined-length : (p : ℕ) → length (joinedTo p) ≡ 2 * n# m * faceSize (n# m)
-    joined-length p = location-length (n# m) (λ f. joins (n# m) p (wallFrom m t l f) (faceOf m t l f))
+    joined-length p = location-length (n# m) (λ f. joins (n# m) p (wallFrom m t l f) (faceOf m t l f)) ∙ words-per-location (n# m)
 
     module _ {n : ℕ} {inv rates : List ℤ} (r : LocationRead m l n inv rates) (p : ℕ) {part block : List ℤ} (part-is : IsPart (n# m) part (partOf m t l p)) (block-is : block ≡ joinedTo p) where
       pub part-join : p ≤ 2 * n# m → PartJoin n inv rates part block
@@ -154,7 +154,7 @@ unfolding tableBy
 all-locations m t = refl
 
 pub locations-sized : (m t : List ℤ) (l : ℕ) → length (locationsOf m t l) ≡ wordsPerLocation (n# m)
-locations-sized m t l = location-length (n# m) (wallsJoined m t l) ∙ sym (words-per-location (n# m))
+locations-sized m t l = location-length (n# m) (wallsJoined m t l)
 
 module _ (m t : List ℤ) (ok : Checked m t) where
   pub table-small : tableSize m ≤ 9984
@@ -163,6 +163,7 @@ module _ (m t : List ℤ) (ok : Checked m t) where
   pub face-small : (l f : ℕ) → l < L# m → f < 2 * n# m → faceAt m l f + faceSize (n# m) ≤ 9984
   face-small l f u v = omega (arith, face-inside m l f u v, table-small)
 
+module _ (m : List ℤ) where
   -- the words of location l: where they begin and end, by what code has
   module _ (l : ℕ) {at end : ℕ} (at-is : at ≡ faceAt m l 0) (end-is : end ≡ faceAt m (l + 1) 0) where
     pub location-from : at ≡ l * wordsPerLocation (n# m)

@@ -57,26 +57,26 @@ pub record Accepted (m t : List ℤ) : Type 0 where
   pub is-closed : Closed m t
   pub is-clear : T (not (touching m t))
 
+closed-of : (m t : List ℤ) → T (unchanged m t) → Closed m t
+unfolding unchanged pass
+closed-of m t h = record {
+  closed = λ l f u v.
+      face-trans (n# m) (newFace m t l f) (ends (n# m) (newFace m t l f)) (faceOf m t l f) (in-ends (n# m) (newFace m t l f))
+      (face-eq (n# m) (sym (face-read m t (newFace m t) (sym (equal-eq (pass m t) (take (tableSize m) t) h)) l f u v)));
+}
+
+pub accepted : (m t : List ℤ) → Accepts m t → Accepted m t
+unfolding checkerQuestions tableQuestions certificateQuestions
+accepted m t h =
+    let a : _ × _ = then-both (modelQuestions m) _ (accepts-yes m t h) in
+    let b : _ × _ = asked (leb (tableSize m) (length t)) 20 _ (omega arith) (a .1) in
+    let c : T (tableOk m t) × _ = asked (tableOk m t) 32 _ (omega arith) (b .1) in
+    let d : T (unchanged m t) × _ = asked (unchanged m t) 33 _ (omega arith) (c .1) in
+    record { is-valid = ok-valid m t (c .0); is-closed = closed-of m t (d .0); is-clear = ask-yes (not (touching m t)) 34 (omega arith) (d .1) }
+
 module _ (m : List ℤ) (asks : modelQuestions m ≡ 0) where
   ok : Passed m
   ok = passed m asks
-
-  closed-of : (t : List ℤ) → T (unchanged m t) → Closed m t
-  unfolding unchanged pass
-  closed-of t h = record {
-    closed = λ l f u v.
-        face-trans (n# m) (newFace m t l f) (ends (n# m) (newFace m t l f)) (faceOf m t l f) (in-ends (n# m) (newFace m t l f))
-        (face-eq (n# m) (sym (face-read m t (newFace m t) (sym (equal-eq (pass m t) (take (tableSize m) t) h)) l f u v)));
-  }
-
-  pub accepted : (t : List ℤ) → Accepts m t → Accepted m t
-  unfolding checkerQuestions tableQuestions certificateQuestions
-  accepted t h =
-      let a : _ × _ = then-both (modelQuestions m) _ (accepts-yes m t h) in
-      let b : _ × _ = asked (leb (tableSize m) (length t)) 20 _ (omega arith) (a .1) in
-      let c : T (tableOk m t) × _ = asked (tableOk m t) 32 _ (omega arith) (b .1) in
-      let d : T (unchanged m t) × _ = asked (unchanged m t) 33 _ (omega arith) (c .1) in
-      record { is-valid = ok-valid m t (c .0); is-closed = closed-of t (d .0); is-clear = ask-yes (not (touching m t)) 34 (omega arith) (d .1) }
 
   -- t holds table k if it holds the faces of which table k is made
   table-held : (t : List ℤ) (k : ℕ) → ((l f : ℕ) → l < L# m → f < 2 * n# m → FaceIn (n# m) (facesAfter m k l f) (faceOf m t l f)) → TableIn m (tableAfter m k) t
@@ -98,7 +98,7 @@ module _ (m : List ℤ) (asks : modelQuestions m ≡ 0) where
   -- so where table k touches, every list of words is refused
   pub touches-refused : (k : ℕ) → Touches m k → (t : List ℤ) → Accepts m t → ⊥
   touches-refused k h t a =
-      let g : Accepted m t = accepted t a in
+      let g : Accepted m t = accepted m t a in
       T-not (touching m t) (g .is-clear) (touching-mono m m ok (narrower-refl m) (tableAfter m k) t (after-valid m ok k) (holds-table t g k) h)
 
   -- ---- a table that repeats and touches nothing

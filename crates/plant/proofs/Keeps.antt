@@ -107,7 +107,7 @@ module _ (m : List ℤ) where
       sym (take-all (tableSize m) (tableAfter m k) (omega (arith, after-length k)))
       ∙ begins-again m (tableAfter m k) (facesAfter m k) (after-begins k)
 
--- it passes 32
+-- table k passes 32
 module _ (m : List ℤ) (ok : Passed m) where
   pub after-valid : (k : ℕ) → Valid m (tableAfter m k)
   after-valid zero = made-valid m (tableAfter m zero) (facesAfter m zero) (after-begins m zero) (λ l f u v. tt)

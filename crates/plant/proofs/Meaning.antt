@@ -1,6 +1,6 @@
 -- What the procedures mean, from the laws of each.
 use mathlib.Core.Path.{_≡_, refl, sym, subst}
-use mathlib.Core.List.{List, [], _∷_, map}
+use mathlib.Core.List.{List}
 use Prim.Native.Nat.{ℕ, _+_, _<_}
 use native.Mathlib.Omega.{arith}
 use lib.IntN.{ℤ}
@@ -144,15 +144,10 @@ switch-means m e l single = record {
   not-empty = λ g box e′. subst (FaceAll (Ordered (n# m))) e′ (switch-ordered m e g);
 }
 
--- ---- how large a table is
-
-seven-sizes : map wordsPerLocation (1 ∷ 2 ∷ 3 ∷ 4 ∷ 5 ∷ 6 ∷ 7 ∷ []) ≡ 6 ∷ 20 ∷ 42 ∷ 72 ∷ 110 ∷ 156 ∷ 210 ∷ []
-unfolding wordsPerLocation
-seven-sizes = refl
-
 -- ---- all of it
 
 pub meaning : Meaning
+unfolding wordsPerLocation
 meaning = record {
   delays = delays-exact;
   touching = touches-exact;
@@ -162,6 +157,6 @@ meaning = record {
   switch-step = switch-means;
   wall-grows = λ n inv rate rate′ part part′ d b ld parts rates larger wider. wall-mono n inv rate rate′ part part′ d b larger wider ld parts rates;
   switch-grows = switch-mono;
-  seven-sizes = seven-sizes;
-  table-sized = table-length;
+  seven-sizes = refl;
+  table-length = table-length;
 }

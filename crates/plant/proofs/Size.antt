@@ -115,16 +115,16 @@ unfolding size ceilingOf
 size-le-ceiling m t good = sum-le (L# m) (locationSum m t) _ (λ l u. sum-le (2 * n# m) (faceSum m t l) _ (λ f v. size-ceiling m l f (faceOf m t l f) (good .valid l f u v)))
 
 -- a pass only adds
-pub pass-grows : (m : List ℤ) → Passed m → (t : List ℤ) → TableIn m t (pass m t)
+pub pass-grows : (m t : List ℤ) → TableIn m t (pass m t)
 unfolding pass
-pass-grows m ok t = record {
+pass-grows m t = record {
   each = λ l f u v. subst (FaceIn (n# m) (faceOf m t l f)) (sym (face-read m (pass m t) (newFace m t) (begins-itself m (newFace m t)) l f u v))
       (face-trans (n# m) (faceOf m t l f) (newFace m t l f) (ends (n# m) (newFace m t l f)) (grows m t l f) (in-ends (n# m) (newFace m t l f)));
 }
 
 module _ (m : List ℤ) (ok : Passed m) (t : List ℤ) (good : Valid m t) where
   face-le : (l f : ℕ) → l < L# m → f < 2 * n# m → faceSum m t l f ≤ faceSum m (pass m t) l f
-  face-le l f u v = size-mono m l f (faceOf m t l f) (faceOf m (pass m t) l f) (good .valid l f u v) (pass-grows m ok t .each l f u v)
+  face-le l f u v = size-mono m l f (faceOf m t l f) (faceOf m (pass m t) l f) (good .valid l f u v) (pass-grows m t .each l f u v)
 
   location-le : (l : ℕ) → l < L# m → locationSum m t l ≤ locationSum m (pass m t) l
   location-le l u = sum-le (2 * n# m) (faceSum m t l) (faceSum m (pass m t) l) (λ f v. face-le l f u v)
@@ -132,7 +132,7 @@ module _ (m : List ℤ) (ok : Passed m) (t : List ℤ) (good : Valid m t) where
   -- a pass that does not raise the size leaves every face's words
   pub size-same : size m (pass m t) ≤ size m t → (l f : ℕ) → l < L# m → f < 2 * n# m → faceWords (n# m) (faceOf m (pass m t) l f) ≡ faceWords (n# m) (faceOf m t l f)
   unfolding size
-  size-same h l f u v = size-back m l f (faceOf m t l f) (faceOf m (pass m t) l f) (good .valid l f u v) (pass-valid m ok t good .valid l f u v) (pass-grows m ok t .each l f u v)
+  size-same h l f u v = size-back m l f (faceOf m t l f) (faceOf m (pass m t) l f) (good .valid l f u v) (pass-valid m ok t good .valid l f u v) (pass-grows m t .each l f u v)
       (sum-back (2 * n# m) (faceSum m t l) (faceSum m (pass m t) l) (λ f v. face-le l f u v)
       (sum-back (L# m) (locationSum m t) (locationSum m (pass m t)) location-le h l u) f v)
 

@@ -32,8 +32,11 @@ pub words-per-location : (n : ℕ) → wordsPerLocation n ≡ 2 * n * faceSize n
 unfolding wordsPerLocation
 words-per-location n = refl
 
+pub location-length : (n : ℕ) (g : ℕ → Face) → length (cat (2 * n) (λ f. faceWords n (g f))) ≡ wordsPerLocation n
+location-length n g = length-cat (2 * n) (faceSize n) (λ f. faceWords n (g f)) (λ f u. length-face n (g f)) ∙ sym (words-per-location n)
+
 -- a face's words lie in the table
-pub face-inside : (m : List ℤ) → (l f : ℕ) → l < L# m → f < 2 * n# m → faceAt m l f + faceSize (n# m) ≤ tableSize m
+pub face-inside : (m : List ℤ) (l f : ℕ) → l < L# m → f < 2 * n# m → faceAt m l f + faceSize (n# m) ≤ tableSize m
 unfolding faceAt tableSize
 face-inside m l f u v = omega (arith, mul-le-mul-right (wordsPerLocation (n# m)) u, mul-le-mul-right (faceSize (n# m)) v, words-per-location (n# m))
 
@@ -90,19 +93,16 @@ from-words n (present b) = refl
 -- ---- a table made of faces
 
 module _ (m : List ℤ) (g : ℕ → ℕ → Face) where
-  location-length : (l : ℕ) → length (cat (2 * n# m) (λ f. faceWords (n# m) (g l f))) ≡ wordsPerLocation (n# m)
-  location-length l = length-cat (2 * n# m) (faceSize (n# m)) (λ f. faceWords (n# m) (g l f)) (λ f u. length-face (n# m) (g l f)) ∙ sym (words-per-location (n# m))
-
   pub table-length : length (tableBy m g) ≡ tableSize m
   unfolding tableBy tableSize
-  table-length = length-cat (L# m) (wordsPerLocation (n# m)) (λ l. cat (2 * n# m) (λ f. faceWords (n# m) (g l f))) (λ l u. location-length l)
+  table-length = length-cat (L# m) (wordsPerLocation (n# m)) (λ l. cat (2 * n# m) (λ f. faceWords (n# m) (g l f))) (λ l u. location-length (n# m) (g l))
 
   -- word j of face f of location l
   pub table-word : (l f j : ℕ) → l < L# m → f < 2 * n# m → j < faceSize (n# m) → word (tableBy m g) (faceAt m l f + j) ≡ word (faceWords (n# m) (g l f)) j
   unfolding tableBy faceAt
   table-word l f j u v w =
       ap (word (tableBy m g)) (omega arith)
-      ∙ cat-at (L# m) (wordsPerLocation (n# m)) (λ l. cat (2 * n# m) (λ f. faceWords (n# m) (g l f))) (λ l u. location-length l) l (f * faceSize (n# m) + j) u
+      ∙ cat-at (L# m) (wordsPerLocation (n# m)) (λ l. cat (2 * n# m) (λ f. faceWords (n# m) (g l f))) (λ l u. location-length (n# m) (g l)) l (f * faceSize (n# m) + j) u
       (omega (arith, mul-le-mul-right (faceSize (n# m)) v, words-per-location (n# m)))
       ∙ cat-at (2 * n# m) (faceSize (n# m)) (λ f. faceWords (n# m) (g l f)) (λ f u. length-face (n# m) (g l f)) f j v w
 
@@ -116,15 +116,15 @@ table-ext m g h e = cat-ext (L# m) (λ l. cat (2 * n# m) (λ f. faceWords (n# m)
 abbrev pub Begins : List ℤ → List ℤ → (ℕ → ℕ → Face) → Type 0
 Begins m t g = take (tableSize m) t ≡ tableBy m g
 
-pub begins-itself : (m : List ℤ) → (g : ℕ → ℕ → Face) → Begins m (tableBy m g) g
+pub begins-itself : (m : List ℤ) (g : ℕ → ℕ → Face) → Begins m (tableBy m g) g
 begins-itself m g = take-all (tableSize m) (tableBy m g) (omega (arith, table-length m g))
 
 -- with words put behind it
-pub begins-onto : (m : List ℤ) → (g : ℕ → ℕ → Face) (s : List ℤ) → Begins m (onto (tableBy m g) s) g
+pub begins-onto : (m : List ℤ) (g : ℕ → ℕ → Face) (s : List ℤ) → Begins m (onto (tableBy m g) s) g
 unfolding onto
 begins-onto m g s = take-at (tableBy m g) (drop (length (tableBy m g)) s) (tableSize m) (table-length m g)
 
-module _ (m : List ℤ) (t : List ℤ) (g : ℕ → ℕ → Face) (begins : Begins m t g) where
+module _ (m t : List ℤ) (g : ℕ → ℕ → Face) (begins : Begins m t g) where
   pub long-enough : tableSize m ≤ length t
   long-enough = omega (arith, length-take (tableSize m) t, ap length begins, table-length m g)
 
@@ -228,7 +228,7 @@ ok-valid m t h = record {
 }
 
 -- words that begin with a table of such faces pass 32
-module _ (m : List ℤ) (t : List ℤ) (g : ℕ → ℕ → Face) (begins : Begins m t g)
+module _ (m t : List ℤ) (g : ℕ → ℕ → Face) (begins : Begins m t g)
     (ok : (l f : ℕ) → l < L# m → f < 2 * n# m → OkFace m l f (g l f)) where
   pub made-valid : Valid m t
   made-valid = record {

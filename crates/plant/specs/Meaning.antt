@@ -1,5 +1,5 @@
--- What the procedures of document 01, "Delays" and "Wall step and switch step", mean, and how large a table is, so that nobody has to
--- trust them: one record, proved by one theorem. Levels, delays and switches are those of "Runs".
+-- What the procedures of document 01, "Delays" and "Wall step and switch step", mean, so that nobody has to trust them: one record,
+-- proved by one theorem. Levels, delays and switches are those of "Runs". It also says how large a table is.
 use mathlib.Core.Path.{_≡_}
 use mathlib.Core.Logic.{_↔_}
 use mathlib.Core.Bool.{true}
@@ -158,4 +158,4 @@ pub record Meaning : Type 0 where
   -- words per location, of 1 to 7 variables (document 02, T-04)
   pub seven-sizes : map wordsPerLocation (1 ∷ 2 ∷ 3 ∷ 4 ∷ 5 ∷ 6 ∷ 7 ∷ []) ≡ 6 ∷ 20 ∷ 42 ∷ 72 ∷ 110 ∷ 156 ∷ 210 ∷ []
   -- a table, of whatever faces, has L times the words per location
-  pub table-sized : (m : List ℤ) (g : ℕ → ℕ → Face) → length (tableBy m g) ≡ tableSize m
+  pub table-length : (m : List ℤ) (g : ℕ → ℕ → Face) → length (tableBy m g) ≡ tableSize m

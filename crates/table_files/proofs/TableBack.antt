@@ -309,7 +309,6 @@ table-le m s =
     (omega (arith, ask-le (tableOk m (fileTable m s)) 32))
 
 module _ (m : List ℤ) (ok : Passed m) (s : List ℕ) (y : FieldsYes m s) where
-
   c : ℕ
   c = count# s
 

@@ -222,7 +222,7 @@ fields-made m s ec er ee e38 eq =
 
 -- ---- filling the table
 
-module _ (m : List ℤ) (h : Head m) (s : List ℕ) where
+module _ (m : List ℤ) (s : List ℕ) where
   abbrev N : ℕ
   N = 2 * n# m
 

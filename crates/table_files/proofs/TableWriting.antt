@@ -52,7 +52,6 @@ pub bytes-few : (k n : ℕ) → k ≤ 768 → n ≤ 6 → k * (11 + 8 * n) ≤ 4
 bytes-few k n h u = let f : 11 + 8 * n ≤ 59 = omega arith in let g : k * (11 + 8 * n) ≤ 768 * 59 = mul-le-mul h f in omega arith
 
 module _ (m : List ℤ) (h : Head m) where
-
   pub keys-few : keys m ≤ 768
   keys-few = faces-few (L# m) (n# m) (h .L-small) (h .n-small)
 

@@ -17,7 +17,7 @@ pub const FEW_WORDS: usize = 1280;
 
 pub const MOST_WORDS: usize = 9984;
 
-// How many words a face of n variables has: flag, then low and high per variable.
+// How many words a face of n variables has: flag, then low and high per variable. For n 7 too, as the next one.
 pub fn face_size(n: usize) -> usize
     requires { ⌜ n ≤ 7 ⌝ }
     ensures { λ r. ⌜ r ≡ faceSize n ⌝ }
@@ -25,7 +25,8 @@ pub fn face_size(n: usize) -> usize
     1 + 2 * n
 }
 
-// Words per location of n variables: 2n faces of 1 + 2n words. Models have up to 6 variables; it holds for 7 too.
+// Words per location of n variables: 2n faces of 1 + 2n words. Stated for n 7 too, though models have up to 6 variables
+// (document 02, T-04).
 fn words_per_location(n: usize) -> usize
     requires { ⌜ n ≤ 7 ⌝ }
     ensures { λ r. ⌜ r ≡ wordsPerLocation n ⌝ }

@@ -31,8 +31,8 @@ pub fn plant_p_wider() -> Vec<i32> {
     vec![1, 0, 0, 2, 10, 1, 10, 10, 10, 10, 0, 0, 0, 0, 0, 1, 0, 10, 10, 10]
 }
 
-/// One location of n variables in which everything stays at 0. Words and file are whole for n 7 too,
-/// which is refused.
+/// One location of n variables, all ranges 0..0, without a start. Words and file are whole for n 7
+/// too, which is refused.
 pub fn at_rest(n: usize) -> Draft {
     let location = LocationDraft { invariant: vec![0; 2 * n], rates: vec![0; 2 * n], start: None };
     Draft { n, locations: vec![location], ..Draft::default() }

@@ -1,4 +1,4 @@
-//! The comparison's fixed cases: document 01's, source 000's examples, the sample models, and
+//! The comparison's fixed cases: the documents', source 000's examples, the sample models, and
 //! sweeps over every cut, every bit and every word of small files. Those of the calls beside decide
 //! and check stand in `fixed_calls`.
 
@@ -80,7 +80,6 @@ fn p_up_to(level: i32) -> Vec<u8> {
     model_file(&draft.words())
 }
 
-/// One location of six variables; its first word is the last byte of the head's first word.
 impl Comparison {
     /// All of them.
     pub fn fixed_cases(&mut self) -> Result<(), Difference> {
@@ -138,7 +137,7 @@ impl Comparison {
         let six = model_file(&examples::at_rest(6).words());
         let seven = model_file(&examples::at_rest(7).words());
         let mut six_called_seven = six.clone();
-        six_called_seven[6] = 7;
+        six_called_seven[6] = 7; // the last byte of the head's first word
         self.decide_gives("P, x 5, y 9..10 forbidden", &unknown, P_ROOM, 9, answer(101, 0))?;
         self.decide_gives("P, the same under limit 0", &unknown, P_ROOM, 0, answer(101, 0))?;
         self.decide_gives("P without a start, limit 0", &no_start, P_ROOM, 0, answer(100, 0))?;

@@ -1,4 +1,4 @@
-//! The fixed cases of the C calls beside decide and check: document 01's numbers, and sweeps over
+//! The fixed cases of the C calls beside decide and check: the documents' numbers, and sweeps over
 //! every length, every cut, every bit and every word of small inputs.
 
 use crate::compare::{Comparison, Difference, MOST_ROOM};

@@ -1,13 +1,13 @@
 //! A second implementation of the plant checker.
 //!
-//! Written from document 01 and the readings alone, to be compared with the
+//! Written from documents 01 and 02 and their readings alone, to be compared with the
 //! program under test. It uses the standard library only.
 //!
-//! * `model`     – sizes, model words, questions 2 to 5 and 11 to 19
+//! * `model`     – sizes and places, model words, questions 2 to 5 and 11 to 19
 //! * `fraction`  – exact fractions
 //! * `delays`    – delays to a wall; touching by one delay for all variables
 //! * `steps`     – wall step, switch step, join
-//! * `tables`    – words per location, question 32, the pass
+//! * `tables`    – question 32, the pass
 //! * `ceiling`, `checker`, `analysis`, `desk`, `files`, `host`, `listing`
 //! * `calls`     – every public call as a function from values to values
 //! * `draft`     – a model in the making, and grids of cells

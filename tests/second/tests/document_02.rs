@@ -16,5 +16,5 @@ fn words_per_location_of_one_to_seven_variables() {
 fn seven_variables_are_refused() {
     let seven = at_rest(7).words();
     assert_eq!(calls::ceiling(&seven), Err(2));
-    assert_eq!(calls::checker(&seven, &vec![0; 210]), Err(2));
+    assert_eq!(calls::checker(&seven, &[0; 210]), Err(2));
 }

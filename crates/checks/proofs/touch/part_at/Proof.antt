@@ -69,7 +69,7 @@ returns-2 c =
     let m = s .args .model .now in
     let t = s .args .table .now in
     part-face m t (s .args .l) (s .args .p) (c .before .before .before .if1 .left)
-    (face-part m (passed-at s) (s .args .l) (s .pre .1) t (s .pre .0 .room) (s .args .p - 1) (is-face (c .before .before .before)) (c .before .before .variables .ensures) (at-is (c .before)) (c .face .ensures))
+    (face-part m (s .args .l) (s .pre .1) t (s .pre .0 .room) (s .args .p - 1) (is-face (c .before .before .before)) (c .before .before .variables .ensures) (at-is (c .before)) (c .face .ensures))
 
 pub part-at-spec : {M : Type 1} → statement M
 part-at-spec =

@@ -1,5 +1,5 @@
 -- The faces passed are all right.
-use mathlib.Core.Path.{_≡_, ap, _∙_}
+use mathlib.Core.Path.{_≡_, ap}
 use Prim.Native.Nat.{_*_, _-_, _≤_}
 use lib.ListN.{length}
 use Rattle.integers.specs.Counted.{allBelow}
@@ -43,7 +43,7 @@ face-requires c κs =
     let s = c .before .before .before .before .before in
     let n = c .before .before .before .before .variables in
     let ok : Passed (s .args .model .now) = passed (s .args .model .now) (s .pre .0 .passes) in
-    (omega (arith, n .ensures, ok .n-small), face-end (s .args .model .now) ok (s .args .l) (s .pre .1) (s .args .table .now) (s .pre .0 .room) (c .before .before .loop .f) (omega (arith, n .ensures)) (n .ensures) (c .face-at .ensures))
+    (omega (arith, n .ensures, ok .n-small), face-end (s .args .model .now) (s .args .l) (s .pre .1) (s .args .table .now) (s .pre .0 .room) (c .before .before .loop .f) (omega (arith, n .ensures)) (n .ensures) (c .face-at .ensures))
 
 face-ok-requires : tie.Need-face-ok-requires Inv-loop μ-loop
 face-ok-requires c κs =
@@ -54,7 +54,7 @@ face-ok-requires c κs =
       is-face = omega arith;
       n-small = omega (arith, n .ensures, ok .n-small);
       inv-length = omega (arith, ap length (c .before .before .before .before .invariant .ensures), length-invariant (s .args .model .now) (whole (s .args .model .now) (s .pre .0 .passes)) (s .args .l) (s .pre .1), n .ensures);
-      face-length = omega (arith, n .ensures, face-part (s .args .model .now) ok (s .args .l) (s .pre .1) (s .args .table .now) (s .pre .0 .room) (c .before .before .before .loop .f) (omega (arith, n .ensures)) (n .ensures) (c .before .face-at .ensures) (c .face .ensures) .sized);
+      face-length = omega (arith, n .ensures, face-part (s .args .model .now) (s .args .l) (s .pre .1) (s .args .table .now) (s .pre .0 .room) (c .before .before .before .loop .f) (omega (arith, n .ensures)) (n .ensures) (c .before .face-at .ensures) (c .face .ensures) .sized);
     }
 
 add-f : tie.Need-add-f Inv-loop μ-loop

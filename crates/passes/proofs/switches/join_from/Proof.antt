@@ -9,7 +9,7 @@ use Rattle.plant.specs.Tables.{faceAt, partOf, sourceFace}
 use Rattle.passes.specs.Parts.{IsPart}
 use Rattle.records.specs.Whole.{Whole, Placed}
 use Rattle.passes.proofs.PartWords.{face-end}
-use Rattle.passes.proofs.Reading.{model-passed, whole, placed, source-face, face-is-part, switch-join, step-joined}
+use Rattle.passes.proofs.Reading.{whole, placed, source-face, face-is-part, switch-join, step-joined}
 use borrow.Author.Needs.{needs}
 use Rattle.passes.proofs.switches.join_from.Statement.{statement}
 use Rattle.passes.proofs.switches.join_from.Tie as tie
@@ -69,7 +69,7 @@ face-requires c κs =
     let m = s .args .model .now in
     let t = s .args .table .now in
     let q = source-face m t (s .pre .0) (s .args .e) (s .pre .1) in
-    (omega (arith, c .before .before .before .before .variables .ensures, whole-at s .head .n-small), face-end m (model-passed m t (s .pre .0)) _ (q .0) t (s .pre .0 .ready .room) _ (q .1) (c .before .before .before .before .variables .ensures) (at-is c))
+    (omega (arith, c .before .before .before .before .variables .ensures, whole-at s .head .n-small), face-end m _ (q .0) t (s .pre .0 .ready .room) _ (q .1) (c .before .before .before .before .variables .ensures) (at-is c))
 
 target-requires : tie.Need-target-requires
 target-requires c κs = placed-at (c .before .before .before .before .before .before) .numbered

@@ -47,7 +47,6 @@ loop-again c =
     let s = c .before .before .before .before .before .before in
     let m = s .args .model .now in
     let t = s .args .table .now in
-    let ok = s .pre .0 in
     (omega (arith, c .before .before .before .loop-test .taken, c .before .before .before .before .before .switches .ensures), c .before .land .ensures ∙ switches-more m t (c .before .before .before .before .loop .e) (c .before .before .before .before .loop .inv .1))
 
 same-length : tie.Need-same-length Inv-loop μ-loop

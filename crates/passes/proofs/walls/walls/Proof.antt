@@ -30,7 +30,6 @@ loop-holds c =
     let a = s .args in
     let m = a .model .now in
     let t = a .table .now in
-    let ok = s .pre .0 in
     (omega arith, none-put (wordsPerLocation (n# m)) (locationsOf m t) (locations-sized m t) (a .out .now))
 
 is-location : (c : tie.In-loop Inv-loop μ-loop) → c .before .loop .l < L# (c .before .before .before .args .model .now)
@@ -48,13 +47,13 @@ faces-at-requires-2 c κs = let h = whole-at (c .before .before .before .before)
 -- the words of location l
 module _ (c : tie.After-faces-at2 Inv-loop μ-loop) where
   from : let a = c .before .before .before .before .before .args in c .before .faces-at .result ≡ c .before .before .before .loop .l * wordsPerLocation (n# (a .model .now))
-  from = let s = c .before .before .before .before .before in location-from (s .args .model .now) (s .args .table .now) (s .pre .0) (c .before .before .before .loop .l) (c .before .faces-at .ensures) (c .faces-at2 .ensures)
+  from = let s = c .before .before .before .before .before in location-from (s .args .model .now) (c .before .before .before .loop .l) (c .before .faces-at .ensures) (c .faces-at2 .ensures)
 
   to : let a = c .before .before .before .before .before .args in c .faces-at2 .result ≡ c .before .faces-at .result + wordsPerLocation (n# (a .model .now))
-  to = let s = c .before .before .before .before .before in location-to (s .args .model .now) (s .args .table .now) (s .pre .0) (c .before .before .before .loop .l) (c .before .faces-at .ensures) (c .faces-at2 .ensures)
+  to = let s = c .before .before .before .before .before in location-to (s .args .model .now) (c .before .before .before .loop .l) (c .before .faces-at .ensures) (c .faces-at2 .ensures)
 
   inside : c .faces-at2 .result ≤ tableSize (c .before .before .before .before .before .args .model .now)
-  inside = let s = c .before .before .before .before .before in location-inside (s .args .model .now) (s .args .table .now) (s .pre .0) (c .before .before .before .loop .l) (c .before .faces-at .ensures) (c .faces-at2 .ensures) (is-location (c .before .before)) refl
+  inside = let s = c .before .before .before .before .before in location-inside (s .args .model .now) (c .before .before .before .loop .l) (c .before .faces-at .ensures) (c .faces-at2 .ensures) (is-location (c .before .before)) refl
 
   small : c .faces-at2 .result ≤ 9984
   small = let s = c .before .before .before .before .before in omega (arith, inside, table-small (s .args .model .now) (s .args .table .now) (s .pre .0))
@@ -74,7 +73,6 @@ part-walls-location-end c =
     let a = s .args in
     let m = a .model .now in
     let t = a .table .now in
-    let ok = s .pre .0 in
     let i = c .before .before .before .loop in
     omega (arith, inside c, s .pre .1, put-length (wordsPerLocation (n# m)) (locationsOf m t) (locations-sized m t) (a .out .now) (i .l) (i .inv .1) (omega (arith, from c, to c, inside c, s .pre .1)))
 
@@ -101,7 +99,6 @@ loop-again c =
     let a = s .args in
     let m = a .model .now in
     let t = a .table .now in
-    let ok = s .pre .0 in
     let i = c .before .before .before .before .before .before .loop in
     let w = c .before .before .before in
     (omega (arith, is-location (w .before .before)), one-put (wordsPerLocation (n# m)) (locationsOf m t) (locations-sized m t) (a .out .now) (i .l) (i .inv .1) (from w) (to w) (omega (arith, inside w, s .pre .1)) (c .before .walls-location .ensures))
@@ -112,9 +109,8 @@ same-length c =
     let a = s .args in
     let m = a .model .now in
     let t = a .table .now in
-    let ok = s .pre .0 in
     let i = c .before .loop in
-    put-length (wordsPerLocation (n# m)) (locationsOf m t) (locations-sized m t) (a .out .now) (i .l) (i .inv .1) (table-within m t ok (i .l) (i .inv .0) (s .pre .1))
+    put-length (wordsPerLocation (n# m)) (locationsOf m t) (locations-sized m t) (a .out .now) (i .l) (i .inv .1) (table-within m (i .l) (i .inv .0) (s .pre .1))
 
 returns : tie.Need-returns Inv-loop μ-loop
 returns c =
@@ -122,10 +118,9 @@ returns c =
     let a = s .args in
     let m = a .model .now in
     let t = a .table .now in
-    let ok = s .pre .0 in
     let i = c .before .loop in
     let e : i .l ≡ L# m = omega (arith, i .inv .0, c .loop-test .left, c .before .before .locations .ensures) in
-    all-put (wordsPerLocation (n# m)) (locationsOf m t) (locations-sized m t) (a .out .now) (L# m) (i .inv .1 ∙ ap (λ (k : ℕ). onto (cat k (locationsOf m t)) (a .out .now)) e) (table-sized m t ok (s .pre .1)) ∙ all-locations m t
+    all-put (wordsPerLocation (n# m)) (locationsOf m t) (locations-sized m t) (a .out .now) (L# m) (i .inv .1 ∙ ap (λ (k : ℕ). onto (cat k (locationsOf m t)) (a .out .now)) e) (table-sized m (s .pre .1)) ∙ all-locations m t
 
 pub walls-spec : {M : Type 1} → statement M
 walls-spec =

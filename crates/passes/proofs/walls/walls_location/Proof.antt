@@ -14,7 +14,7 @@ module _ (c : tie.Start) where
   end-inside : c .args .at + length (c .args .block .now) ≤ tableSize (c .args .model .now)
   end-inside =
       let a = c .args in
-      omega (arith, c .pre .3, location-to (a .model .now) (a .table .now) (c .pre .0) (a .l) (c .pre .2) refl, location-inside (a .model .now) (a .table .now) (c .pre .0) (a .l) (c .pre .2) refl (c .pre .1) refl)
+      omega (arith, c .pre .3, location-to (a .model .now) (a .l) (c .pre .2) refl, location-inside (a .model .now) (a .l) (c .pre .2) refl (c .pre .1) refl)
 
   end-small : c .args .at + length (c .args .block .now) ≤ 9984
   end-small = omega (arith, end-inside, table-small (c .args .model .now) (c .args .table .now) (c .pre .0))

@@ -1,5 +1,5 @@
 -- The invariant: the table has the faces of the fields passed, each put over the words of its place.
-use mathlib.Core.Path.{_≡_, refl, sym, _∙_}
+use mathlib.Core.Path.{_≡_, sym, _∙_}
 use Prim.Native.Nat.{_+_, _*_, _-_, _≤_}
 use native.Mathlib.Omega.{arith}
 use borrow.Author.Needs.{needs}
@@ -72,7 +72,7 @@ faces-from-requires c κs = search needs
 
 loop-holds : tie.Need-loop-holds Inv-loop μ-loop
 loop-holds c =
-    (omega arith, omega (arith, c .faces-from .ensures), c .before .before .before .before .before .clear .ensures ∙ table-none _ (c .before .before .before .before .before .before .before .before .pre .0) _ _ (c .before .before .before .before .before .before .before .before .pre .2))
+    (omega arith, omega (arith, c .faces-from .ensures), c .before .before .before .before .before .clear .ensures ∙ table-none _ _ _ (c .before .before .before .before .before .before .before .before .pre .2))
 
 next-field-requires : tie.Need-next-field-requires Inv-loop μ-loop
 next-field-requires c κs = search needs
@@ -119,7 +119,7 @@ part-fill-face-start : tie.Need-part-fill-face-start Inv-loop μ-loop
 part-fill-face-start c = omega arith
 
 part-fill-face-end : tie.Need-part-fill-face-end Inv-loop μ-loop
-part-fill-face-end c = omega (arith, inside (c .before), table-size _ (c .before .before .before .before .before .before .before .before .before .before .before .before .before .before .before .before .before .before .pre .0) (c .before .before .before .before .before .before .before .before .before .before .before .before .before .before .before .before .before .before .args .file .now) (c .before .before .before .before .before .before .before .before .before .loop .i) (c .before .before .before .before .before .before .before .before .before .loop .inv .2))
+part-fill-face-end c = omega (arith, inside (c .before), table-size _ (c .before .before .before .before .before .before .before .before .before .before .before .before .before .before .before .before .before .before .args .file .now) (c .before .before .before .before .before .before .before .before .before .loop .i) (c .before .before .before .before .before .before .before .before .before .loop .inv .2))
 
 fill-face-requires : tie.Need-fill-face-requires Inv-loop μ-loop
 fill-face-requires c κs =
@@ -128,7 +128,7 @@ fill-face-requires c κs =
     let n = c .before .before .before .before .before .before .before .before .before .before .before .before .before .before .variables in
     let size = c .before .before .before .before .before .before .before .before .before .before .before .before .before .face-size in (
       omega (arith, c .before .payload-length .ensures, ends (c .before .before .before .before .before)),
-      row-length (p .table) (c .before .before .face-at .result) (size .result) (omega (arith, inside (c .before .before), table-size _ (s .pre .0) (s .args .file .now) (p .i) (p .inv .2))) ∙ size .ensures,
+      row-length (p .table) (c .before .before .face-at .result) (size .result) (omega (arith, inside (c .before .before), table-size _ (s .args .file .now) (p .i) (p .inv .2))) ∙ size .ensures,
       omega (arith, n .ensures, s .pre .0 .n-small),
     )
 
@@ -147,19 +147,19 @@ loop-again c =
     let place = place-is _ (s .pre .0) _ (yes s) (c .before .before .before .before .before .before .before .before .before .before .before .before .before .before .count-of .ensures) _ _ (c .before .before .before .before .before .before .before .before .before .before .before .loop-test .taken) (p .inv .1) (l .0) (c .before .before .before .before .before .before .number-at .ensures) (c .before .before .before .before .before .number-at2 .ensures) (c .before .before .before .before .face-at .ensures) in (
       omega arith,
       place-next (s .args .model .now) (s .args .file .now) (p .i) (p .inv .1) (l .2),
-      table-put _ (s .pre .0) (s .args .file .now) (p .i) (c .before .before .before .before .before .before .before .before .field .given .0 .1 .0) (p .table) _ n (c .before .before .before .before .before .before .before .before .before .before .before .before .before .before .before .face-size .ensures) (omega (arith, l .0, p .inv .1)) (place-yes-at _ (s .pre .0) _ (yes s) (c .before .before .before .before .before .before .before .before .before .before .before .before .before .before .count-of .ensures) _ _ (c .before .before .before .before .before .before .before .before .before .before .before .loop-test .taken) (p .inv .1)) (p .inv .2) place (omega (arith, c .before .before .before .payload-length .ensures)) (c .before .fill-face .ensures),
+      table-put _ (s .args .file .now) (p .i) (c .before .before .before .before .before .before .before .before .field .given .0 .1 .0) (p .table) _ n (c .before .before .before .before .before .before .before .before .before .before .before .before .before .before .before .face-size .ensures) (omega (arith, l .0, p .inv .1)) (place-yes-at _ (s .pre .0) _ (yes s) (c .before .before .before .before .before .before .before .before .before .before .before .before .before .before .count-of .ensures) _ _ (c .before .before .before .before .before .before .before .before .before .before .before .loop-test .taken) (p .inv .1)) (p .inv .2) place (omega (arith, c .before .before .before .payload-length .ensures)) (c .before .fill-face .ensures),
     )
 
 same-length-2 : tie.Need-same-length-2 Inv-loop μ-loop
 same-length-2 c =
-    table-size _ (c .before .before .before .before .before .before .before .before .before .before .pre .0) (c .before .before .before .before .before .before .before .before .before .before .args .file .now) (c .before .loop .i) (c .before .loop .inv .2) ∙ sym (c .before .before .before .before .before .before .before .before .before .before .pre .2)
+    table-size _ (c .before .before .before .before .before .before .before .before .before .before .args .file .now) (c .before .loop .i) (c .before .loop .inv .2) ∙ sym (c .before .before .before .before .before .before .before .before .before .before .pre .2)
 
 returns-2 : tie.Need-returns-2 Inv-loop μ-loop
 returns-2 c =
     let s = c .before .before .before .before .before .before .before .before .before .before in
     let p = c .before .loop in
     let e : p .i ≡ count# (s .args .file .now) = omega (arith, p .inv .0, c .loop-test .left, c .before .before .before .count-of .ensures) in
-    p .inv .2 ∙ table-end _ (s .pre .0) _ (p .i) e
+    p .inv .2 ∙ table-end _ _ (p .i) e
 
 pub fill-spec : {M : Type 1} → statement M
 fill-spec =

@@ -37,10 +37,10 @@ slice-reshare-prefix-table-ok : tie.Need-slice-reshare-prefix-table-ok
 slice-reshare-prefix-table-ok c = search needs
 
 slice-aggregate-table-ok : tie.Need-slice-aggregate-table-ok
-slice-aggregate-table-ok c = sym (front-length (c .before .before .before .before .before .before .before .before .args .model .now) (head-ready _ (c .before .before .before .before .before .before .before .before .pre .passes)) (c .before .before .before .before .before .before .before .before .args .file .now) (c .before .before .before .before .before .before .before .before .args .table .now) (c .before .before .fill .last .1 .1 .0) (c .before .before .before .before .table-size .ensures) (c .before .before .before .before .before .before .before .before .pre .room) (c .before .before .fill .ensures))
+slice-aggregate-table-ok c = sym (front-length (c .before .before .before .before .before .before .before .before .args .model .now) (c .before .before .before .before .before .before .before .before .args .file .now) (c .before .before .before .before .before .before .before .before .args .table .now) (c .before .before .fill .last .1 .1 .0) (c .before .before .before .before .table-size .ensures) (c .before .before .before .before .before .before .before .before .pre .room) (c .before .before .fill .ensures))
 
 table-ok-requires : tie.Need-table-ok-requires
-table-ok-requires c κs = record { passes = c .before .before .before .before .before .before .before .before .pre .passes; room = omega (arith, front-length (c .before .before .before .before .before .before .before .before .args .model .now) (head-ready _ (c .before .before .before .before .before .before .before .before .pre .passes)) (c .before .before .before .before .before .before .before .before .args .file .now) (c .before .before .before .before .before .before .before .before .args .table .now) (c .before .before .fill .last .1 .1 .0) (c .before .before .before .before .table-size .ensures) (c .before .before .before .before .before .before .before .before .pre .room) (c .before .before .fill .ensures), c .before .before .before .before .table-size .ensures) }
+table-ok-requires c κs = record { passes = c .before .before .before .before .before .before .before .before .pre .passes; room = omega (arith, front-length (c .before .before .before .before .before .before .before .before .args .model .now) (c .before .before .before .before .before .before .before .before .args .file .now) (c .before .before .before .before .before .before .before .before .args .table .now) (c .before .before .fill .last .1 .1 .0) (c .before .before .before .before .table-size .ensures) (c .before .before .before .before .before .before .before .before .pre .room) (c .before .before .fill .ensures), c .before .before .before .before .table-size .ensures) }
 
 clear-requires-2 : tie.Need-clear-requires-2
 clear-requires-2 c κs = search needs
@@ -49,13 +49,13 @@ same-length-2 : tie.Need-same-length-2
 same-length-2 c = search needs
 
 returns-2 : tie.Need-returns-2
-returns-2 c = table-refused (c .before .before .before .before .before .before .before .before .before .before .before .before .before .args .model .now) (c .before .before .before .before .before .before .before .before .before .before .before .before .before .args .file .now) (c .before .before .before .before .before .before .before .before .before .before .before .before .before .args .table .now) (c .before .before .before .before .before .before .before .before .before .before .before .fields-questions .ensures) (c .before .before .before .before .before .before .before .before .before .before .if1 .left) (ap (tableOk _) (sym (table-front (c .before .before .before .before .before .before .before .before .before .before .before .before .before .args .model .now) (head-ready _ (c .before .before .before .before .before .before .before .before .before .before .before .before .before .pre .passes)) (c .before .before .before .before .before .before .before .before .before .before .before .before .before .args .file .now) (c .before .before .before .before .before .before .before .before .before .before .before .before .before .args .table .now) (c .before .before .before .before .before .before .before .fill .last .1 .1 .0) (c .before .before .before .before .before .before .before .before .before .table-size .ensures) (c .before .before .before .before .before .before .before .before .before .before .before .before .before .pre .room) (c .before .before .before .before .before .before .before .fill .ensures))) ∙ sym (c .before .before .before .before .table-ok .ensures) ∙ not-true _ (c .before .before .before .if2 .taken)) (table-zeroed (c .before .before .before .before .before .before .before .before .before .before .before .before .before .args .model .now) (head-ready _ (c .before .before .before .before .before .before .before .before .before .before .before .before .before .pre .passes)) (c .before .before .before .before .before .before .before .before .before .before .before .before .before .args .file .now) (c .before .before .before .before .before .before .before .before .before .before .before .before .before .args .table .now) (c .before .before .before .before .before .before .before .fill .last .1 .1 .0) (c .before .before .before .before .before .before .before .before .before .table-size .ensures) (c .before .before .before .before .before .before .before .before .before .before .before .before .before .pre .room) (c .before .before .before .before .before .before .before .fill .ensures) (c .before .clear2 .ensures))
+returns-2 c = table-refused (c .before .before .before .before .before .before .before .before .before .before .before .before .before .args .model .now) (c .before .before .before .before .before .before .before .before .before .before .before .before .before .args .file .now) (c .before .before .before .before .before .before .before .before .before .before .before .before .before .args .table .now) (c .before .before .before .before .before .before .before .before .before .before .before .fields-questions .ensures) (c .before .before .before .before .before .before .before .before .before .before .if1 .left) (ap (tableOk _) (sym (table-front (c .before .before .before .before .before .before .before .before .before .before .before .before .before .args .model .now) (c .before .before .before .before .before .before .before .before .before .before .before .before .before .args .file .now) (c .before .before .before .before .before .before .before .before .before .before .before .before .before .args .table .now) (c .before .before .before .before .before .before .before .fill .last .1 .1 .0) (c .before .before .before .before .before .before .before .before .before .table-size .ensures) (c .before .before .before .before .before .before .before .before .before .before .before .before .before .pre .room) (c .before .before .before .before .before .before .before .fill .ensures))) ∙ sym (c .before .before .before .before .table-ok .ensures) ∙ not-true _ (c .before .before .before .if2 .taken)) (table-zeroed (c .before .before .before .before .before .before .before .before .before .before .before .before .before .args .model .now) (c .before .before .before .before .before .before .before .before .before .before .before .before .before .args .file .now) (c .before .before .before .before .before .before .before .before .before .before .before .before .before .args .table .now) (c .before .before .before .before .before .before .before .fill .last .1 .1 .0) (c .before .before .before .before .before .before .before .before .before .table-size .ensures) (c .before .before .before .before .before .before .before .before .before .before .before .before .before .pre .room) (c .before .before .before .before .before .before .before .fill .ensures) (c .before .clear2 .ensures))
 
 same-length-3 : tie.Need-same-length-3
 same-length-3 c = search needs
 
 returns-3 : tie.Need-returns-3
-returns-3 c = table-read (c .before .before .before .before .before .before .before .before .before .before .args .model .now) (c .before .before .before .before .before .before .before .before .before .before .args .file .now) (c .before .before .before .before .before .before .before .before .before .before .args .table .now) (c .before .before .before .before .before .before .before .before .fields-questions .ensures) (c .before .before .before .before .before .before .before .if1 .left) (ap (tableOk _) (sym (table-front (c .before .before .before .before .before .before .before .before .before .before .args .model .now) (head-ready _ (c .before .before .before .before .before .before .before .before .before .before .pre .passes)) (c .before .before .before .before .before .before .before .before .before .before .args .file .now) (c .before .before .before .before .before .before .before .before .before .before .args .table .now) (c .before .before .before .before .fill .last .1 .1 .0) (c .before .before .before .before .before .before .table-size .ensures) (c .before .before .before .before .before .before .before .before .before .before .pre .room) (c .before .before .before .before .fill .ensures))) ∙ sym (c .before .table-ok .ensures) ∙ not-false _ (c .if2 .left)) (c .before .before .before .before .before .before .table-size .ensures) (table-onto (c .before .before .before .before .before .before .before .before .before .before .args .model .now) (head-ready _ (c .before .before .before .before .before .before .before .before .before .before .pre .passes)) (c .before .before .before .before .before .before .before .before .before .before .args .file .now) (c .before .before .before .before .before .before .before .before .before .before .args .table .now) (c .before .before .before .before .fill .last .1 .1 .0) (c .before .before .before .before .before .before .table-size .ensures) (c .before .before .before .before .before .before .before .before .before .before .pre .room) (c .before .before .before .before .fill .ensures))
+returns-3 c = table-read (c .before .before .before .before .before .before .before .before .before .before .args .model .now) (c .before .before .before .before .before .before .before .before .before .before .args .file .now) (c .before .before .before .before .before .before .before .before .before .before .args .table .now) (c .before .before .before .before .before .before .before .before .fields-questions .ensures) (c .before .before .before .before .before .before .before .if1 .left) (ap (tableOk _) (sym (table-front (c .before .before .before .before .before .before .before .before .before .before .args .model .now) (c .before .before .before .before .before .before .before .before .before .before .args .file .now) (c .before .before .before .before .before .before .before .before .before .before .args .table .now) (c .before .before .before .before .fill .last .1 .1 .0) (c .before .before .before .before .before .before .table-size .ensures) (c .before .before .before .before .before .before .before .before .before .before .pre .room) (c .before .before .before .before .fill .ensures))) ∙ sym (c .before .table-ok .ensures) ∙ not-false _ (c .if2 .left)) (c .before .before .before .before .before .before .table-size .ensures) (table-onto (c .before .before .before .before .before .before .before .before .before .before .args .model .now) (c .before .before .before .before .before .before .before .before .before .before .args .file .now) (c .before .before .before .before .before .before .before .before .before .before .args .table .now) (c .before .before .before .before .fill .last .1 .1 .0) (c .before .before .before .before .before .before .table-size .ensures) (c .before .before .before .before .before .before .before .before .before .before .pre .room) (c .before .before .before .before .fill .ensures))
 
 pub read-faces-spec : {M : Type 1} → statement M
 read-faces-spec =
