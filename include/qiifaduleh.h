@@ -3,7 +3,8 @@
  *
  * A plant is a model of locations, ranges for levels and rates, switches and forbidden boxes. The
  * library says that no run of the model meets a forbidden box, or that this is unknown, with a
- * table of reached faces behind the answer; and it checks a table that anyone made.
+ * table of reached faces behind the answer; and it checks a table that anyone made. A location may
+ * be cut, so that its faces are kept in two pieces, where one box for each would be too coarse.
  *
  *     On files:  decide            finds the answer, and writes the table's file
  *                check             says whether a table's file shows that a model is safe
@@ -72,8 +73,17 @@
  *                             target side (0 low, 1 high), reset mask (2^i for variable i), guard
  *                             box, reset box
  *                 forbidden   location, box
+ *                 cut         one for each location: variable and value, or -1 and 0 where the
+ *                             location is not cut
  *     Wall      Wall (d, side) of a location is the low or high end of d in its invariant. Its face
  *               has the number 2d + side.
+ *     Cut       The value lies strictly inside the location's invariant. Each face of a cut
+ *               location comes in two pieces. On the walls of the other variables piece 0 is up to
+ *               the value and piece 1 from the value; both hold it. On the walls of the cut
+ *               variable piece 0 is the whole face, and piece 1 is always absent. A face of a
+ *               location that is not cut is one piece, piece 0. C is the number of locations that
+ *               are cut, so there are 2n(L + C) pieces. A cut changes no run, and start boxes stay
+ *               whole.
  *     Run       Starts in the start box of a location with start flag 1. A delay of t stays in its
  *               location and moves each level by at least t times its low rate and at most t times
  *               its high rate. A switch leads from its source location, with levels in its guard,
@@ -81,15 +91,16 @@
  *               their reset value, the others unchanged. The levels always lie in the location's
  *               invariant. Levels and delays need not be whole numbers. A run meets a forbidden box
  *               if it starts in one of its location, or a delay or switch of it ends in one.
- *     Table     For each location its 2n faces, each a flag and a box: 1 and the reached part of
- *               the wall, or all zeros where none is reached.
- *     Pass      A pass widens each face by what can be reached in one step from the start boxes and
- *               from the faces of the table before the pass, rounded outward. Table 0 is all zeros,
- *               table k is the table after k passes.
+ *     Table     For each location the pieces of its 2n faces, face by face: its piece, or piece 0
+ *               and then piece 1. A piece is a flag and a box: 1 and the reached part of it, or all
+ *               zeros where none is reached.
+ *     Pass      A pass widens each piece by what can be reached in one step from the start boxes
+ *               and from the pieces of the table before the pass, rounded outward, then cut to the
+ *               piece. Table 0 is all zeros, table k is the table after k passes.
  *
  *     Words past the end of a model or of a table are not part of it: a list may be longer.
  *
- *     A plant of one location with the levels x and y, in 22 words:
+ *     A plant of one location with the levels x and y, in 24 words:
  *
  *         static const int32_t model[] = {
  *             2, 1, 0, 1,            n, L, E, B
@@ -97,6 +108,7 @@
  *             1, 1, 1, 2,                        rates x 1..1, y 1..2
  *             1, 0, 0, 2, 5,                     start flag 1, start box x 0..0, y 2..5
  *             0, 9, 10, 0, 4,        forbidden in location 0: x 9..10, y 0..4
+ *             -1, 0,                 location 0 is not cut
  *         };
  *
  *     qii_analyse gives QII_SAFE after 1 pass, with this table of 20 words:
@@ -106,15 +118,23 @@
  *             0, 0, 0, 0, 0,         face 2, y at 0: not reached
  *             1, 2, 8, 10, 10,       face 3, y at 10: x 2..8
  *
+ *     With 0, 5 for -1, 0 the location is cut at x = 5. The answer is the same; the table has 40
+ *     words, two pieces of each face. Those of face 3 are
+ *
+ *             1, 2, 5, 10, 10,       piece 0: x 2..5
+ *             1, 5, 8, 10, 10,       piece 1: x 5..8
+ *
  * WHAT THE FILES SAY
  *
  *     A file is a row of fields: a byte for the tag, two bytes for the length of what follows, then
  *     that many bytes, words of four bytes each, in two's complement; the highest byte comes first
  *     everywhere.
  *
- *     Model     tag 1: n, L, E, B; then L of tag 2, E of tag 3, B of tag 4, each one record.
- *     Table     tag 6: the number of present faces; then for each a tag 5: location, face, box; by
- *               location, then by face.
+ *     Model     tag 1: n, L, E, B; then L of tag 2, E of tag 3, B of tag 4, each one record; then
+ *               for each location that is cut a tag 8: location, variable, value; by location.
+ *     Table     tag 6: the number of present pieces; then for each a tag 5: location, face, box; by
+ *               location, then by face, then by piece. If any location of the model is cut, every
+ *               tag 5 has the piece, 0 or 1, after the face.
  *
  * docs/FORMATS.md has all of this in full, with an example byte by byte.
  *
@@ -139,7 +159,8 @@ extern "C" {
  * decide - is a model safe?
  *
  *     model, model_len    the bytes of a model file
- *     table, table_len    a buffer for the table file, of at least QII_TABLE_BYTES(L, n) bytes
+ *     table, table_len    a buffer for the table file, of at least QII_CUT_TABLE_BYTES(L, C, n)
+ *                         bytes (without cuts QII_TABLE_BYTES(L, n))
  *     limit               the most passes that the answer may have
  *
  * Gives code * 2^32 + passes; qii_code and qii_passes take the two apart. The code is one of:
@@ -154,8 +175,9 @@ extern "C" {
  * Leaves in the buffer, after any of the three answers, the file of the table after that many
  * passes (qii_table_len gives its length), and the rest as it was; after a refusal, all as it was.
  *
- * Asks, in this order: 1 to 4; 6 and 7 of each field in turn, 8; 11 to 13 of each location in turn,
- * 14 to 18 of each switch, 19 of each forbidden box; 39.
+ * Asks, in this order: 1 to 4; 6 and 7 of each record's field in turn; 8, and 46 of each cut's
+ * field in turn; 11 to 13 of each location in turn, 14 to 18 of each switch, 19 of each forbidden
+ * box, 46 of each cut; 39.
  */
 uint64_t decide(const uint8_t *model, size_t model_len, uint8_t *table, size_t table_len,
                 uint32_t limit);
@@ -168,9 +190,9 @@ uint64_t decide(const uint8_t *model, size_t model_len, uint8_t *table, size_t t
  *
  * Gives QII_ACCEPTED, or a refusal. It writes nothing.
  *
- * Asks, in this order: 1 to 4; 6 and 7 of each field in turn, 8; 11 to 13 of each location in turn,
- * 14 to 18 of each switch, 19 of each forbidden box; 35, then 36 and 37 of each face's field in
- * turn, 38, 32; 33, 34.
+ * Asks, in this order: 1 to 4; 6 and 7 of each record's field in turn; 8, and 46 of each cut's
+ * field in turn; 11 to 13 of each location in turn, 14 to 18 of each switch, 19 of each forbidden
+ * box, 46 of each cut; 35, then 36 and 37 of each piece's field in turn, 38, 32; 33, 34.
  */
 uint64_t check(const uint8_t *model, size_t model_len, const uint8_t *table, size_t table_len);
 
@@ -187,10 +209,14 @@ uint64_t check(const uint8_t *model, size_t model_len, const uint8_t *table, siz
  *     after QII_DONE                the model's words, which pass all the model's questions, and
  *                                   the rest as it was;
  *     after 1 to 5                  all as it was;
- *     after 6 to 8 and 11 to 19     zeros, over its whole length.
+ *     after 6 to 8, 11 to 19, 46    zeros, over its whole length.
  *
- * Asks, in this order: 1 to 4; 5 of the buffer; 6 and 7 of each field in turn, 8; 11 to 13 of each
- * location in turn, 14 to 18 of each switch, 19 of each forbidden box.
+ * Asks, in this order: 1 to 4; 5 of the buffer; 6 and 7 of each record's field in turn; 8, and 46
+ * of each cut's field in turn; 11 to 13 of each location in turn, 14 to 18 of each switch, 19 of
+ * each forbidden box, 46 of each cut. Where the end of the file is expected, a byte that is not the
+ * tag of a cut gets 8. Of a cut's field 46 asks there that it is whole, of three words, of a
+ * location that exists and comes after the one before, and not of variable -1; whether variable
+ * and value fit the location is asked at the end.
  */
 uint32_t qii_read_model(const uint8_t *file, size_t file_len, int32_t *words, size_t words_len,
                         uint64_t *value);
@@ -198,14 +224,14 @@ uint32_t qii_read_model(const uint8_t *file, size_t file_len, int32_t *words, si
 /*
  * THE MODEL'S QUESTIONS, which every call below asks first of the model's words, in this order: are
  * there four words (5); 2, 3, 4; are there all the model's words (5); 11 to 13 of each location in
- * turn, 14 to 18 of each switch, 19 of each forbidden box.
+ * turn, 14 to 18 of each switch, 19 of each forbidden box, 46 of each location's cut.
  */
 
 /*
  * qii_ceiling - the passes after which the analysis has always ended.
  *
  *     model, model_len    model words
- *     value               the ceiling: at most 7,680,000,768, so more than 32 bits
+ *     value               the ceiling: at most 12,800,001,408, so more than 32 bits
  *
  * Gives QII_DONE, or a refusal. Under a limit of at least the ceiling, the analysis is never
  * QII_UNFINISHED; most models end after far fewer passes. A ceiling can be above every limit.
@@ -231,7 +257,7 @@ uint32_t qii_check(const int32_t *model, size_t model_len, const int32_t *table,
  *
  *     model, model_len    model words
  *     limit               the most passes that the answer may have
- *     table, table_len    a buffer for the table, of at least QII_TABLE_WORDS(L, n) words
+ *     table, table_len    a buffer for the table, of at least QII_CUT_TABLE_WORDS(L, C, n) words
  *     work, work_len      a buffer to work in, of at least as many
  *     value               the passes of the answer
  *
@@ -278,8 +304,8 @@ uint32_t qii_desk(uint32_t *jobs, uint32_t *passes, const int32_t *model, size_t
  *
  *     model, model_len    model words
  *     file, file_len      the bytes of a table file
- *     table, table_len    a buffer for the table, of at least QII_TABLE_WORDS(L, n) words
- *     value               how many words the table has: QII_TABLE_WORDS(L, n)
+ *     table, table_len    a buffer for the table, of at least QII_CUT_TABLE_WORDS(L, C, n) words
+ *     value               how many words the table has: QII_CUT_TABLE_WORDS(L, C, n)
  *
  * Gives QII_DONE, or a refusal. A file that reads is exactly the one that qii_write_table writes of
  * its table.
@@ -289,7 +315,7 @@ uint32_t qii_desk(uint32_t *jobs, uint32_t *passes, const int32_t *model, size_t
  *     after the model's refusals and 20       all as it was;
  *     after 35 to 38 and 32                   zeros, over its whole length.
  *
- * Asks, in this order: the model's questions; 20 of the buffer; 35, then 36 and 37 of each face's
+ * Asks, in this order: the model's questions; 20 of the buffer; 35, then 36 and 37 of each piece's
  * field in turn, 38; 32 of the table.
  */
 uint32_t qii_read_table(const int32_t *model, size_t model_len, const uint8_t *file,
@@ -300,12 +326,12 @@ uint32_t qii_read_table(const int32_t *model, size_t model_len, const uint8_t *f
  *
  *     model, model_len    model words
  *     table, table_len    the table's words
- *     file, file_len      a buffer for the file, of at least QII_TABLE_BYTES(L, n) bytes, however
- *                         few faces the table has
+ *     file, file_len      a buffer for the file, of at least QII_CUT_TABLE_BYTES(L, C, n) bytes,
+ *                         however few pieces are present
  *     value               how many bytes the file has
  *
  * Gives QII_DONE, or a refusal. qii_read_table reads the file as the same table. Any table with
- * well-formed faces can be written, also one that qii_check refuses by 33 or 34.
+ * well-formed pieces can be written, also one that qii_check refuses by 33 or 34.
  *
  * Leaves in the buffer, after QII_DONE, the file, and the rest as it was; after a refusal, all as
  * it was.
@@ -334,7 +360,8 @@ enum qii_answer {
 #define QII_DONE QII_SAFE
 
 /*
- * The refusals: the first question that is not yes. The numbers 9, 10 and 23 to 31 are not in use.
+ * The refusals: the first question that is not yes. The numbers 9, 10, 23 to 31 and 40 to 45 are
+ * not in use.
  */
 enum qii_refusal {
     /* The model file does not begin with a whole field of tag 1 and length 16. */
@@ -351,7 +378,7 @@ enum qii_refusal {
     QII_RECORD_TAG = 6,
     /* A field has another length than its record, or is not all there. */
     QII_RECORD_LENGTH = 7,
-    /* The model file goes on after its last record. */
+    /* The model file goes on after its last record or cut, and not with a cut's tag. */
     QII_MODEL_END = 8,
 
     /* A location's invariant is not ordered, or has an end that is no level. */
@@ -379,31 +406,40 @@ enum qii_refusal {
        no level. */
     QII_FORBIDDEN = 19,
 
-    /* The table, or the buffer for it, has fewer than QII_TABLE_WORDS(L, n) words. */
+    /* The table, or the buffer for it, has fewer than QII_CUT_TABLE_WORDS(L, C, n) words. */
     QII_TABLE_SHORT = 20,
-    /* The work buffer has fewer than QII_TABLE_WORDS(L, n) words. */
+    /* The work buffer has fewer than QII_CUT_TABLE_WORDS(L, C, n) words. */
     QII_WORK_SHORT = 21,
     /* jobs + 1, or passes + limit, is above 4,294,967,295. */
     QII_DESK_FULL = 22,
 
-    /* A face's flag is not 0 or 1, an absent face is not all zeros, or a present one is not
-       ordered, not inside its location's invariant, or not on its wall. */
+    /* A piece's flag is not 0 or 1, an absent piece is not all zeros, or a present one is not
+       ordered, not inside its location's invariant, not on its wall, not on its side of the cut's
+       value, or is piece 1 on a wall of the cut variable. */
     QII_TABLE_FACE = 32,
     /* A pass changes the table. */
     QII_TABLE_GROWS = 33,
-    /* A start box or a face of the table touches a forbidden box. */
+    /* A start box or a piece of the table touches a forbidden box. */
     QII_TABLE_TOUCHES = 34,
     /* The table file does not begin with a whole field of tag 6 and length 4 whose count is 0 to
-       2nL. */
+       2n(L + C). */
     QII_TABLE_HEAD = 35,
-    /* A face's field is not whole, not of tag 5, or not of the due length. */
+    /* A piece's field is not whole, not of tag 5, or not of the due length: 8 + 8n, or 12 + 8n if
+       any location of the model is cut. */
     QII_FACE_FIELD = 36,
-    /* A face's location or number does not exist, or does not come after the one before. */
+    /* A piece's location, face or number (0, or 0 and 1 in a cut location) does not exist, or does
+       not come after the one before. */
     QII_FACE_PLACE = 37,
-    /* The table file goes on after its last face. */
+    /* The table file goes on after its last piece. */
     QII_TABLE_END = 38,
-    /* The buffer for the table file has fewer than QII_TABLE_BYTES(L, n) bytes. */
-    QII_TABLE_ROOM = 39
+    /* The buffer for the table file has fewer than QII_CUT_TABLE_BYTES(L, C, n) bytes. */
+    QII_TABLE_ROOM = 39,
+
+    /* A cut's field of the model file is not whole, not of length 12, of a location that does not
+       exist or does not come after the one before, or of variable -1; or a location's variable and
+       value are neither -1 and 0, nor a variable of 0 to n - 1 and a value strictly inside the
+       invariant. */
+    QII_CUT = 46
 };
 
 /* The counts of the largest plant. */
@@ -414,30 +450,37 @@ enum qii_refusal {
 
 /* The words of a model (5), and of the largest. A macro here uses its parameters more than once. */
 #define QII_MODEL_WORDS(n, L, E, B)                                                      \
-    (4 + QII_AS(size_t, L) * (6 * QII_AS(size_t, n) + 1) +                               \
+    (4 + QII_AS(size_t, L) * (6 * QII_AS(size_t, n) + 3) +                               \
      QII_AS(size_t, E) * (6 + 4 * QII_AS(size_t, n)) +                                   \
      QII_AS(size_t, B) * (1 + 2 * QII_AS(size_t, n)))
-#define QII_MODEL_WORDS_MAX 7044
+#define QII_MODEL_WORDS_MAX 7172
 
-/* The words of a table, for L locations and n variables (20, 21), and of the largest. */
-#define QII_TABLE_WORDS(L, n) \
-    (QII_AS(size_t, L) * 2 * QII_AS(size_t, n) * (1 + 2 * QII_AS(size_t, n)))
-#define QII_TABLE_WORDS_MAX 9984
+/* The pieces of a table, for L locations, C of them cut, and n variables (35). */
+#define QII_TABLE_PIECES(L, C, n) \
+    ((QII_AS(size_t, L) + QII_AS(size_t, C)) * 2 * QII_AS(size_t, n))
+
+/* The words of a table (20, 21): with C locations cut, and without cuts; and of the largest, every
+   location of the largest plant cut. */
+#define QII_CUT_TABLE_WORDS(L, C, n) (QII_TABLE_PIECES(L, C, n) * (1 + 2 * QII_AS(size_t, n)))
+#define QII_TABLE_WORDS(L, n) QII_CUT_TABLE_WORDS(L, 0, n)
+#define QII_TABLE_WORDS_MAX 19968
 
 /* The length of the longest model file. A longer one is refused, so a program that reads one byte
    more than this has read enough. */
-#define QII_MODEL_BYTES_MAX 28947
+#define QII_MODEL_BYTES_MAX 29907
 
-/* The room for a table file, for L locations and n variables (39), and for the largest plant. */
-#define QII_TABLE_BYTES(L, n) \
-    (7 + QII_AS(size_t, L) * 2 * QII_AS(size_t, n) * (11 + 8 * QII_AS(size_t, n)))
-#define QII_TABLE_BYTES_MAX 45319
+/* The room for a table file (39): with C locations cut, where a piece's field is four bytes longer
+   if any is; and without cuts; and for the largest. */
+#define QII_CUT_TABLE_BYTES(L, C, n) \
+    (7 + QII_TABLE_PIECES(L, C, n) * (((C) > 0 ? 15 : 11) + 8 * QII_AS(size_t, n)))
+#define QII_TABLE_BYTES(L, n) QII_CUT_TABLE_BYTES(L, 0, n)
+#define QII_TABLE_BYTES_MAX 96775
 
 /* The stack of a thread that makes any call, and of one that makes any but decide and check. Of it
-   decide uses 120,000 bytes, check 115,000, qii_check 42,000, each of the others less than 2,000
-   (measured by tests/c/stack.c); the rest is for the thread itself and for the caller. */
-#define QII_STACK_BYTES (160 * 1024)
-#define QII_STACK_BYTES_ON_WORDS (64 * 1024)
+   decide and check use 201,000 bytes, qii_check 88,000, each of the others less than 3,000 (measured
+   by tests/c/stack.c); the rest is for the thread itself and for the caller. */
+#define QII_STACK_BYTES (256 * 1024)
+#define QII_STACK_BYTES_ON_WORDS (128 * 1024)
 
 /* The code in decide's number: of enum qii_answer or enum qii_refusal. */
 static inline uint32_t qii_code(uint64_t decided)
@@ -454,12 +497,39 @@ static inline uint32_t qii_passes(uint64_t decided)
 /* The length of the table file that decide has written. After an answer only. */
 static inline size_t qii_table_len(const uint8_t *table)
 {
-    size_t faces = 256 * QII_AS(size_t, table[5]) + table[6];
-    size_t face_len = 0;
+    size_t pieces = 256 * QII_AS(size_t, table[5]) + table[6];
+    size_t piece_len = 0;
 
-    if (faces > 0)
-        face_len = 3 + 256 * QII_AS(size_t, table[8]) + table[9];
-    return 7 + faces * face_len;
+    if (pieces > 0)
+        piece_len = 3 + 256 * QII_AS(size_t, table[8]) + table[9];
+    return 7 + pieces * piece_len;
+}
+
+/* C: how many locations of a model are cut. Only of words that pass the model's questions, such as
+   those that qii_read_model has read; so too the two below. */
+static inline int32_t qii_cuts(const int32_t *model)
+{
+    size_t end = QII_MODEL_WORDS(model[0], model[1], model[2], model[3]);
+    size_t at;
+    int32_t cuts = 0;
+
+    for (at = end - 2 * QII_AS(size_t, model[1]); at < end; at += 2)
+        cuts += model[at] != -1;
+    return cuts;
+}
+
+/* The words of a model's table (20, 21). */
+static inline size_t qii_table_words(const int32_t *model)
+{
+    return QII_CUT_TABLE_WORDS(model[1], qii_cuts(model), model[0]);
+}
+
+/* The room for a model's table file (39). */
+static inline size_t qii_table_bytes(const int32_t *model)
+{
+    int32_t cuts = qii_cuts(model);
+
+    return QII_CUT_TABLE_BYTES(model[1], cuts, model[0]);
 }
 
 /* A number's meaning in words, for people. */
@@ -487,7 +557,7 @@ static inline const char *qii_meaning(uint32_t number)
     case QII_RECORD_LENGTH:
         return "a record of the model file has another length, or is not all there";
     case QII_MODEL_END:
-        return "the model file goes on after its last record";
+        return "the model file goes on after its last record or cut";
     case QII_INVARIANT:
         return "a location's invariant is not ordered or not in the range of levels";
     case QII_RATES:
@@ -513,21 +583,24 @@ static inline const char *qii_meaning(uint32_t number)
     case QII_DESK_FULL:
         return "the desk's counters cannot take another job or the limit";
     case QII_TABLE_FACE:
-        return "a face of the table is not well formed, not inside its location or not on its wall";
+        return "a piece of the table is not well formed, or not inside its location, on its wall "
+               "and on its side";
     case QII_TABLE_GROWS:
         return "a pass changes the table: a step from it leads outside it";
     case QII_TABLE_TOUCHES:
-        return "a start box or a face of the table touches a forbidden box";
+        return "a start box or a piece of the table touches a forbidden box";
     case QII_TABLE_HEAD:
-        return "the table file has no whole head field with a possible count of faces";
+        return "the table file has no whole head field with a possible count of pieces";
     case QII_FACE_FIELD:
-        return "a face's field of the table file is not whole, or has another tag or length";
+        return "a piece's field of the table file is not whole, or has another tag or length";
     case QII_FACE_PLACE:
-        return "a face of the table file does not exist, or is not in order";
+        return "a piece of the table file does not exist, or is not in order";
     case QII_TABLE_END:
-        return "the table file goes on after its last face";
+        return "the table file goes on after its last piece";
     case QII_TABLE_ROOM:
         return "the byte buffer is too short for the longest table file of the model";
+    case QII_CUT:
+        return "a cut is not whole or not in order, or its variable or value does not fit";
     default:
         return "no call gives this number";
     }

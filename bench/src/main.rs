@@ -9,9 +9,10 @@ mod timing;
 use std::hint::black_box;
 
 use other::{NAME, WHAT};
-use plants::{creeping, spreading, Timed};
-use second::compare::MOST_ROOM;
-use second::examples::{plant_p, two_tank};
+use plants::{creeping, spreading, whole, Timed};
+use second::compare::{written_table, MOST_ROOM};
+use second::examples::{all_cut, plant_p, plant_p_cut, two_tank};
+use second::files::model_of_file;
 use second::host_ffi;
 use timing::{pair, Pair};
 
@@ -32,8 +33,9 @@ fn agreed_answer(plant: &Timed) -> (u64, Vec<u8>) {
     let number = host_ffi::decide(&plant.model, &mut table, LIMIT);
     assert_eq!(number, other::decide(&plant.model, &mut others, LIMIT), "{}: the numbers differ", plant.name);
     assert!(table == others, "{}: the tables differ", plant.name);
-    let count = i32::from_be_bytes([table[3], table[4], table[5], table[6]]) as usize;
-    table.truncate(7 + count * (11 + 8 * plant.variables));
+    let read = model_of_file(&plant.model).expect("a timed plant passes its questions");
+    let length = written_table(&read.plant(), &table).len();
+    table.truncate(length);
     (number, table)
 }
 
@@ -101,7 +103,7 @@ fn print_growth() {
     println!("|---|---|---|---|---|---|---|");
     for n in [2, 3, 6] {
         for locations in [1, 2, 4, 8, 16, 32, 64] {
-            let row = timed(&Timed::new("growth", &creeping(n, locations)));
+            let row = timed(&Timed::new("growth", &creeping(n, locations, whole)));
             let steps = (row.passes + 1) as f64 * locations as f64 / 1e3;
             let each = locations as f64 / 1e3;
             print!("| {n} | {locations} | {} ", row.passes);
@@ -109,6 +111,12 @@ fn print_growth() {
             println!("| {:.0} | {:.0} |", row.check.host.median / each, row.check.other.median / each);
         }
     }
+}
+
+/// Does the other one know cuts? A library from before them refuses a cut's field by 8.
+fn other_knows_cuts() -> bool {
+    let cut = Timed::new("P cut", &plant_p_cut());
+    other::decide(&cut.model, &mut vec![0; MOST_ROOM], 1) >> 32 != 8
 }
 
 fn main() {
@@ -119,11 +127,21 @@ fn main() {
     let mut plants = vec![Timed::new("P", &plant_p()), Timed::new("two tanks", &two_tank(59))];
     for n in [2, 3, 6] {
         for locations in [1, 8, 64] {
-            plants.push(Timed::new("spreading", &spreading(n, locations)));
-            plants.push(Timed::new("creeping", &creeping(n, locations)));
+            plants.push(Timed::new("spreading", &spreading(n, locations, whole)));
+            plants.push(Timed::new("creeping", &creeping(n, locations, whole)));
+        }
+    }
+    let knows = other_knows_cuts();
+    if knows {
+        for n in [2, 3, 6] {
+            plants.push(Timed::new("spreading, cut", &spreading(n, 64, all_cut)));
+            plants.push(Timed::new("creeping, cut", &creeping(n, 64, all_cut)));
         }
     }
     print_plants(&plants);
+    if !knows {
+        println!("\nPlants with cuts are left out: {WHAT} refuses them.");
+    }
     print_growth();
     println!("\nIn every line both gave the same number and the same table file, and accepted it.");
 }

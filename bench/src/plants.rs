@@ -49,13 +49,18 @@ fn cells(n: usize, locations: usize) -> Vec<usize> {
     cells
 }
 
+/// No cuts. The plants take this, or `second::examples::all_cut`, before their forbidden boxes are laid.
+pub fn whole(draft: Draft) -> Draft {
+    draft
+}
+
 /// A grid through which the levels spread upwards, with some cells that turn them back. Few
 /// passes: about two for each cell on the longest way.
-pub fn spreading(n: usize, locations: usize) -> Draft {
-    let cuts: Vec<Vec<i32>> =
+pub fn spreading(n: usize, locations: usize, cuts: fn(Draft) -> Draft) -> Draft {
+    let walls: Vec<Vec<i32>> =
         cells(n, locations).iter().map(|&count| (0..=count as i32).map(|i| i * CELL_WIDTH).collect()).collect();
     let mut random = Random::new(3);
-    let mut draft = grid(&cuts, |_| {
+    let mut draft = grid(&walls, |_| {
         (0..n)
             .flat_map(|_| {
                 let slow = random.pick(&[1, 1, 1, 2, 2, 2, 3, -1]);
@@ -64,23 +69,23 @@ pub fn spreading(n: usize, locations: usize) -> Draft {
             .collect()
     });
     draft.locations[0].start = Some([0, 1].repeat(n));
-    with_forbidden(draft)
+    with_forbidden(cuts(draft))
 }
 
 /// A row of cells along the last variable, which creeps up by `STROKE` while the others run
 /// through their range and are then set back. Many passes: two for each stroke.
-pub fn creeping(n: usize, locations: usize) -> Draft {
+pub fn creeping(n: usize, locations: usize, cuts: fn(Draft) -> Draft) -> Draft {
     let height = STROKES * STROKE / locations as i32;
-    let mut cuts = vec![vec![0, STROKE]; n];
-    cuts[n - 1] = (0..=locations as i32).map(|i| i * height).collect();
-    let mut draft = grid(&cuts, |_| vec![1; 2 * n]);
+    let mut walls = vec![vec![0, STROKE]; n];
+    walls[n - 1] = (0..=locations as i32).map(|i| i * height).collect();
+    let mut draft = grid(&walls, |_| vec![1; 2 * n]);
     for l in 0..locations {
         set_back(&mut draft, l);
     }
     let mut start = vec![0; 2 * n];
     start[2 * n - 2..].fill(2 * STROKE);
     draft.locations[0].start = Some(start);
-    with_forbidden(draft)
+    with_forbidden(cuts(draft))
 }
 
 /// Adds a switch that sets all variables but the last back from variable 0's high wall.
@@ -107,7 +112,7 @@ fn set_back(draft: &mut Draft, l: usize) {
 fn with_forbidden(mut draft: Draft) -> Draft {
     let words = draft.words();
     let plant = Plant::from_words(&words).expect("a timed plant passes its questions");
-    let mut table = vec![0; plant.sizes.table_words()];
+    let mut table = vec![0; plant.table_words()];
     assert!(close(&plant, &mut table, 1_000_000));
     let mut random = Random::new(7);
     let count = plant.sizes.locations.max(FEWEST_BOXES);
@@ -123,9 +128,9 @@ fn with_forbidden(mut draft: Draft) -> Draft {
 fn untouched_box(random: &mut Random, plant: &Plant, table: &[i32], l: usize) -> Option<Vec<i32>> {
     let location = plant.location(l);
     let n = plant.sizes.n;
-    let faces = &table[plant.sizes.face_at(l, 0)..plant.sizes.face_at(l + 1, 0)];
+    let pieces = table[plant.location_places(l)].chunks_exact(plant.sizes.face_words());
     let start = location.started.then_some(location.start);
-    let present = faces.chunks_exact(1 + 2 * n).filter(|face| face[0] == 1).map(|face| &face[1..]);
+    let present = pieces.filter(|piece| piece[0] == 1).map(|piece| &piece[1..]);
     let parts: Vec<&[i32]> = start.into_iter().chain(present).collect();
     if parts.is_empty() {
         return None;

@@ -149,7 +149,7 @@ static inline struct inputs *inputs_of(const char *name, uint32_t limit)
     memcpy(in->model, out.words, 4 * in->model_len);
     make(&calls[5], in, 0, &out);
     if (out.number >= QII_SAFE) {
-        in->table_len = QII_TABLE_WORDS(in->model[1], in->model[0]);
+        in->table_len = qii_table_words(in->model);
         memcpy(in->table, out.words, 4 * in->table_len);
         make(&calls[7], in, 0, &out);
         in->table_file_len = (size_t)out.value;

@@ -2,42 +2,44 @@
 use mathlib.Core.Path.{_≡_, refl, sym, ap, ap₂, _∙_}
 use mathlib.Core.Bool.{true, false}
 use mathlib.Core.List.{List, _++_}
-use Prim.Native.Nat.{ℕ, zero, suc, _+_, _*_, _-_, _<_, _≤_}
-use native.Mathlib.Nat.{zero-mul, suc-mul}
+use Prim.Native.Nat.{ℕ, zero, suc, _+_, _-_, _<_, _≤_}
 use native.Mathlib.Numerals.{add-one}
 use native.Mathlib.Omega.{arith}
 use lib.IntN.{ℤ, pos}
 use lib.ListN.{length, replicate, replicate-append-replicate}
 use Rattle.integers.specs.Words.{equal}
-use Rattle.integers.specs.Counted.{cat}
+use Rattle.integers.specs.Counted.{cat, sumBelow}
+use Rattle.integers.proofs.Counted.{sum-same}
 use Rattle.integers.proofs.Tests.{is-true}
 use Rattle.plant.specs.declared.Answer.{Answer}
 use Rattle.plant.specs.declared.Answer.the-variants.{Safe, Unknown, Unfinished}
 use Rattle.plant.specs.Box.{absent, faceWords}
 use Rattle.plant.specs.Model.{n#, L#}
-use Rattle.plant.specs.Tables.{wordsPerLocation, faceSize, tableSize, tableBy, tableOk, pass, tableAfter, touching}
+use Rattle.plant.specs.Pieces.{pieces}
+use Rattle.plant.specs.Tables.{faceSize, pieceCount, tableSize, tableBy, tableOk, pass, tableAfter, touching}
 use Rattle.plant.specs.Calls.{search, analysis, answerTable}
 use Rattle.plant.proofs.Passed.{Passed}
-use Rattle.plant.proofs.Tables.{words-per-location, made-ok}
-use Rattle.plant.proofs.Keeps.{facesAfter, faces-ok, after-length, after-begins, after-pass}
+use Rattle.plant.proofs.Tables.{locationWords, words-before, made-ok}
+use Rattle.plant.proofs.Keeps.{piecesAfter, pieces-ok, after-length, after-begins, after-pass}
 
 -- ---- table 0 is all zero words
 
-cat-zeros : (k w : ℕ) (g : ℕ → List ℤ) → ((i : ℕ) → g i ≡ replicate w (pos 0)) → cat k g ≡ replicate (k * w) (pos 0)
-unfolding cat
-cat-zeros zero w g h = rw zero-mul refl
-cat-zeros (suc k) w g h = ap₂ (λ (a b : List ℤ). a ++ b) (cat-zeros k w g h) (h k) ∙ replicate-append-replicate (k * w) w (pos 0) ∙ ap (λ (x : ℕ). replicate x (pos 0)) (sym (suc-mul k w))
+cat-zeros : (k : ℕ) (w : ℕ → ℕ) (g : ℕ → List ℤ) → ((i : ℕ) → g i ≡ replicate (w i) (pos 0)) → cat k g ≡ replicate (sumBelow k w) (pos 0)
+unfolding cat sumBelow
+cat-zeros zero w g h = refl
+cat-zeros (suc k) w g h = ap₂ (λ (a b : List ℤ). a ++ b) (cat-zeros k w g h) (h k) ∙ replicate-append-replicate (sumBelow k w) (w k) (pos 0)
 
 zeros-first : (m : List ℤ) → replicate (tableSize m) (pos 0) ≡ tableAfter m 0
-unfolding tableAfter tableBy tableSize faceWords
+unfolding tableAfter tableBy tableSize pieceCount faceWords
 zeros-first m =
-    sym (cat-zeros (L# m) (wordsPerLocation (n# m)) (λ l. cat (2 * n# m) (λ f. faceWords (n# m) absent))
-    (λ l. cat-zeros (2 * n# m) (faceSize (n# m)) (λ f. faceWords (n# m) absent) (λ f. refl) ∙ ap (λ (x : ℕ). replicate x (pos 0)) (sym (words-per-location (n# m)))))
+    ap (λ (x : ℕ). replicate x (pos 0)) (sym (words-before m (L# m)))
+    ∙ sym (cat-zeros (L# m) (locationWords m) (λ l. cat (pieces m l) (λ q. faceWords (n# m) absent))
+    (λ l. cat-zeros (pieces m l) (λ q. faceSize (n# m)) (λ q. faceWords (n# m) absent) (λ q. refl) ∙ ap (λ (x : ℕ). replicate x (pos 0)) (sum-same (pieces m l) (faceSize (n# m)))))
 
 -- ---- each table k passes 32
 
 pub after-ok : (m : List ℤ) → Passed m → (k : ℕ) → tableOk m (tableAfter m k) ≡ true
-after-ok m ok k = is-true (made-ok m (tableAfter m k) (facesAfter m k) (after-begins m k) (faces-ok m ok k))
+after-ok m ok k = is-true (made-ok m ok (tableAfter m k) (piecesAfter m k) (after-begins m k) (pieces-ok m ok k))
 
 -- ---- the answer at table k
 

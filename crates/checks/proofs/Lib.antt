@@ -1,7 +1,9 @@
 pub mod Loops
-pub mod Faces
+pub mod Extents
+pub mod Pieces
 pub mod Ranges
 pub mod Widths
+pub mod Counts
 pub mod Touched
 pub mod Links
 pub mod Search

@@ -3,7 +3,7 @@
 use mathlib.Core.Path.{_≡_, refl, sym, ap, _∙_, subst}
 use mathlib.Core.Bool.{Bool, true, false, cond, or-false}
 use mathlib.Core.List.{List}
-use Prim.Native.Nat.{ℕ, zero, suc, _+_, _*_, _-_, _<_, _≤_}
+use Prim.Native.Nat.{ℕ, zero, suc, _+_, _-_, _<_, _≤_}
 use native.Mathlib.Omega.{arith}
 use lib.Dec.{eqb, eqb→eq}
 use lib.IntN.{ℤ, pos}
@@ -12,7 +12,9 @@ use Rattle.integers.specs.Counted.{anyBelow}
 use Rattle.integers.proofs.Tests.{by-test, is-true, is-false}
 use Rattle.plant.specs.Box.{boxAt, Face, absent, present}
 use Rattle.plant.specs.Model.{n#, L#, B#, forbiddenLocation}
-use Rattle.plant.specs.Tables.{partOf, partTouches, touching}
+use Rattle.plant.specs.Pieces.{pieces}
+use Rattle.plant.specs.Tables.{piecesBefore, partOf, partTouches, touching}
+use Rattle.plant.proofs.PieceCases.{before-more}
 use Rattle.passes.specs.Parts.{IsPart}
 use Rattle.passes.proofs.Joined.{read-present, read-absent}
 use Rattle.checks.specs.Links.{lastBox}
@@ -28,7 +30,7 @@ module _ (m t : List ℤ) where
   partsTouch l k = anyBelow k (λ p. boxesTouched l p (B# m))
 
   unfoldable pub locationsTouch : ℕ → Bool
-  locationsTouch k = anyBelow k (λ l. partsTouch l (suc (2 * n# m)))
+  locationsTouch k = anyBelow k (λ l. partsTouch l (suc (pieces m l)))
 
   pub search-is : locationsTouch (L# m) ≡ touching m t
   unfolding locationsTouch partsTouch boxesTouched touching
@@ -45,7 +47,7 @@ module _ (m t : List ℤ) where
 
   pub no-location : locationsTouch 0 ≡ false
   unfolding locationsTouch
-  no-location = any-none (λ l. partsTouch l (suc (2 * n# m)))
+  no-location = any-none (λ l. partsTouch l (suc (pieces m l)))
 
   -- nor after one that does not touch, or is not touched
   box-less : (l p b : ℕ) → partTouches m l b (partOf m t l p) ≡ false → boxesTouched l p (suc b) ≡ boxesTouched l p b
@@ -56,9 +58,9 @@ module _ (m t : List ℤ) where
   unfolding partsTouch
   part-more l p e h = any-more (λ p. boxesTouched l p (B# m)) p e h
 
-  pub location-more : (l : ℕ) → locationsTouch l ≡ false → partsTouch l (suc (2 * n# m)) ≡ false → locationsTouch (l + 1) ≡ false
+  pub location-more : (l : ℕ) → locationsTouch l ≡ false → partsTouch l (suc (pieces m l)) ≡ false → locationsTouch (l + 1) ≡ false
   unfolding locationsTouch
-  location-more l e h = any-more (λ l. partsTouch l (suc (2 * n# m))) l e h
+  location-more l e h = any-more (λ l. partsTouch l (suc (pieces m l))) l e h
 
   -- an absent part touches nothing, and no part a box of another location
   none-absent : (l p k : ℕ) → partOf m t l p ≡ absent → boxesTouched l p k ≡ false
@@ -86,17 +88,20 @@ module _ (m t : List ℤ) where
   no-boxes l e (suc k) = rw (no-boxes l e k, sym (up-to-last l k (B# m)) ∙ ap (boxesTouched l k) e ∙ no-box l k) refl
 
   -- the parts that are asked: all, or none in a location without boxes
-  module _ (l : ℕ) {n last parts : ℕ} (n-is : n ≡ n# m) (last-is : last ≡ lastBox m l (B# m)) (parts-is : parts ≡ cond (eqb last 0) 0 (2 * n + 1)) where
-    pub parts-few : parts ≤ suc (2 * n# m)
-    parts-few = subst (λ (k : ℕ). k ≤ suc (2 * n# m)) (sym parts-is) (by-test (λ (k : ℕ). k ≤ suc (2 * n# m)) (eqb last 0) (λ _. omega arith) (λ _. omega arith))
+  module _ (l : ℕ) {earlier next last parts : ℕ} (earlier-is : earlier ≡ piecesBefore m l) (next-is : next ≡ piecesBefore m (l + 1)) (last-is : last ≡ lastBox m l (B# m)) (parts-is : parts ≡ cond (eqb last 0) 0 (next - earlier + 1)) where
+    every : next - earlier + 1 ≡ suc (pieces m l)
+    every = omega (arith, before-more m l)
 
-    pub all-asked : (p : ℕ) → p ≤ parts → parts ≤ p → partsTouch l p ≡ false → partsTouch l (suc (2 * n# m)) ≡ false
-    all-asked p u v e = subst (λ (k : ℕ). p ≤ k → k ≤ p → partsTouch l (suc (2 * n# m)) ≡ false) (sym parts-is) by-last u v
+    pub parts-few : parts ≤ suc (pieces m l)
+    parts-few = subst (λ (k : ℕ). k ≤ suc (pieces m l)) (sym parts-is) (by-test (λ (k : ℕ). k ≤ suc (pieces m l)) (eqb last 0) (λ _. omega arith) (λ _. omega (arith, every)))
+
+    pub all-asked : (p : ℕ) → p ≤ parts → parts ≤ p → partsTouch l p ≡ false → partsTouch l (suc (pieces m l)) ≡ false
+    all-asked p u v e = subst (λ (k : ℕ). p ≤ k → k ≤ p → partsTouch l (suc (pieces m l)) ≡ false) (sym parts-is) by-last u v
       where
-        by-last : p ≤ cond (eqb last 0) 0 (2 * n + 1) → cond (eqb last 0) 0 (2 * n + 1) ≤ p → partsTouch l (suc (2 * n# m)) ≡ false
-        by-last = by-test (λ (k : ℕ). p ≤ k → k ≤ p → partsTouch l (suc (2 * n# m)) ≡ false) (eqb last 0)
-            (λ w _ _. no-boxes l (sym last-is ∙ eqb→eq last 0 w) (suc (2 * n# m)))
-            (λ _ x y. let all : p ≡ suc (2 * n# m) = omega arith in subst (λ (k : ℕ). partsTouch l k ≡ false) all e)
+        by-last : p ≤ cond (eqb last 0) 0 (next - earlier + 1) → cond (eqb last 0) 0 (next - earlier + 1) ≤ p → partsTouch l (suc (pieces m l)) ≡ false
+        by-last = by-test (λ (k : ℕ). p ≤ k → k ≤ p → partsTouch l (suc (pieces m l)) ≡ false) (eqb last 0)
+            (λ w _ _. no-boxes l (sym last-is ∙ eqb→eq last 0 w) (suc (pieces m l)))
+            (λ _ x y. let all : p ≡ suc (pieces m l) = omega (arith, every) in subst (λ (k : ℕ). partsTouch l k ≡ false) all e)
 
   -- of the boxes of location l, box b - 1 and those before it are left to be asked of part p, or none at 0; while one is left,
   -- the part is there, and bounds is its box
@@ -134,9 +139,9 @@ module _ (m t : List ℤ) where
     none-left {b} h u = let is : b ≡ 0 = omega arith in sym (h .passed) ∙ ap (boxesTouched l p) is ∙ no-box l p
 
   -- the first touch
-  pub found : (l p b : ℕ) → l < L# m → p < suc (2 * n# m) → b < B# m → partTouches m l b (partOf m t l p) ≡ true → touching m t ≡ true
+  pub found : (l p b : ℕ) → l < L# m → p < suc (pieces m l) → b < B# m → partTouches m l b (partOf m t l p) ≡ true → touching m t ≡ true
   unfolding touching
   found l p b u v w e =
-      any-found (λ l. anyBelow (suc (2 * n# m)) (λ p. anyBelow (B# m) (λ b. partTouches m l b (partOf m t l p)))) l (L# m) u
-      (any-found (λ p. anyBelow (B# m) (λ b. partTouches m l b (partOf m t l p))) p (suc (2 * n# m)) v
+      any-found (λ l. anyBelow (suc (pieces m l)) (λ p. anyBelow (B# m) (λ b. partTouches m l b (partOf m t l p)))) l (L# m) u
+      (any-found (λ p. anyBelow (B# m) (λ b. partTouches m l b (partOf m t l p))) p (suc (pieces m l)) v
       (any-found (λ b. partTouches m l b (partOf m t l p)) b (B# m) w e))

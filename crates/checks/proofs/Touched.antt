@@ -2,7 +2,7 @@
 use mathlib.Core.Path.{_≡_, refl, ap, _∙_, subst}
 use mathlib.Core.Bool.{Bool}
 use mathlib.Core.List.{List}
-use Prim.Native.Nat.{ℕ, _*_, _<_, _≤_}
+use Prim.Native.Nat.{ℕ, _<_, _≤_}
 use borrow.Author.Tests.{eq-eqb}
 use lib.IntN.{ℤ}
 use Rattle.integers.proofs.Tests.{true-is}
@@ -10,6 +10,7 @@ use Rattle.delays.specs.Ranges.{Levels, Rates}
 use Rattle.plant.specs.Box.{present}
 use Rattle.plant.specs.Model.{n#, L#, B#, invariant, rate, forbiddenLocation, forbiddenBox}
 use Rattle.plant.specs.Steps.{touches}
+use Rattle.plant.specs.Pieces.{pieces}
 use Rattle.plant.specs.Tables.{partOf, partTouches}
 use Rattle.plant.proofs.Boxes.{FaceAll}
 use Rattle.plant.proofs.Passed.{Passed}
@@ -27,7 +28,7 @@ pub record BoxRead (m : List ℤ) (l b n : ℕ) (inv rates forbidden : List ℤ)
   pub of-location : forbiddenLocation m b ≡ l
 
 module _ (m t : List ℤ) (l b p : ℕ) {n : ℕ} {inv rates bounds forbidden : List ℤ} (r : BoxRead m l b n inv rates forbidden) (there : partOf m t l p ≡ present bounds) where
-  pub touch-ready : Checked m t → l < L# m → b < B# m → p ≤ 2 * n# m → Levels n inv × Rates n rates × Levels n bounds × Levels n forbidden
+  pub touch-ready : Checked m t → l < L# m → b < B# m → p ≤ pieces m l → Levels n inv × Rates n rates × Levels n bounds × Levels n forbidden
   touch-ready ok u v w =
       let k : Passed m = model-passed m t ok in
       rw (r .n-is, r .inv-is, r .rate-is, r .box-is) (invariant-in m k l u, rate-in m k l u, subst (FaceAll (Levels (n# m))) there (part-levels m k l u t (ok .ready .room) (true-is (ok .valid)) p w), forbidden-in m k b v)

@@ -1,21 +1,21 @@
--- Sums of widths of levels are small.
-use mathlib.Core.Path.{_≡_, refl}
-use mathlib.Core.Bool.{cond}
+-- Sums of widths of levels are small; and a box stays one of levels where one of its ends is put at another level.
+use mathlib.Core.Path.{_≡_, refl, sym}
+use mathlib.Core.Bool.{Bool, true, false, cond}
 use mathlib.Core.List.{List}
 use Prim.Native.Nat.{ℕ, _+_, _*_, _<_, _≤_}
 use native.Mathlib.Omega.{arith}
-use lib.Dec.{eqb}
-use lib.IntN.{ℤ, natAbs, _-ℤ_}
-use Rattle.integers.specs.Counted.{sumBelow}
+use lib.Dec.{eqb, eqb→eq}
+use lib.IntN.{ℤ, pos, natAbs, _-ℤ_}
+use lib.ListN.{length, set, length-set}
+use lib.Seq.{getD-set-same, getD-set-other}
+use borrow.Author.Tests.{eqb-false}
+use Rattle.integers.specs.Words.{word}
 use Rattle.integers.proofs.Signed.{abs-minus}
-use Rattle.integers.proofs.Tests.{by-test}
-use Rattle.delays.specs.Ranges.{LevelAt, Levels}
-use Rattle.plant.specs.Box.{low, high}
-use Rattle.plant.specs.Model.{n#, L#, invariant, variableOf}
-use Rattle.plant.specs.Tables.{widths, ceilingOf}
-use Rattle.plant.proofs.Passed.{Passed}
+use Rattle.integers.proofs.Tests.{by-test, true-is}
+use Rattle.delays.specs.Ranges.{Level, LevelAt, Levels}
+use Rattle.plant.specs.Box.{low, high, present}
+use Rattle.plant.specs.Tables.{widths, faceCount}
 use Rattle.checks.proofs.Loops.{sum-none, sum-more, sum-small}
-use Rattle.passes.proofs.PartWords.{invariant-in}
 
 module _ (d : ℕ) (b : List ℤ) where
   abbrev widthAt : ℕ → ℕ
@@ -36,32 +36,23 @@ module _ (d : ℕ) (b : List ℤ) where
   unfolding widths
   widths-small i h = sum-small widthAt i 2000000 (λ j l. width-small j (h j l))
 
--- ---- the sums of a model
+-- ---- what a piece adds
 
--- of one face of location l, and of all its faces
-abbrev pub faceCeiling : List ℤ → ℕ → ℕ → ℕ
-faceCeiling m l f = 1 + widths (n# m) (variableOf f) (invariant m l)
+pub count-is : (n d : ℕ) (b : List ℤ) → 1 + widths n d b ≡ faceCount n d (present b)
+unfolding faceCount
+count-is n d b = refl
 
-abbrev pub locationCeiling : List ℤ → ℕ → ℕ
-locationCeiling m l = sumBelow (2 * n# m) (faceCeiling m l)
+-- a box with one of its ends at another level
+module _ (b : List ℤ) (j : ℕ) (x : ℤ) (h : Level x) where
+  level-set : (i : ℕ) → i < length b → Level (word b i) → Level (word (set b j x) i)
+  level-set i u k = by (eqb j i) refl
+    where
+      by : (t : Bool) → eqb j i ≡ t → Level (word (set b j x) i)
+      by true e = let same : j ≡ i = eqb→eq j i (true-is e) in rw same (rw (getD-set-same b i x (pos 0) u) h)
+      by false e = rw (getD-set-other b j i x (pos 0) (λ same. eqb-false j i e (sym same))) k
 
-module _ (m : List ℤ) (ok : Passed m) where
-  pub face-small : (l f : ℕ) → l < L# m → faceCeiling m l f ≤ 12000001
-  face-small l f u = omega (arith, widths-small (variableOf f) (invariant m l) (n# m) (invariant-in m ok l u), ok .n-small)
-
-  pub faces-small : (l k : ℕ) → l < L# m → sumBelow k (faceCeiling m l) ≤ k * 12000001
-  faces-small l k u = sum-small (faceCeiling m l) k 12000001 (λ f v. face-small l f u)
-
-  pub location-small : (l : ℕ) → l < L# m → locationCeiling m l ≤ 144000012
-  location-small l u = omega (arith, faces-small l (2 * n# m) u, ok .n-small)
-
-  pub locations-small : (k : ℕ) → k ≤ L# m → sumBelow k (locationCeiling m) ≤ k * 144000012
-  locations-small k u = sum-small (locationCeiling m) k 144000012 (λ l v. location-small l (omega arith))
-
--- of what code has in place of n and the invariant
-pub width-is : (m : List ℤ) (l f r n : ℕ) (inv : List ℤ) → r ≡ widths n (variableOf f) inv → n ≡ n# m → inv ≡ invariant m l → 1 + r ≡ faceCeiling m l f
-width-is m l f r n inv h e i = cc
-
-pub ceiling-is : (m : List ℤ) → sumBelow (L# m) (locationCeiling m) ≡ ceilingOf m
-unfolding ceilingOf
-ceiling-is m = refl
+  pub levels-set : (n : ℕ) → Levels n b → Levels n (set b j x)
+  unfolding low high
+  levels-set n k i u =
+      let there = k i u .there in
+      record { there = omega (arith, length-set b j x); low-in = level-set (2 * i) (omega arith) (k i u .low-in); high-in = level-set (2 * i + 1) there (k i u .high-in) }

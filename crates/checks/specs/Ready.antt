@@ -1,14 +1,29 @@
--- What the check of a face asks of the words that it is lent.
+-- What the checks of a location's pieces ask of the words that they are lent.
 use mathlib.Core.Path.{_≡_}
+use mathlib.Core.Bool.{false}
 use mathlib.Core.List.{List}
-use Prim.Native.Nat.{ℕ, _*_, _<_, _≤_}
-use lib.IntN.{ℤ}
+use Prim.Native.Nat.{ℕ, _+_, _*_, _<_, _≤_}
+use lib.Dec.{T}
+use lib.IntN.{ℤ, negsuc, natAbs}
 use lib.ListN.{length}
-use Rattle.plant.specs.Tables.{faceSize}
+use lib.Signed.{_<ℤ_, nonNeg}
+use Rattle.integers.specs.Words.{eqZ}
+use Rattle.delays.specs.Ranges.{Levels}
+use Rattle.plant.specs.Box.{low, high, Ordered}
 
--- the invariant of n variables, and the words of its face f
-pub record FaceReady (n : ℕ) (inv : List ℤ) (f : ℕ) (face : List ℤ) : Type 0 where
-  pub is-face : f < 2 * n
+-- a cut's first word: no variable (-1), or one whose two ends stand in a box of k words
+pub record CutNamed (k : ℕ) (variable : ℤ) : Type 0 where
+  pub not-negative : eqZ variable (negsuc 0) ≡ false → T (nonNeg variable)
+  pub there : eqZ variable (negsuc 0) ≡ false → 2 * natAbs variable + 1 < k
+
+-- a location: its invariant of n variables, c pieces a face, and the words of its cut, at a value strictly inside the invariant
+pub record LocationReady (n : ℕ) (inv : List ℤ) (c : ℕ) (variable value : ℤ) : Type 0 where
   pub n-small : n ≤ 6
   pub inv-length : length inv ≡ 2 * n
-  pub face-length : length face ≡ faceSize n
+  pub inv-in : Levels n inv
+  pub inv-ordered : Ordered n inv
+  pub some-piece : 0 < c
+  pub two-most : c ≤ 2
+  pub named : CutNamed (2 * n) variable
+  pub above : eqZ variable (negsuc 0) ≡ false → low inv (natAbs variable) <ℤ value
+  pub below : eqZ variable (negsuc 0) ≡ false → value <ℤ high inv (natAbs variable)

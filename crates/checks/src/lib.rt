@@ -2,6 +2,7 @@
 // ceiling", "Checker" and "Analysis"). These functions serve the crates above and are no calls of outsiders: what they are
 // lent has passed the questions before.
 mod ceiling;
+mod numbers;
 mod touch;
 mod valid;
 

@@ -1,7 +1,7 @@
 // Whether a part of a location touches a forbidden box of it.
 ghost use mathlib.Core.Path.{_≡_};
 ghost use mathlib.Core.Bool.{true, cond};
-ghost use Prim.Native.Nat.{_+_, _*_, _<_, _≤_};
+ghost use Prim.Native.Nat.{_+_, _-_, _<_, _≤_};
 ghost use lib.Dec.{eqb};
 ghost use lib.IntN.{pos};
 ghost use lib.ListN.{length};
@@ -9,7 +9,9 @@ ghost use Rattle.integers.specs.Words.{word, eqZ};
 ghost use Rattle.plant.specs.Model.{n#, L#, B#};
 ghost use Rattle.plant.specs.Questions.{modelQuestions};
 ghost use Rattle.plant.specs.Tables as T;
-ghost use Rattle.plant.specs.Tables.{tableOk, faceAt, partOf};
+ghost use Rattle.plant.specs.Pieces.{pieces};
+ghost use Rattle.plant.specs.Tables.{piecesBefore, tableOk, partOf};
+ghost use Rattle.tables.specs.Places.{Places};
 ghost use Rattle.passes.specs.Ready.{TableReady};
 ghost use Rattle.passes.specs.Parts.{IsPart};
 ghost use Rattle.checks.specs.Links.{Linked};
@@ -30,25 +32,27 @@ fn link(model: &[i32], last: &mut [usize; 64], before: &mut [usize; 64])
     }
 }
 
-// The words of part p of location l, whose faces begin at a place of the table: part 0 is its start part, part f + 1 its face f.
-fn part_at<'a>(model: &'a [i32], table: &'a [i32], l: usize, at: usize, p: usize) -> &'a [i32]
-    requires { ⌜ TableReady (now model) (now table) × (l < L# (now model)) × (at ≡ faceAt (now model) l 0) × (p ≤ 2 * n# (now model)) ⌝ }
+// The words of part p of location l, whose pieces stand behind the earlier ones in the table: part 0 is its start part, part q + 1
+// its piece q.
+fn part_at<'a>(model: &'a [i32], table: &'a [i32], l: usize, earlier: usize, p: usize) -> &'a [i32]
+    requires { ⌜ TableReady (now model) (now table) × (l < L# (now model)) × (earlier ≡ piecesBefore (now model) l) × (p ≤ pieces (now model) l) ⌝ }
     ensures { λ r. ⌜ IsPart (n# (now (model .entry))) (now r) (partOf (now (model .entry)) (now (table .entry)) l p) ⌝ }
 {
     if p == 0 {
         passes::start_part(model, l)
     } else {
         let n = records::variables(model);
-        tables::face(table, at + tables::face_within(n, p - 1), n)
+        tables::face(table, tables::piece_at(earlier, p - 1, n), n)
     }
 }
 
-// How many parts of a location are asked: none where it has no forbidden box.
-fn parts_asked(n: usize, last: usize) -> usize
-    requires { ⌜ n ≤ 6 ⌝ }
-    ensures { λ r. ⌜ r ≡ cond (eqb last 0) 0 (2 * n + 1) ⌝ }
+// How many parts of a location are asked, whose pieces are numbered from `earlier` to before `next` in the table: none where it
+// has no forbidden box.
+fn parts_asked(earlier: usize, next: usize, last: usize) -> usize
+    requires { ⌜ (earlier ≤ next) × (next ≤ 1536) ⌝ }
+    ensures { λ r. ⌜ r ≡ cond (eqb last 0) 0 (next - earlier + 1) ⌝ }
 {
-    if last == 0 { 0 } else { 2 * n + 1 }
+    if last == 0 { 0 } else { next - earlier + 1 }
 }
 
 // The first box to ask of a part: none of an absent one.
@@ -60,8 +64,8 @@ fn first_asked(part: &[i32], last: usize) -> usize
 }
 
 // A part of a location touches a forbidden box of it: the search stops at the first such part.
-pub fn touching<'a>(model: &'a [i32], table: &'a [i32]) -> bool
-    requires { ⌜ TableReady (now model) (now table) × (tableOk (now model) (now table) ≡ true) ⌝ }
+pub fn touching<'a>(model: &'a [i32], places: &[usize], table: &'a [i32]) -> bool
+    requires { ⌜ TableReady (now model) (now table) × Places (now model) (now places) × (tableOk (now model) (now table) ≡ true) ⌝ }
     ensures { λ r. ⌜ r ≡ T.touching (now (model .entry)) (now (table .entry)) ⌝ }
 {
     let locations = records::locations(model);
@@ -74,11 +78,11 @@ pub fn touching<'a>(model: &'a [i32], table: &'a [i32]) -> bool
     'search: while l < locations {
         let inv = records::invariant(model, l);
         let rate = records::rate(model, l);
-        let at = tables::faces_at(model, l);
-        let parts = parts_asked(n, last[l]);
+        let earlier = places[l];
+        let parts = parts_asked(earlier, places[l + 1], last[l]);
         let mut p: usize = 0;
         'parts: while p < parts {
-            let part = part_at(model, table, l, at, p);
+            let part = part_at(model, table, l, earlier, p);
             let bounds = records::box_at(part, 1, n);
             let mut b = first_asked(part, last[l]);
             'boxes: while 0 < b {

@@ -27,13 +27,13 @@ use Rattle.desk.specs.Desks.{countersOk, deskQuestions, deskBy, deskCall
 use Rattle.desk.proofs.Serving.{jobs-fit, limit-fits, desk-full}
 
 -- no refusal of the desk is taken for an answer
-questions-le : (d : Desk) (m : List ℤ) (limit : ℕ) (table work : List ℤ) → deskQuestions d m limit table work ≤ 22
+questions-le : (d : Desk) (m : List ℤ) (limit : ℕ) (table work : List ℤ) → deskQuestions d m limit table work ≤ 46
 unfolding deskQuestions analysisQuestions
 questions-le d m limit table work =
-    then-le _ _ 22
-    (then-le _ _ 22 (le-trans (model-le m) (omega arith))
-    (then-le _ _ 22 (le-trans (ask-le (leb (tableSize m) (length table)) 20) (omega arith)) (le-trans (ask-le (leb (tableSize m) (length work)) 21) (omega arith))))
-    (ask-le (countersOk d limit) 22)
+    then-le _ _ 46
+    (then-le _ _ 46 (model-le m)
+    (then-le _ _ 46 (le-trans (ask-le (leb (tableSize m) (length table)) 20) (omega arith)) (le-trans (ask-le (leb (tableSize m) (length work)) 21) (omega arith))))
+    (le-trans (ask-le (countersOk d limit) 22) (omega arith))
 
 module _ (d : Desk) (m : List ℤ) (limit : ℕ) (table work : List ℤ) where
   same-by : (q : ℕ) (room : Bool) → T room → deskBy (q then ask room 22) d m limit table work .analysed ≡ analyseBy q m limit table work
@@ -64,12 +64,12 @@ module _ (d : Desk) (m : List ℤ) (limit : ℕ) (table work : List ℤ) where
       (ask-intro (countersOk d limit) 22 fits)
 
   -- no refusal has an answer's number
-  answered-yes : (q : ℕ) → q ≤ 22 → 100 ≤ replyOf (deskBy q d m limit table work .analysed) .code → q ≡ 0
+  answered-yes : (q : ℕ) → q ≤ 46 → 100 ≤ replyOf (deskBy q d m limit table work .analysed) .code → q ≡ 0
   answered-yes zero l h = refl
   answered-yes (suc q) l h = absurd (omega arith)
 
   -- what the call adds to the counters
-  moves-by : (q : ℕ) → q ≤ 22 → let s = deskBy q d m limit table work in
+  moves-by : (q : ℕ) → q ≤ 46 → let s = deskBy q d m limit table work in
       (s .desk .passes ≡ d .passes + cond (isAnswer (replyOf (s .analysed))) (replyOf (s .analysed) .value) 0)
       × (s .desk .jobs ≡ d .jobs + cond (isAnswer (replyOf (s .analysed))) 1 0)
   moves-by zero h =

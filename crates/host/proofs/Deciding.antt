@@ -23,8 +23,8 @@ use Rattle.host.proofs.Held.{Front, front}
 -- ---- once all questions are yes
 
 -- the words that a call holds for a table are enough for the largest
-pub table-fits : (m : List ℤ) → modelQuestions m ≡ 0 → tableSize m ≤ length (replicate 9984 (pos 0))
-table-fits m asks = omega (arith, table-most m (head-ready m asks), length-replicate 9984 (pos 0))
+pub table-fits : (m : List ℤ) → modelQuestions m ≡ 0 → tableSize m ≤ length (replicate 19968 (pos 0))
+table-fits m asks = omega (arith, table-most m (head-ready m asks), length-replicate 19968 (pos 0))
 
 module _ (m : List ℤ) (limit : ℕ) where
   abbrev a : Answer

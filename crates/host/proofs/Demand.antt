@@ -4,20 +4,24 @@ use mathlib.Core.Path.{_≡_, refl, sym, ap, ap₂, _∙_, subst}
 use mathlib.Core.Logic.{_⊎_, inl, inr}
 use mathlib.Core.List.{List}
 use Prim.Native.Nat.{ℕ, zero, suc, _+_, _*_, _/_, _%_, _<_, _≤_}
+use native.Mathlib.Nat.{mul-le-mul}
 use native.Mathlib.Omega.{arith}
 use lib.Dec.{T, leb, le→leb, leb→le}
 use lib.IntN.{ℤ}
 use lib.ListN.{length, take, drop}
 use Rattle.integers.specs.Words.{AreBytes, onto}
+use Rattle.integers.proofs.Tests.{by-test}
 use Rattle.integers.proofs.Buffers.{onto-all, take-onto}
 use Rattle.plant.specs.declared.Answer.{Answer}
 use Rattle.plant.specs.Ask.{_then_}
 use Rattle.plant.specs.Questions.{modelQuestions}
-use Rattle.plant.specs.Tables.{tableSize, longestTableFile, tableOk, tableAfter}
+use Rattle.plant.specs.Pieces.{anyCut}
+use Rattle.plant.specs.Tables.{pieceCount, tableSize, pieceFieldLength, longestTableFile, tableOk, tableAfter}
 use Rattle.plant.specs.Calls.{answerReply, certificateQuestions, tableQuestions, checkerQuestions, checkBy, checkCall, analysis, answerTable, passesOf, Analysed, replyOf, answered, analyseCall, bytesQuestion}
 use Rattle.plant.specs.Demands.{Accepts, ceiling, answers, NoRunMeets, ThirdDemand}
 use Rattle.plant.proofs.Asks.{ask-intro, ask-le, ask-yes, asked, then-both, then-intro, then-le}
 use Rattle.plant.proofs.Passed.{passed}
+use Rattle.plant.proofs.Tables.{count-most}
 use Rattle.plant.proofs.Search.{within-limit, answer-code}
 use Rattle.plant.proofs.Accepted.{certificate-le, accepted-code, accepts-yes}
 use Rattle.plant.proofs.Demands.{first-demand, third-demand}
@@ -26,7 +30,6 @@ use Rattle.analysis.proofs.Front.{front, questions-front}
 use Rattle.analysis.proofs.Counting.{after-ok}
 use Rattle.analysis.proofs.Calls.{all-yes, analyse-answered}
 use Rattle.table_files.specs.TableFile.{tableFile, fileLength, fileTable, tableFileQuestions}
-use Rattle.table_files.proofs.TableWriting.{bytes-fit}
 use Rattle.table_files.proofs.TableBack.{table-le, file-asked, file-table, file-told, file-bytes}
 use Rattle.host.specs.Hosts.{modelOf, modelFileQuestions, Decided, decided, decideBy, decideCall, certificateFileQuestions, hostCheckCall}
 use Rattle.host.specs.HostDemand.{AcceptableFile, code, passes, answerFile, Decides, HostDemand}
@@ -38,17 +41,22 @@ module _ (s : List ℕ) where
   abbrev m : List ℤ
   m = modelOf s
 
-  longest-table : modelFileQuestions s ≡ 0 → longestTableFile m ≤ 45319
+  -- at most 1,536 pieces, with 63 bytes each
+  longest-table : modelFileQuestions s ≡ 0 → longestTableFile m ≤ 96775
   unfolding longestTableFile
-  longest-table passes = omega (arith, bytes-fit m (head-ready m (model-asked s passes)) refl refl)
+  longest-table passes =
+      let h = head-ready m (model-asked s passes) in
+      let few : pieceCount m ≤ 1536 = count-most m (h .n-small) (h .L-small) in
+      let short : pieceFieldLength m ≤ 63 = by-test (λ (k : ℕ). k ≤ 63) (anyCut m) (λ _. omega (arith, h .n-small)) (λ _. omega (arith, h .n-small)) in
+      omega (arith, mul-le-mul few short)
 
   -- ---- check
 
   check-yes : (t : List ℕ) → hostCheckCall s t ≡ 100 → (modelFileQuestions s ≡ 0) × (tableFileQuestions m t ≡ 0) × (certificateQuestions m (fileTable m t) ≡ 0)
   unfolding hostCheckCall certificateFileQuestions
   check-yes t h =
-      let few : (modelFileQuestions s then certificateFileQuestions m t) ≤ 38 =
-      then-le (modelFileQuestions s) _ 38 (omega (arith, questions-le s)) (then-le (tableFileQuestions m t) _ 38 (table-le m t) (omega (arith, certificate-le m (fileTable m t)))) in
+      let few : (modelFileQuestions s then certificateFileQuestions m t) ≤ 46 =
+      then-le (modelFileQuestions s) _ 46 (questions-le s) (then-le (tableFileQuestions m t) _ 46 (omega (arith, table-le m t)) (omega (arith, certificate-le m (fileTable m t)))) in
       let a : (modelFileQuestions s ≡ 0) × _ = then-both (modelFileQuestions s) _ (accepted-code _ (omega arith) h) in
       let b : (tableFileQuestions m t ≡ 0) × (certificateQuestions m (fileTable m t) ≡ 0) = then-both (tableFileQuestions m t) (certificateQuestions m (fileTable m t)) (a .1) in
       (a .0, b .0, b .1)
@@ -95,9 +103,9 @@ module _ (s : List ℕ) where
     questions : ℕ
     questions = modelFileQuestions s then bytesQuestion m (length file)
 
-    few : questions ≤ 39
+    few : questions ≤ 46
     unfolding questions
-    few = then-le (modelFileQuestions s) _ 39 (omega (arith, questions-le s)) (ask-le (leb (longestTableFile m) (length file)) 39)
+    few = then-le (modelFileQuestions s) _ 46 (questions-le s) (omega (arith, ask-le (leb (longestTableFile m) (length file)) 39))
 
     -- by the questions' number
     answer-parts : (decided m a file .number / 4294967296 ≡ answerReply a .code) × (decided m a file .number % 4294967296 ≡ answerReply a .value)
@@ -111,7 +119,7 @@ module _ (s : List ℕ) where
     within-by zero = omega (arith, answer-parts .1, within-limit m limit)
     within-by (suc q) = omega (arith, parts (suc q) 0 (omega arith) .1)
 
-    yes-by : (q : ℕ) → q ≤ 39 → 100 ≤ decideBy q m file limit .number / 4294967296 → q ≡ 0
+    yes-by : (q : ℕ) → q ≤ 46 → 100 ≤ decideBy q m file limit .number / 4294967296 → q ≡ 0
     yes-by zero l h = refl
     yes-by (suc q) l h = absurd (omega (arith, parts (suc q) 0 (omega arith) .0))
 

@@ -2,9 +2,8 @@
 -- the reader gives is that of the file's questions without it.
 use mathlib.Core.Path.{_≡_, refl, sym, ap, subst, _∙_}
 use mathlib.Core.List.{List}
-use Prim.Native.Nat.{ℕ, zero, suc, _*_, _+_, _≤_, _<_}
+use Prim.Native.Nat.{ℕ, zero, suc, _≤_}
 use native.Mathlib.Omega.{arith}
-use native.Mathlib.Nat.{mul-le-mul}
 use lib.Dec.{T, leb, le→leb, leb→le}
 use lib.IntN.{ℤ, pos}
 use lib.ListN.{length, take, replicate, length-replicate}
@@ -12,52 +11,31 @@ use lib.Seq.{length-take-le}
 use Rattle.integers.specs.Words.{AreWords, AreBytes, onto}
 use Rattle.integers.proofs.Buffers.{take-onto}
 use Rattle.plant.specs.Ask.{_then_}
-use Rattle.plant.specs.Model.{n#, L#, E#, B#, headSize, modelSize}
+use Rattle.plant.specs.Model.{headSize, modelSize}
 use Rattle.plant.specs.Questions.{rangesQuestions, recordsQuestions, modelQuestions}
 use Rattle.plant.specs.declared.Count.{Count}
 use Rattle.plant.specs.declared.Count.the-variants.{Done, Refused}
 use Rattle.plant.specs.Calls.{countReply, ReadOutcome, readReply, wordsRead, unlessRefused, zeroed}
 use Rattle.plant.proofs.Asks.{ask-intro, asked, then-both, then-le}
 use Rattle.plant.proofs.Reading.{done}
+use Rattle.records.specs.Whole.{Head}
 use Rattle.model.proofs.Passing.{head-passed}
-use Rattle.model_files.specs.ModelFile.{modelFile, headWords, headQuestions, bufferQuestion, fileEnd, bodyQuestions, fileWords, recordsFileQuestions, readModelCall}
+use Rattle.model_files.specs.ModelFile.{modelFile, headWords, headQuestions, bufferQuestion, bodyQuestions, fileWords, recordsFileQuestions, readModelCall}
 use Rattle.model_files.specs.ModelFilesExact.{IsModelFile}
-use Rattle.model_files.proofs.ModelReading.{body-passed, switches-at, forbiddens-at, words-end, length-file, length-head}
+use Rattle.model_files.proofs.ModelReading.{body-passed, most-words, most-bytes, length-file, length-head}
 use Rattle.model_files.proofs.ModelRoundTrip.{head-le, records-file-le, read-passes, file-read, model-files-exact}
 use Rattle.host.specs.Hosts.{modelOf, modelFileQuestions}
 use Rattle.host.proofs.Held.{Front, front}
 
 -- the words that a call holds for a model
 abbrev pub held : List ℤ
-held = replicate 7044 (pos 0)
+held = replicate 7172 (pos 0)
 
 -- ---- 5 is always yes
 
-product-le : (i w steps most : ℕ) → i ≤ steps → w ≤ most → i * w ≤ steps * most
-product-le i w steps most a b = mul-le-mul a b
-
-most-words : (h : List ℤ) → 4 ≤ length h → rangesQuestions h ≡ 0 → modelSize h ≤ 7044
-most-words h there e =
-    let a = head-passed h there e in
-    omega (
-      arith,
-      switches-at h,
-      forbiddens-at h,
-      words-end h,
-      product-le (L# h) (6 * n# h + 1) 64 37 (a .L-small) (omega (arith, a .n-small)),
-      product-le (E# h) (6 + 4 * n# h) 128 30 (a .E-small) (omega (arith, a .n-small)),
-      product-le (B# h) (1 + 2 * n# h) 64 13 (a .B-small) (omega (arith, a .n-small)),
-    )
-
--- a file has four bytes for each word, and three more for each field
-file-end : (h : List ℤ) → fileEnd h ≡ 4 * modelSize h + 3 * (1 + L# h + E# h + B# h)
-file-end h = omega (arith, switches-at h, forbiddens-at h, words-end h)
-
-most-bytes : (h : List ℤ) → 4 ≤ length h → rangesQuestions h ≡ 0 → fileEnd h ≤ 28947
-most-bytes h there e = let a = head-passed h there e in rw (file-end h) (few (modelSize h) (L# h) (E# h) (B# h) (most-words h there e) (a .L-small) (a .E-small) (a .B-small))
-  where
-    few : (m l e b : ℕ) → m ≤ 7044 → l ≤ 64 → e ≤ 128 → b ≤ 64 → 4 * m + 3 * (1 + l + e + b) ≤ 28947
-    few m l e b p q r s = omega arith
+-- the head's numbers are allowed
+head : (h : List ℤ) → 4 ≤ length h → rangesQuestions h ≡ 0 → Head h
+head h there e = head-passed h there e
 
 -- ---- two chains of questions, one after the other
 
@@ -110,7 +88,7 @@ module _ (s : List ℕ) where
   ranges-yes e = then-both _ (rangesQuestions h) e .1
 
   has-room : headQuestions s ≡ 0 → modelSize h ≤ length held
-  has-room e = omega (arith, most-words h (omega (arith, length-head s)) (ranges-yes e), length-replicate 7044 (pos 0))
+  has-room e = omega (arith, most-words h (head h (omega (arith, length-head s)) (ranges-yes e)), length-replicate 7172 (pos 0))
 
   questions-are : (front-questions then recordsFileQuestions s h) ≡ modelFileQuestions s
   unfolding modelFileQuestions
@@ -118,9 +96,9 @@ module _ (s : List ℕ) where
       left-out (headQuestions s) (bufferQuestion h (length held)) (recordsFileQuestions s h)
       (λ e. ask-intro (leb (modelSize h) (length held)) 5 (le→leb (modelSize h) (length held) (has-room e)))
 
-  pub questions-le : modelFileQuestions s ≤ 19
+  pub questions-le : modelFileQuestions s ≤ 46
   unfolding modelFileQuestions
-  questions-le = then-le _ _ 19 (head-le s) (records-file-le s h)
+  questions-le = then-le _ _ 46 (head-le s) (records-file-le s h)
 
   count-is : readModelCall s held .count ≡ unlessRefused (modelFileQuestions s) (zeroed held) all .count
   unfolding readModelCall
@@ -146,8 +124,8 @@ module _ (s : List ℕ) where
     unfolding readModelCall
     reads = both-yes front-questions (recordsFileQuestions s h) held (zeroed held) all (questions-are ∙ yes)
 
-    pub longest-model : length s ≤ 28947
-    longest-model = rw (body-passed s h (each-yes .1) .ended) (most-bytes h (omega (arith, length-head s)) (ranges-yes (each-yes .0)))
+    pub longest-model : length s ≤ 29907
+    longest-model = most-bytes s h (head h (omega (arith, length-head s)) (ranges-yes (each-yes .0))) (body-passed s h (each-yes .1))
 
     pub model-asked : modelQuestions (modelOf s) ≡ 0
     unfolding modelOf
@@ -182,6 +160,6 @@ file-passes m asks words =
     let a : T (leb headSize (length m)) × _ = asked (leb headSize (length m)) 5 _ (omega arith) asks in
     let b : (rangesQuestions m ≡ 0) × _ = then-both (rangesQuestions m) _ (a .1) in
     let whole : modelSize m ≤ length m = leb→le (modelSize m) (length m) (asked (leb (modelSize m) (length m)) 5 _ (omega arith) (b .1) .0) in
-    let fit : modelSize m ≤ length held = omega (arith, most-words m (leb→le headSize (length m) (a .0)) (b .0), length-replicate 7044 (pos 0)) in
+    let fit : modelSize m ≤ length held = omega (arith, most-words m (head m (leb→le headSize (length m) (a .0)) (b .0)), length-replicate 7172 (pos 0)) in
     let e = file-read m held asks words fit in
     (read-yes (modelFile m) e, sym (read-front (modelFile m) e .are) ∙ take-onto (take (modelSize m) m) held (modelSize m) (length-take-le (modelSize m) m whole))

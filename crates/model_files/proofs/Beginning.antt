@@ -11,12 +11,12 @@ use lib.Seq.{take-append-le, drop-append-le}
 use Rattle.integers.specs.Words.{word, num}
 use Rattle.plant.specs.Ask.{first}
 use Rattle.plant.specs.Box.{boxAt}
-use Rattle.plant.specs.Model.{n#, L#, E#, B#, locationAt, invariant, rate, startFlag, startBox, switchAt, source, target, wallVariable, sourceSide, targetSide, resetMask, guard, reset, forbiddenAt, forbiddenBox}
-use Rattle.plant.specs.Questions.{startOk, locationQuestions, placesOk, boxesOk, singleOk, sourceWall, targetWall, guardOk, levelAfter, landsOk, switchQuestions, forbiddenQuestion, recordsQuestions}
+use Rattle.plant.specs.Model.{n#, L#, E#, B#, locationAt, invariant, rate, startFlag, startBox, switchAt, source, target, wallVariable, sourceSide, targetSide, resetMask, guard, reset, forbiddenAt, forbiddenBox, cutAt, cutVariable, cutValue}
+use Rattle.plant.specs.Questions.{startOk, locationQuestions, placesOk, boxesOk, singleOk, sourceWall, targetWall, guardOk, levelAfter, landsOk, switchQuestions, forbiddenQuestion, cutOk, cutQuestion, recordsQuestions}
 use Rattle.plant.proofs.Asks.{asked, then-both, then-intro, first-each, first-intro}
 use Rattle.plant.proofs.Passed.{PlacesPassed, places-passed}
 use Rattle.records.specs.Whole.{Whole}
-use Rattle.records.proofs.Positions.{location-within, switch-within, forbidden-within}
+use Rattle.records.proofs.Positions.{location-within, switch-within, forbidden-within, cut-within}
 
 module _ (a r : List ℤ) (w : Whole a) where
   abbrev m : List ℤ
@@ -169,13 +169,37 @@ module _ (a r : List ℤ) (w : Whole a) where
   forbidden-question-same b u =
       rw (n-same, L-same, forbidden-same b, word-same (forbiddenAt a b) (omega (arith, forbidden-within a w b u)), box-same (forbiddenAt a b + 1) (omega (arith, forbidden-within a w b u))) refl
 
-  -- ---- all records
+  -- ---- cuts
+
+  cut-same : (l : ℕ) → cutAt m l ≡ cutAt a l
+  unfolding cutAt
+  cut-same l = rw (B-same, forbidden-same (B# a)) refl
+
+  module _ (l : ℕ) (u : l < L# a) where
+    word-of-cut : word m (cutAt m l) ≡ word a (cutAt a l)
+    word-of-cut = rw (cut-same l) (word-same (cutAt a l) (omega (arith, cut-within a w l u)))
+
+    cut-variable-same : cutVariable m l ≡ cutVariable a l
+    unfolding cutVariable
+    cut-variable-same = word-of-cut
+
+    cut-value-same : cutValue m l ≡ cutValue a l
+    unfolding cutValue
+    cut-value-same = rw (cut-same l) (word-same (cutAt a l + 1) (omega (arith, cut-within a w l u)))
+
+    cut-question-same : cutQuestion m l ≡ cutQuestion a l
+    unfolding cutQuestion cutOk
+    cut-question-same = rw (cut-variable-same, cut-value-same, word-of-cut, n-same, invariant-same l u) refl
+
+  -- ---- all records, and all cuts
 
   pub records-yes : recordsQuestions m ≡ 0 → recordsQuestions a ≡ 0
   unfolding recordsQuestions
   records-yes h =
       let f : (first (L# m) (locationQuestions m) ≡ 0) × _ = then-both (first (L# m) (locationQuestions m)) _ h in
-      let g : (first (E# m) (switchQuestions m) ≡ 0) × (first (B# m) (forbiddenQuestion m) ≡ 0) = then-both (first (E# m) (switchQuestions m)) (first (B# m) (forbiddenQuestion m)) (f .1) in
+      let g : (first (E# m) (switchQuestions m) ≡ 0) × _ = then-both (first (E# m) (switchQuestions m)) _ (f .1) in
+      let k : (first (B# m) (forbiddenQuestion m) ≡ 0) × (first (L# m) (cutQuestion m) ≡ 0) = then-both (first (B# m) (forbiddenQuestion m)) (first (L# m) (cutQuestion m)) (g .1) in
       then-intro (first-intro (L# a) (locationQuestions a) (λ l u. sym (location-questions-same l u) ∙ first-each (L# m) (locationQuestions m) (f .0) l (rw L-same u)))
       (then-intro (first-intro (E# a) (switchQuestions a) (λ e u. switch-yes e u (first-each (E# m) (switchQuestions m) (g .0) e (rw E-same u))))
-      (first-intro (B# a) (forbiddenQuestion a) (λ b u. sym (forbidden-question-same b u) ∙ first-each (B# m) (forbiddenQuestion m) (g .1) b (rw B-same u))))
+      (then-intro (first-intro (B# a) (forbiddenQuestion a) (λ b u. sym (forbidden-question-same b u) ∙ first-each (B# m) (forbiddenQuestion m) (k .0) b (rw B-same u)))
+      (first-intro (L# a) (cutQuestion a) (λ l u. sym (cut-question-same l u) ∙ first-each (L# m) (cutQuestion m) (k .1) l (rw L-same u)))))

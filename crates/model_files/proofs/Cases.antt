@@ -1,37 +1,86 @@
--- Plant P's file, read by computing with the definitions.
+-- Plant P's file, read by computing with the definitions; and with a cut.
 use mathlib.Core.Path.{_≡_, refl}
-use mathlib.Core.List.{[], _∷_, _++_}
-use lib.IntN.{pos}
-use lib.ListN.{length, replicate, take}
+use mathlib.Core.List.{List, [], _∷_, _++_}
+use Prim.Native.Nat.{ℕ}
+use lib.IntN.{ℤ, pos, negsuc}
+use lib.ListN.{length, replicate, take, set}
 use Rattle.integers.specs.Words.{onto}
 use Rattle.integers.specs.Counted.{cat, allBelow}
 use Rattle.wire.specs.Bytes.{bitsAt, wordAt, wordsAt, wordBytes, wordsBytes}
 use Rattle.wire.specs.Fields.{fieldAt, field}
+use Rattle.plant.specs.declared.Count.{Count}
 use Rattle.plant.specs.declared.Count.the-variants.{Done, Refused}
 use Rattle.plant.specs.Ask.{_then_, first}
 use Rattle.plant.specs.Box.{low, high, boxBy, boxAt}
-use Rattle.plant.specs.Model.{locationAt, invariant, rate, startFlag, startBox, switchAt, forbiddenAt, forbiddenLocation, forbiddenBox, modelSize}
-use Rattle.plant.specs.Questions.{boxOk, insideOk, zerosOk, startOk, locationQuestions, forbiddenQuestion, rangesQuestions, recordsQuestions}
+use Rattle.plant.specs.Model.{locationAt, invariant, rate, startFlag, startBox, switchAt, forbiddenAt, forbiddenLocation, forbiddenBox, cutAt, cutVariable, cutValue, modelSize}
+use Rattle.plant.specs.Questions.{boxOk, insideOk, zerosOk, startOk, locationQuestions, forbiddenQuestion, strictlyInside, cutOk, cutQuestion, rangesQuestions, recordsQuestions}
 use Rattle.plant.specs.Calls.{unlessRefused}
 use Rattle.plant.specs.Cases.{plantP, P}
-use Rattle.model_files.specs.ModelFile.{modelFile, runQuestions, headWords, headQuestions, bodyQuestions, runWords, fileWords, recordsFileQuestions, readModelCall}
+use Rattle.model_files.specs.ModelFile.{modelFile, runQuestions, headWords, headQuestions, cutWordsOk, cutFieldQuestions, endQuestions, cutsQuestions, bodyQuestions, runWords, recordWords, fileCut, cutWords, fileWords, recordsFileQuestions, readModelCall}
 
--- P's file has 22 words and 3 fields; read into 23 words it gives P, and the last word is left
+-- P's file has 24 words and 3 fields; read into 25 words it gives P, and the last word is left
 record Read : Type 0 where
   file-length : length (modelFile P) ≡ 97
-  reads : readModelCall (modelFile P) (replicate 23 (pos 7)) ≡ record { count = Done 22; words = P ++ (pos 7 ∷ []) }
-  too-short : readModelCall (modelFile P) (replicate 21 (pos 7)) .count ≡ Refused 5
-  one-byte-more : readModelCall (modelFile P ++ (0 ∷ [])) (replicate 22 (pos 7)) ≡ record { count = Refused 8; words = replicate 22 (pos 0) }
-  one-byte-less : readModelCall (take 96 (modelFile P)) (replicate 22 (pos 7)) .count ≡ Refused 7
-  no-byte : readModelCall [] (replicate 22 (pos 7)) ≡ record { count = Refused 1; words = replicate 22 (pos 7) }
+  reads : readModelCall (modelFile P) (replicate 25 (pos 7)) ≡ record { count = Done 24; words = P ++ (pos 7 ∷ []) }
+  too-short : readModelCall (modelFile P) (replicate 23 (pos 7)) .count ≡ Refused 5
+  one-byte-more : readModelCall (modelFile P ++ (0 ∷ [])) (replicate 24 (pos 7)) ≡ record { count = Refused 8; words = replicate 24 (pos 0) }
+  one-byte-less : readModelCall (take 96 (modelFile P)) (replicate 24 (pos 7)) .count ≡ Refused 7
+  no-byte : readModelCall [] (replicate 24 (pos 7)) ≡ record { count = Refused 1; words = replicate 24 (pos 7) }
+
+-- P's file with a field of tag 8 after it; and of P with an invariant that is not ordered
+abbrev withCut : (m words : List ℤ) → List ℕ
+withCut m words = modelFile m ++ field 8 (wordsBytes words)
+
+abbrev answered : List ℕ → Count
+answered s = readModelCall s (replicate 24 (pos 7)) .count
+
+abbrev disordered : List ℤ
+disordered = set P 5 (negsuc 0)
+
+record CutRead : Type 0 where
+  -- location 0 cut at y 5, and its file is that of P with the cut
+  reads : readModelCall (withCut P (pos 0 ∷ pos 1 ∷ pos 5 ∷ [])) (replicate 24 (pos 7)) ≡ record { count = Done 24; words = take 22 P ++ (pos 1 ∷ pos 5 ∷ []) }
+  written : modelFile (take 22 P ++ (pos 1 ∷ pos 5 ∷ [])) ≡ withCut P (pos 0 ∷ pos 1 ∷ pos 5 ∷ [])
+  -- a first byte of 8 alone; a field of two words; one of the right length of which a byte is missing
+  tag-alone : readModelCall (modelFile P ++ (8 ∷ [])) (replicate 24 (pos 7)) ≡ record { count = Refused 46; words = replicate 24 (pos 0) }
+  two-words : answered (withCut P (pos 0 ∷ pos 1 ∷ [])) ≡ Refused 46
+  cut-short : answered (take 111 (withCut P (pos 0 ∷ pos 1 ∷ pos 5 ∷ []))) ≡ Refused 46
+  -- a location that there is not; location 0 again; a byte after the last field
+  next-location : answered (withCut P (pos 1 ∷ pos 1 ∷ pos 5 ∷ [])) ≡ Refused 46
+  negative-location : answered (withCut P (negsuc 0 ∷ pos 1 ∷ pos 5 ∷ [])) ≡ Refused 46
+  twice : answered (withCut P (pos 0 ∷ pos 1 ∷ pos 5 ∷ []) ++ field 8 (wordsBytes (pos 0 ∷ pos 1 ∷ pos 5 ∷ []))) ≡ Refused 46
+  byte-after : answered (withCut P (pos 0 ∷ pos 1 ∷ pos 5 ∷ []) ++ (0 ∷ [])) ≡ Refused 8
+  -- variable -1, whatever the value; -2 and n; values on the walls
+  no-variable : answered (withCut P (pos 0 ∷ negsuc 0 ∷ pos 0 ∷ [])) ≡ Refused 46
+  negative-variable : answered (withCut P (pos 0 ∷ negsuc 1 ∷ pos 5 ∷ [])) ≡ Refused 46
+  third-variable : answered (withCut P (pos 0 ∷ pos 2 ∷ pos 5 ∷ [])) ≡ Refused 46
+  low-wall : answered (withCut P (pos 0 ∷ pos 1 ∷ pos 0 ∷ [])) ≡ Refused 46
+  high-wall : answered (withCut P (pos 0 ∷ pos 1 ∷ pos 10 ∷ [])) ≡ Refused 46
+  -- of the variable only -1 is asked before the records
+  before-records : answered (withCut disordered (pos 0 ∷ negsuc 0 ∷ pos 0 ∷ [])) ≡ Refused 46
+  after-records : answered (withCut disordered (pos 0 ∷ negsuc 1 ∷ pos 5 ∷ [])) ≡ Refused 11
 
 read : Read
-unfolding onto cat allBelow bitsAt wordAt wordsAt wordBytes wordsBytes fieldAt field _then_ first low high boxBy boxAt locationAt invariant rate startFlag startBox switchAt forbiddenAt forbiddenLocation forbiddenBox modelSize boxOk insideOk zerosOk startOk locationQuestions forbiddenQuestion rangesQuestions recordsQuestions plantP P modelFile runQuestions headWords headQuestions bodyQuestions runWords fileWords recordsFileQuestions unlessRefused readModelCall
-read = record {
-  file-length = refl;
+unfolding onto cat allBelow bitsAt wordAt wordsAt wordBytes wordsBytes fieldAt field _then_ first low high boxBy boxAt locationAt invariant rate startFlag startBox switchAt forbiddenAt forbiddenLocation forbiddenBox cutAt cutVariable cutValue modelSize boxOk insideOk zerosOk startOk locationQuestions forbiddenQuestion strictlyInside cutOk cutQuestion rangesQuestions recordsQuestions plantP P modelFile runQuestions headWords headQuestions cutWordsOk cutFieldQuestions endQuestions cutsQuestions bodyQuestions runWords recordWords fileCut cutWords fileWords recordsFileQuestions unlessRefused readModelCall
+read = record { file-length = refl; reads = refl; too-short = refl; one-byte-more = refl; one-byte-less = refl; no-byte = refl }
+
+cut-read : CutRead
+unfolding onto cat allBelow bitsAt wordAt wordsAt wordBytes wordsBytes fieldAt field _then_ first low high boxBy boxAt locationAt invariant rate startFlag startBox switchAt forbiddenAt forbiddenLocation forbiddenBox cutAt cutVariable cutValue modelSize boxOk insideOk zerosOk startOk locationQuestions forbiddenQuestion strictlyInside cutOk cutQuestion rangesQuestions recordsQuestions plantP P modelFile runQuestions headWords headQuestions cutWordsOk cutFieldQuestions endQuestions cutsQuestions bodyQuestions runWords recordWords fileCut cutWords fileWords recordsFileQuestions unlessRefused readModelCall
+cut-read = record {
   reads = refl;
-  too-short = refl;
-  one-byte-more = refl;
-  one-byte-less = refl;
-  no-byte = refl;
+  written = refl;
+  tag-alone = refl;
+  two-words = refl;
+  cut-short = refl;
+  next-location = refl;
+  negative-location = refl;
+  twice = refl;
+  byte-after = refl;
+  no-variable = refl;
+  negative-variable = refl;
+  third-variable = refl;
+  low-wall = refl;
+  high-wall = refl;
+  before-records = refl;
+  after-records = refl;
 }

@@ -1,3 +1,6 @@
+pub mod Cuts
+pub mod CutsBack
+pub mod CutTurns
 pub mod Cases
 pub mod ModelReading
 pub mod Beginning

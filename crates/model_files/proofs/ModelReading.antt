@@ -3,7 +3,7 @@ use mathlib.Core.Path.{_≡_, refl, sym, ap, _∙_}
 use mathlib.Core.List.{List, _++_, append-assoc}
 use Prim.Native.Nat.{ℕ, zero, suc, _+_, _*_, _≤_, _<_}
 use native.Mathlib.Omega.{arith}
-use lib.Dec.{T, leb, eqb, eqb→eq, leb→le}
+use lib.Dec.{T, leb, leb→le}
 use lib.IntN.{ℤ, pos}
 use lib.ListN.{length, take, length-append, List·getD-append}
 use Rattle.integers.specs.Words.{word, onto}
@@ -15,13 +15,15 @@ use Rattle.wire.proofs.Words.{length-words}
 use Rattle.wire.proofs.Fields.{Due, due, place-small}
 use Rattle.plant.specs.Ask.{ask, _then_}
 use Rattle.wire.specs.declared.Field.{Field}
-use Rattle.plant.specs.Model.{n#, L#, E#, B#, locationSize, switchSize, forbiddenSize, locationAt, switchAt, forbiddenAt, modelSize}
+use Rattle.plant.specs.Model.{n#, L#, E#, B#, locationSize, switchSize, forbiddenSize, locationAt, switchAt, forbiddenAt, cutAt, modelSize}
 use Rattle.plant.specs.Questions.{rangesQuestions}
-use Rattle.plant.proofs.Asks.{ask-yes, or-right, then-both, first-each}
+use Rattle.plant.proofs.Asks.{ask-yes, or-right, both, then-both, first-each}
 use Rattle.records.specs.Whole as model
+use Rattle.records.proofs.Positions as at
 use Rattle.records.proofs.Positions.{head-first}
-use Rattle.model_files.specs.ModelFile.{headFieldSize, hasTag, fieldQuestions, runQuestions, locationsFrom, switchesFrom, forbiddensFrom, fileEnd, headWords, headQuestions, bufferQuestion, bodyQuestions, runWords, fileWords}
-use Rattle.model_files.specs.Room.{RunReady}
+use Rattle.model_files.specs.ModelFile.{headFieldSize, hasTag, fieldQuestions, runQuestions, locationsFrom, switchesFrom, forbiddensFrom, cutsFrom, headWords, headQuestions, bufferQuestion, cutsQuestions, bodyQuestions, runWords, recordWords, fileCut, cutWords, fileWords}
+use Rattle.model_files.specs.Room.{RunReady, CutsReady}
+use Rattle.model_files.proofs.Cuts.{length-cut, cuts-few}
 
 -- ---- fields
 
@@ -55,6 +57,12 @@ pub run-one : (s : List ℕ) (from w : ℕ) → runWords s from 1 w ≡ wordsAt 
 unfolding runWords cat
 run-one s from w = ap (λ (at : ℕ). wordsAt s at w) (omega arith)
 
+-- ---- the cuts' words
+
+pub length-cuts : (s : List ℕ) (from L : ℕ) → length (cutWords s from L) ≡ L * 2
+unfolding cutWords
+length-cuts s from L = length-cat L 2 (fileCut s from L) (λ l _. length-cut s from L l)
+
 -- ---- places, which are small
 
 module _ (h : List ℤ) (ok : model.Head h) where
@@ -64,7 +72,10 @@ module _ (h : List ℤ) (ok : model.Head h) where
   pub forbiddens-small : forbiddensFrom h ≤ 25427
   forbiddens-small = omega (arith, switches-small, place-small (6 + 4 * n# h) (E# h) 30 128 (ok .E-small) (omega (arith, ok .n-small)))
 
--- where the words of the locations, the switches and the forbidden boxes begin
+  pub cuts-small : cutsFrom h ≤ 28947
+  cuts-small = omega (arith, forbiddens-small, place-small (1 + 2 * n# h) (B# h) 13 64 (ok .B-small) (omega (arith, ok .n-small)))
+
+-- where the words of the locations, the switches, the forbidden boxes and the cuts begin
 pub locations-at : (h : List ℤ) → locationAt h 0 ≡ 4
 unfolding locationAt
 locations-at h = omega arith
@@ -77,8 +88,12 @@ pub forbiddens-at : (h : List ℤ) → forbiddenAt h 0 ≡ switchAt h 0 + E# h *
 unfolding forbiddenAt switchAt
 forbiddens-at h = omega arith
 
-pub words-end : (h : List ℤ) → modelSize h ≡ forbiddenAt h 0 + B# h * (1 + 2 * n# h)
-unfolding modelSize forbiddenAt
+pub cuts-at : (h : List ℤ) → cutAt h 0 ≡ forbiddenAt h 0 + B# h * (1 + 2 * n# h)
+unfolding cutAt forbiddenAt
+cuts-at h = omega arith
+
+pub words-end : (h : List ℤ) → modelSize h ≡ cutAt h 0 + L# h * 2
+unfolding modelSize cutAt
 words-end h = omega arith
 
 -- ---- two lists with the same head words
@@ -88,7 +103,7 @@ SameHead a b = (j : ℕ) → j < 4 → word a j ≡ word b j
 
 module _ (a b : List ℤ) (e : SameHead a b) where
   pub same-size : modelSize a ≡ modelSize b
-  unfolding modelSize forbiddenAt switchAt locationAt
+  unfolding modelSize cutAt forbiddenAt switchAt locationAt
   same-size = rw (e 0 (omega arith), e 1 (omega arith), e 2 (omega arith), e 3 (omega arith)) refl
 
   pub same-ranges : rangesQuestions a ≡ rangesQuestions b
@@ -99,8 +114,9 @@ module _ (a b : List ℤ) (e : SameHead a b) where
   unfolding bodyQuestions
   same-body s = rw (e 0 (omega arith), e 1 (omega arith), e 2 (omega arith), e 3 (omega arith)) refl
 
-  pub same-words : (s : List ℕ) → fileWords s a ≡ a ++ (runWords s 19 (L# b) (6 * n# b + 1) ++ (runWords s (switchesFrom b) (E# b) (6 + 4 * n# b) ++ runWords s (forbiddensFrom b) (B# b) (1 + 2 * n# b)))
-  unfolding fileWords
+  pub same-words : (s : List ℕ) → fileWords s a
+      ≡ (a ++ (runWords s 19 (L# b) (6 * n# b + 1) ++ (runWords s (switchesFrom b) (E# b) (6 + 4 * n# b) ++ runWords s (forbiddensFrom b) (B# b) (1 + 2 * n# b)))) ++ cutWords s (cutsFrom b) (L# b)
+  unfolding recordWords fileWords
   same-words s = rw (e 0 (omega arith), e 1 (omega arith), e 2 (omega arith), e 3 (omega arith)) refl
 
   pub same-allowed : 4 ≤ length a → model.Head b → model.Head a
@@ -141,24 +157,34 @@ module _ (s : List ℕ) (h : List ℤ) (four : length h ≡ 4) where
   to-forbiddens : length ((h ++ locations) ++ switches) ≡ forbiddenAt h 0
   to-forbiddens = omega (arith, length-append (h ++ locations) switches, to-switches, length-run s (switchesFrom h) (E# h) (6 + 4 * n# h), forbiddens-at h)
 
-  in-turn : ((h ++ locations) ++ switches) ++ forbiddens ≡ fileWords s h
-  unfolding fileWords
+  abbrev cuts : List ℤ
+  cuts = cutWords s (cutsFrom h) (L# h)
+
+  in-turn : ((h ++ locations) ++ switches) ++ forbiddens ≡ recordWords s h
+  unfolding recordWords
   in-turn = append-assoc (h ++ locations) switches forbiddens ∙ append-assoc h locations (switches ++ forbiddens)
 
-  pub length-file : length (fileWords s h) ≡ modelSize h
-  length-file =
-      rw (← in-turn) (omega (arith, length-append ((h ++ locations) ++ switches) forbiddens, to-forbiddens, length-run s (forbiddensFrom h) (B# h) (1 + 2 * n# h), words-end h))
+  pub to-cuts : length (recordWords s h) ≡ cutAt h 0
+  to-cuts = rw (← in-turn) (omega (arith, length-append ((h ++ locations) ++ switches) forbiddens, to-forbiddens, length-run s (forbiddensFrom h) (B# h) (1 + 2 * n# h), cuts-at h))
 
-  -- the head words, then the three runs
-  pub filled : (d x₁ x₂ x₃ x₄ : List ℤ) → x₁ ≡ onto h d → x₂ ≡ onto (take 4 x₁ ++ locations) x₁ → x₃ ≡ onto (take (switchAt h 0) x₂ ++ switches) x₂ → x₄ ≡ onto (take (forbiddenAt h 0) x₃ ++ forbiddens) x₃ → x₄ ≡ onto (fileWords s h) d
+  pub length-file : length (fileWords s h) ≡ modelSize h
+  unfolding fileWords
+  length-file = omega (arith, length-append (recordWords s h) cuts, to-cuts, length-cuts s (cutsFrom h) (L# h), words-end h)
+
+  -- the head words, then the three runs, then the cuts
+  pub filled : (d x₁ x₂ x₃ x₄ : List ℤ) → x₁ ≡ onto h d → x₂ ≡ onto (take 4 x₁ ++ locations) x₁ → x₃ ≡ onto (take (switchAt h 0) x₂ ++ switches) x₂ → x₄ ≡ onto (take (forbiddenAt h 0) x₃ ++ forbiddens) x₃ → x₄ ≡ onto (recordWords s h) d
   filled d x₁ x₂ x₃ x₄ e₁ e₂ e₃ e₄ =
       let f₂ : x₂ ≡ onto (h ++ locations) d = onto-more h locations d x₁ x₂ 4 e₁ four e₂ in
       let f₃ : x₃ ≡ onto ((h ++ locations) ++ switches) d = onto-more (h ++ locations) switches d x₂ x₃ (switchAt h 0) f₂ to-switches e₃ in
       onto-more ((h ++ locations) ++ switches) forbiddens d x₃ x₄ (forbiddenAt h 0) f₃ to-forbiddens e₄ ∙ ap (λ (l : List ℤ). onto l d) in-turn
 
-  pub same-file : SameHead (fileWords s h) h
+  pub all-filled : (d x y : List ℤ) → x ≡ onto (recordWords s h) d → y ≡ onto (take (cutAt h 0) x ++ cuts) x → y ≡ onto (fileWords s h) d
   unfolding fileWords
-  same-file = same-front h (locations ++ (switches ++ forbiddens)) four
+  all-filled d x y e f = onto-more (recordWords s h) cuts d x y (cutAt h 0) e to-cuts f
+
+  pub same-file : SameHead (fileWords s h) h
+  unfolding recordWords fileWords
+  same-file j l = List·getD-append (recordWords s h) cuts (pos 0) j (omega (arith, to-cuts, cuts-at h, forbiddens-at h, switches-at h)) ∙ same-front h (locations ++ (switches ++ forbiddens)) four j l
 
   -- the words that are filled in are a whole model, as far as its head tells
   pub file-whole : model.Head h → model.Whole (fileWords s h)
@@ -202,7 +228,13 @@ pub record BodyPassed (s : List ℕ) (h : List ℤ) : Type 0 where
   pub locations-whole : (i : ℕ) → i < L# h → T (isField (fieldAt s (fieldPlace 19 (6 * n# h + 1) i)) 2 (4 * (6 * n# h + 1)))
   pub switches-whole : (i : ℕ) → i < E# h → T (isField (fieldAt s (fieldPlace (switchesFrom h) (6 + 4 * n# h) i)) 3 (4 * (6 + 4 * n# h)))
   pub forbiddens-whole : (i : ℕ) → i < B# h → T (isField (fieldAt s (fieldPlace (forbiddensFrom h) (1 + 2 * n# h) i)) 4 (4 * (1 + 2 * n# h)))
-  pub ended : length s ≡ fileEnd h
+  pub cuts-pass : cutsQuestions s (cutsFrom h) (L# h) ≡ 0
+
+-- the four parts, as code has them
+pub body-made : (s : List ℕ) (h : List ℤ) {a b c d x y r : ℕ} → a ≡ runQuestions s locationsFrom (L# h) 2 (locationSize (n# h)) → b ≡ runQuestions s (switchesFrom h) (E# h) 3 (switchSize (n# h))
+    → c ≡ runQuestions s (forbiddensFrom h) (B# h) 4 (forbiddenSize (n# h)) → d ≡ cutsQuestions s (cutsFrom h) (L# h) → x ≡ (c then d) → y ≡ (b then x) → r ≡ (a then y) → r ≡ bodyQuestions s h
+unfolding bodyQuestions
+body-made s h ea eb ec ed ex ey er = both er ea (both ey eb (both ex ec ed))
 
 pub body-passed : (s : List ℕ) (h : List ℤ) → bodyQuestions s h ≡ 0 → BodyPassed s h
 unfolding bodyQuestions
@@ -214,19 +246,43 @@ body-passed s h e =
       locations-whole = run-passed s 19 (L# h) 2 (6 * n# h + 1) (a .0);
       switches-whole = run-passed s (switchesFrom h) (E# h) 3 (6 + 4 * n# h) (b .0);
       forbiddens-whole = run-passed s (forbiddensFrom h) (B# h) 4 (1 + 2 * n# h) (c .0);
-      ended = eqb→eq (length s) (fileEnd h) (ask-yes (eqb (length s) (fileEnd h)) 8 (omega arith) (c .1));
+      cuts-pass = c .1;
     }
+
+-- ---- the largest model: 64 locations of 6 variables, 128 switches, 64 forbidden boxes, every location cut
+
+pub most-words : (h : List ℤ) → model.Head h → modelSize h ≤ 7172
+most-words h ok =
+    omega (
+      arith,
+      ok .L-small,
+      switches-at h,
+      forbiddens-at h,
+      cuts-at h,
+      words-end h,
+      at.locations-small (n# h) (L# h) (ok .L-small) (ok .n-small),
+      at.switches-small (n# h) (E# h) (ok .E-small) (ok .n-small),
+      at.forbiddens-small (n# h) (B# h) (ok .B-small) (ok .n-small),
+    )
+
+pub most-bytes : (s : List ℕ) (h : List ℤ) → model.Head h → BodyPassed s h → length s ≤ 29907
+most-bytes s h ok y = omega (arith, cuts-small h ok, cuts-few s (cutsFrom h) (L# h) (ok .L-positive) (y .cuts-pass), ok .L-small)
+
+-- ---- what the filling asks
 
 -- what the copying of the runs asks of a file that passes, and of words that are long enough
 module _ (s : List ℕ) (h : List ℤ) (ok : model.Head h) (y : BodyPassed s h) (words : List ℤ) (room : modelSize h ≤ length words) where
   pub locations-ready : RunReady s locationsFrom (L# h) (locationSize (n# h)) words (locationAt h 0)
-  locations-ready = record { tag = 2; whole = y .locations-whole; room = omega (arith, locations-at h, switches-at h, forbiddens-at h, words-end h); w-small = omega (arith, ok .n-small) }
+  locations-ready = record { tag = 2; whole = y .locations-whole; room = omega (arith, locations-at h, switches-at h, forbiddens-at h, cuts-at h, words-end h); w-small = omega (arith, ok .n-small) }
 
   pub switches-ready : RunReady s (switchesFrom h) (E# h) (switchSize (n# h)) words (switchAt h 0)
-  switches-ready = record { tag = 3; whole = y .switches-whole; room = omega (arith, forbiddens-at h, words-end h); w-small = omega (arith, ok .n-small) }
+  switches-ready = record { tag = 3; whole = y .switches-whole; room = omega (arith, forbiddens-at h, cuts-at h, words-end h); w-small = omega (arith, ok .n-small) }
 
   pub forbiddens-ready : RunReady s (forbiddensFrom h) (B# h) (forbiddenSize (n# h)) words (forbiddenAt h 0)
-  forbiddens-ready = record { tag = 4; whole = y .forbiddens-whole; room = omega (arith, words-end h); w-small = omega (arith, ok .n-small) }
+  forbiddens-ready = record { tag = 4; whole = y .forbiddens-whole; room = omega (arith, cuts-at h, words-end h); w-small = omega (arith, ok .n-small) }
+
+  pub cuts-ready : CutsReady s (cutsFrom h) (L# h) words (cutAt h 0)
+  cuts-ready = record { some = ok .L-positive; passes = y .cuts-pass; room = omega (arith, words-end h); few = ok .L-small }
 
 -- the first field is a run of one
 pub head-ready : (s : List ℕ) (words : List ℤ) → T (isField (fieldAt s 0) 1 (payloadLength headFieldSize)) → headFieldSize ≤ length words → RunReady s 0 1 headFieldSize words 0

@@ -1,16 +1,23 @@
 -- A model's file is read exactly if it is the file of words that pass the questions, and then gives those words. One way, each
 -- field that is written is read back; the other way, each field that is read is the one that would be written.
-use mathlib.Core.Path.{_≡_, refl, sym, ap, ap₂, _∙_}
+use mathlib.Core.Path.{_≡_, refl, sym, ap, ap₂, subst, _∙_}
 use mathlib.Core.Bool.{Bool}
-use mathlib.Core.List.{List, [], _++_, append-assoc, append-nil}
-use Prim.Native.Nat.{ℕ, _+_, _*_, _≤_, _<_}
+use mathlib.Core.Logic.{⊎-elim}
+use mathlib.Core.List.{List, [], _∷_, _++_, append-assoc}
+use Prim.Native.Nat.{ℕ, zero, suc, _+_, _*_, _≤_, _<_}
 use native.Mathlib.Omega.{arith}
 use lib.Dec.{T, leb, eqb, le→leb, eqb-refl}
-use lib.IntN.{ℤ, pos}
-use lib.ListN.{length, take, drop, length-append, take-append-drop}
-use lib.Seq.{take-add, take-at, drop-at, take-all, length-take-le, getD-take}
-use Rattle.integers.specs.Words.{AreWords, AreBytes, onto}
+use lib.IntN.{ℤ, pos, negsuc}
+use lib.Signed.{nonNeg}
+use lib.ListN.{length, getD, take, drop, length-append, length-drop, take-append-drop}
+use lib.Seq.{take-add, take-at, drop-at, length-take-le, getD-take, getD-drop, getD-append-add}
+use mir.Facts.{sfits-lit}
+use Rattle.integers.specs.Words.{word, AreWords, AreBytes, onto}
 use Rattle.integers.specs.Counted.{cat}
+use Rattle.integers.proofs.Signed.{fits32}
+use Rattle.integers.proofs.Tests.{by-test}
+use Rattle.integers.proofs.Counted as counted
+use Rattle.integers.proofs.Counted.{within-one}
 use Rattle.integers.proofs.Buffers.{cat-ext, cat-at, cat-parts, length-cat, take-onto}
 use Rattle.wire.specs.Bytes.{wordsAt, wordsBytes, part}
 use Rattle.wire.specs.Fields.{fieldAt, field, fieldPlace, isField}
@@ -19,21 +26,23 @@ use Rattle.wire.specs.declared.Field.the-variants.{Whole}
 use Rattle.wire.proofs.Words.{length-bytes, length-part, length-words, part-words, all-bytes-back}
 use Rattle.wire.proofs.Fields.{length-field, field-back, field-words-back, field-part, length-fields, fields-back, fields-words-back, fields-stand, Due, due, whole-is}
 use Rattle.plant.specs.Ask.{ask, _then_}
-use Rattle.plant.specs.Model.{n#, L#, E#, B#, locationAt, switchAt, forbiddenAt, modelSize}
+use Rattle.plant.specs.Model.{n#, L#, E#, B#, locationAt, switchAt, forbiddenAt, cutAt, cutVariable, cutValue, modelSize}
 use Rattle.plant.specs.Questions.{rangesQuestions, recordsQuestions, modelQuestions}
 use Rattle.plant.proofs.Asks.{ask-intro, ask-le, asked, then-both, then-intro, then-le, first-intro, first-le}
 use Rattle.plant.proofs.Numbers.{records-le, ranges-le}
-use Rattle.plant.proofs.Passed.{Passed, passed}
+use Rattle.plant.proofs.Passed.{IsUncut, IsCut, Passed, passed, ranges-passed}
 use Rattle.plant.specs.declared.Count.the-variants.{Done}
 use Rattle.plant.specs.Calls.{readReply, wordsRead}
 use Rattle.plant.proofs.Reading.{past, done}
 use Rattle.records.specs.Whole as model
-use Rattle.records.proofs.Positions.{head-first, location-within, switch-within, forbidden-within}
+use Rattle.records.proofs.Positions.{head-first, location-within, switch-within, forbidden-within, cut-within}
 use Rattle.model.proofs.Passing.{whole-passed}
-use Rattle.model_files.specs.ModelFile.{recordField, modelFile, hasTag, fieldQuestions, runQuestions, headWords, headQuestions, bufferQuestion, recordsFileQuestions, switchesFrom, forbiddensFrom, fileEnd, bodyQuestions, runWords, fileWords, readModelCall}
+use Rattle.model_files.specs.ModelFile.{recordField, cutField, modelFile, hasTag, fieldQuestions, runQuestions, headWords, headQuestions, bufferQuestion, recordsFileQuestions, switchesFrom, forbiddensFrom, cutsFrom, cutPlace, cutFieldWords, leastLocation, cutWordsOk, cutFieldQuestions, endQuestions, cutsQuestions, bodyQuestions, runWords, recordWords, fileCut, cutWords, fileWords, readModelCall}
 use Rattle.model_files.specs.ModelFilesExact.{IsModelFile, ModelFilesExact}
 use Rattle.model_files.proofs.Beginning.{records-yes}
-use Rattle.model_files.proofs.ModelReading.{SameHead, same-size, same-ranges, same-body, same-words, same-allowed, same-file, length-file, length-head, length-run, BodyPassed, body-passed, switches-at, forbiddens-at, words-end}
+use Rattle.model_files.proofs.Cuts.{length-cut}
+use Rattle.model_files.proofs.CutsBack.{cuts-stand, cuts-asked, cuts-read}
+use Rattle.model_files.proofs.ModelReading.{SameHead, same-size, same-ranges, same-body, same-words, same-allowed, same-file, to-cuts, length-file, length-head, length-run, BodyPassed, body-passed, switches-at, forbiddens-at, cuts-at, words-end}
 
 -- ---- lists in four parts
 
@@ -46,6 +55,16 @@ module _ {A : Type 0} where
       ∙ ap (λ (r : List A). r ++ part l (x + a + b) c) (sym (append-assoc (take x l) (part l x a) (part l (x + a) b)) ∙ ap (λ (r : List A). r ++ part l (x + a) b) (sym (take-add x a l)) ∙ sym (take-add (x + a) b l))
       ∙ sym (take-add (x + a + b) c l)
 
+  -- and the rest
+  five-parts : (l : List A) (x a b c : ℕ) → take x l ++ (part l x a ++ (part l (x + a) b ++ (part l (x + a + b) c ++ drop (x + a + b + c) l))) ≡ l
+  five-parts l x a b c =
+      ap (λ (r : List A). take x l ++ r)
+      (ap (λ (r : List A). part l x a ++ r) (sym (append-assoc (part l (x + a) b) (part l (x + a + b) c) (drop (x + a + b + c) l)))
+      ∙ sym (append-assoc (part l x a) (part l (x + a) b ++ part l (x + a + b) c) (drop (x + a + b + c) l)))
+      ∙ sym (append-assoc (take x l) (part l x a ++ (part l (x + a) b ++ part l (x + a + b) c)) (drop (x + a + b + c) l))
+      ∙ ap (λ (r : List A). r ++ drop (x + a + b + c) l) (four-parts l x a b c)
+      ∙ take-append-drop (x + a + b + c) l
+
   -- list i of lists of one length, after p
   pub part-of-cat : (p : List A) (g : ℕ → List A) (q : List A) (k w at i : ℕ) → length p ≡ at → ((i : ℕ) → i < k → length (g i) ≡ w) → i < k → part (p ++ (cat k g ++ q)) (at + i * w) w ≡ g i
   part-of-cat p g q k w at i e lens l =
@@ -56,6 +75,15 @@ module _ {A : Type 0} where
       ∙ sym (append-assoc p (cat i g) (g i ++ (c .0 ++ q))) in
       let before : length (p ++ cat i g) ≡ at + i * w = omega (arith, length-append p (cat i g), length-cat i w g (λ j u. lens j (omega arith))) in
       rw around (ap (take w) (drop-at (p ++ cat i g) (g i ++ (c .0 ++ q)) (at + i * w) before) ∙ take-at (g i) (c .0 ++ q) w (lens i l))
+
+-- two words of a list
+front-two : (s : List ℤ) → 2 ≤ length s → take 2 s ≡ word s 0 ∷ word s 1 ∷ []
+front-two [] h = absurd (omega arith)
+front-two (a ∷ []) h = absurd (omega arith)
+front-two (a ∷ b ∷ s) h = refl
+
+two-words : (s : List ℤ) (at : ℕ) → at + 2 ≤ length s → part s at 2 ≡ word s at ∷ word s (at + 1) ∷ []
+two-words s at h = front-two (drop at s) (omega (arith, length-drop at s)) ∙ ap₂ (λ (a b : ℤ). a ∷ b ∷ []) (getD-drop at s 0 (pos 0) ∙ ap (word s) (omega arith)) (getD-drop at s 1 (pos 0))
 
 -- ---- a run of fields that is written is read back
 
@@ -103,8 +131,11 @@ module _ (m : List ℤ) (ok : Passed m) (f : AreWords m) where
   abbrev forbiddens : List ℕ
   forbiddens = cat (B# m) (λ b. field 4 (wordsBytes (forbiddenWords b)))
 
+  abbrev cuts : List ℕ
+  cuts = cat (L# m) (λ l. cutField l (cutVariable m l) (cutValue m l))
+
   abbrev s : List ℕ
-  s = headField ++ (locations ++ (switches ++ forbiddens))
+  s = headField ++ (locations ++ (switches ++ (forbiddens ++ cuts)))
 
   -- lengths
 
@@ -130,23 +161,36 @@ module _ (m : List ℤ) (ok : Passed m) (f : AreWords m) where
 
   before-switches : length (headField ++ locations) ≡ switchesFrom m
   before-switches =
-      omega (arith, length-append headField locations, length-head-field, length-fields headField 2 locationWords (L# m) (6 * n# m + 1) (switches ++ forbiddens) 19 length-head-field length-location (L# m) (omega arith))
+      omega (arith, length-append headField locations, length-head-field, length-fields headField 2 locationWords (L# m) (6 * n# m + 1) (switches ++ (forbiddens ++ cuts)) 19 length-head-field length-location (L# m) (omega arith))
 
   before-forbiddens : length ((headField ++ locations) ++ switches) ≡ forbiddensFrom m
   before-forbiddens =
-      omega (arith, length-append (headField ++ locations) switches, before-switches, length-fields (headField ++ locations) 3 switchWords (E# m) (6 + 4 * n# m) forbiddens (switchesFrom m) before-switches length-switch (E# m) (omega arith))
+      omega (arith, length-append (headField ++ locations) switches, before-switches, length-fields (headField ++ locations) 3 switchWords (E# m) (6 + 4 * n# m) (forbiddens ++ cuts) (switchesFrom m) before-switches length-switch (E# m) (omega arith))
 
-  around-switches : s ≡ (headField ++ locations) ++ (switches ++ forbiddens)
-  around-switches = sym (append-assoc headField locations (switches ++ forbiddens))
+  before-cuts : length (((headField ++ locations) ++ switches) ++ forbiddens) ≡ cutsFrom m
+  before-cuts =
+      omega (arith, length-append ((headField ++ locations) ++ switches) forbiddens, before-forbiddens, length-fields ((headField ++ locations) ++ switches) 4 forbiddenWords (B# m) (1 + 2 * n# m) cuts (forbiddensFrom m) before-forbiddens length-forbidden (B# m) (omega arith))
 
-  around-forbiddens : s ≡ ((headField ++ locations) ++ switches) ++ (forbiddens ++ [])
-  around-forbiddens =
-      around-switches ∙ sym (append-assoc (headField ++ locations) switches forbiddens) ∙ ap (λ (x : List ℕ). ((headField ++ locations) ++ switches) ++ x) (sym (append-nil forbiddens))
+  around-switches : s ≡ (headField ++ locations) ++ (switches ++ (forbiddens ++ cuts))
+  around-switches = sym (append-assoc headField locations (switches ++ (forbiddens ++ cuts)))
 
-  length-all : length s ≡ fileEnd m
-  length-all =
-      ap length (around-switches ∙ sym (append-assoc (headField ++ locations) switches forbiddens))
-      ∙ omega (arith, length-append ((headField ++ locations) ++ switches) forbiddens, before-forbiddens, length-fields ((headField ++ locations) ++ switches) 4 forbiddenWords (B# m) (1 + 2 * n# m) [] (forbiddensFrom m) before-forbiddens length-forbidden (B# m) (omega arith))
+  around-forbiddens : s ≡ ((headField ++ locations) ++ switches) ++ (forbiddens ++ cuts)
+  around-forbiddens = around-switches ∙ sym (append-assoc (headField ++ locations) switches (forbiddens ++ cuts))
+
+  around-cuts : s ≡ (((headField ++ locations) ++ switches) ++ forbiddens) ++ cuts
+  around-cuts = around-forbiddens ∙ sym (append-assoc ((headField ++ locations) ++ switches) forbiddens cuts)
+
+  -- the words of each location's cut
+
+  cut-fits : (l : ℕ) → l < L# m → AreWords (pos l ∷ cutVariable m l ∷ cutValue m l ∷ [])
+  unfolding cutVariable cutValue
+  cut-fits l u zero = fits32 {z = pos l} (omega (arith, ok .L-small))
+  cut-fits l u (suc zero) = f (cutAt m l)
+  cut-fits l u (suc (suc zero)) = f (cutAt m l + 1)
+  cut-fits l u (suc (suc (suc i))) = sfits-lit tt
+
+  no-value : (l : ℕ) → l < L# m → cutVariable m l ≡ negsuc 0 → cutValue m l ≡ pos 0
+  no-value l u e = ⊎-elim (λ (c : IsUncut m l). c .no-value) (λ (c : IsCut m l). absurd (subst (λ (z : ℤ). T (nonNeg z)) e (c .not-negative))) (ok .of-cut l u .words)
 
   -- the questions of the fields
 
@@ -154,19 +198,19 @@ module _ (m : List ℤ) (ok : Passed m) (f : AreWords m) where
   unfolding bodyQuestions
   body-yes =
       let small : n# m ≤ 6 = ok .n-small in
-      then-intro (run-yes s headField 2 locationWords (L# m) (6 * n# m + 1) (switches ++ forbiddens) 19 refl length-head-field length-location (omega arith))
-      (then-intro (run-yes s (headField ++ locations) 3 switchWords (E# m) (6 + 4 * n# m) forbiddens (switchesFrom m) around-switches before-switches length-switch (omega arith))
-      (then-intro (run-yes s ((headField ++ locations) ++ switches) 4 forbiddenWords (B# m) (1 + 2 * n# m) [] (forbiddensFrom m) around-forbiddens before-forbiddens length-forbidden (omega arith))
-      (ask-intro (eqb (length s) (fileEnd m)) 8 (rw length-all (eqb-refl (fileEnd m))))))
+      then-intro (run-yes s headField 2 locationWords (L# m) (6 * n# m + 1) (switches ++ (forbiddens ++ cuts)) 19 refl length-head-field length-location (omega arith))
+      (then-intro (run-yes s (headField ++ locations) 3 switchWords (E# m) (6 + 4 * n# m) (forbiddens ++ cuts) (switchesFrom m) around-switches before-switches length-switch (omega arith))
+      (then-intro (run-yes s ((headField ++ locations) ++ switches) 4 forbiddenWords (B# m) (1 + 2 * n# m) cuts (forbiddensFrom m) around-forbiddens before-forbiddens length-forbidden (omega arith))
+      (rw around-cuts (cuts-asked (((headField ++ locations) ++ switches) ++ forbiddens) (cutVariable m) (cutValue m) (cutsFrom m) (L# m) before-cuts cut-fits no-value))))
 
   head-yes : T (isField (fieldAt s 0) 1 16)
-  head-yes = whole-is (fieldAt s 0) 1 3 16 19 (field-back [] 1 (wordsBytes (part m 0 4)) (locations ++ (switches ++ forbiddens)) 0 16 refl length-payload (omega arith))
+  head-yes = whole-is (fieldAt s 0) 1 3 16 19 (field-back [] 1 (wordsBytes (part m 0 4)) (locations ++ (switches ++ (forbiddens ++ cuts))) 0 16 refl length-payload (omega arith))
 
   -- the words
 
   head-words : headWords s ≡ part m 0 4
   unfolding headWords
-  head-words = field-words-back [] 1 (part m 0 4) (locations ++ (switches ++ forbiddens)) 0 4 refl four (part-words m 0 4 f)
+  head-words = field-words-back [] 1 (part m 0 4) (locations ++ (switches ++ (forbiddens ++ cuts))) 0 4 refl four (part-words m 0 4 f)
 
   same : SameHead (headWords s) m
   same j l = rw head-words (getD-take 4 m j (pos 0) l)
@@ -186,18 +230,30 @@ module _ (m : List ℤ) (ok : Passed m) (f : AreWords m) where
   runs : runWords s 19 (L# m) (6 * n# m + 1) ++ (runWords s (switchesFrom m) (E# m) (6 + 4 * n# m) ++ runWords s (forbiddensFrom m) (B# m) (1 + 2 * n# m))
       ≡ cat (L# m) locationWords ++ (cat (E# m) switchWords ++ cat (B# m) forbiddenWords)
   runs =
-      ap₂ (λ (x y : List ℤ). x ++ y) (run-words s headField 2 locationWords (L# m) (6 * n# m + 1) (switches ++ forbiddens) 19 refl length-head-field length-location (λ i. part-words m (locationAt m i) (6 * n# m + 1) f))
-      (ap₂ (λ (x y : List ℤ). x ++ y) (run-words s (headField ++ locations) 3 switchWords (E# m) (6 + 4 * n# m) forbiddens (switchesFrom m) around-switches before-switches length-switch (λ i. part-words m (switchAt m i) (6 + 4 * n# m) f))
-      (run-words s ((headField ++ locations) ++ switches) 4 forbiddenWords (B# m) (1 + 2 * n# m) [] (forbiddensFrom m) around-forbiddens before-forbiddens length-forbidden (λ i. part-words m (forbiddenAt m i) (1 + 2 * n# m) f)))
+      ap₂ (λ (x y : List ℤ). x ++ y) (run-words s headField 2 locationWords (L# m) (6 * n# m + 1) (switches ++ (forbiddens ++ cuts)) 19 refl length-head-field length-location (λ i. part-words m (locationAt m i) (6 * n# m + 1) f))
+      (ap₂ (λ (x y : List ℤ). x ++ y) (run-words s (headField ++ locations) 3 switchWords (E# m) (6 + 4 * n# m) (forbiddens ++ cuts) (switchesFrom m) around-switches before-switches length-switch (λ i. part-words m (switchAt m i) (6 + 4 * n# m) f))
+      (run-words s ((headField ++ locations) ++ switches) 4 forbiddenWords (B# m) (1 + 2 * n# m) cuts (forbiddensFrom m) around-forbiddens before-forbiddens length-forbidden (λ i. part-words m (forbiddenAt m i) (1 + 2 * n# m) f)))
 
-  size-is : 4 + L# m * (6 * n# m + 1) + E# m * (6 + 4 * n# m) + B# m * (1 + 2 * n# m) ≡ modelSize m
-  size-is = omega (arith, switches-at m, forbiddens-at m, words-end m)
+  cut-parts : cutWords s (cutsFrom m) (L# m) ≡ part m (4 + L# m * (6 * n# m + 1) + E# m * (6 + 4 * n# m) + B# m * (1 + 2 * n# m)) (L# m * 2)
+  unfolding cutWords cutVariable cutValue cutAt forbiddenAt switchAt locationAt
+  cut-parts =
+      cat-ext (L# m) (fileCut s (cutsFrom m) (L# m)) (λ l. part m (cutAt m l) 2)
+      (λ l u. subst (λ (x : List ℕ). fileCut x (cutsFrom m) (L# m) l ≡ cutVariable m l ∷ cutValue m l ∷ []) (sym around-cuts)
+      (cuts-read (((headField ++ locations) ++ switches) ++ forbiddens) (cutVariable m) (cutValue m) (cutsFrom m) (L# m) before-cuts cut-fits no-value l u)
+      ∙ sym (two-words m (cutAt m l) (cut-within m w l u)))
+      ∙ cat-parts m (4 + L# m * (6 * n# m + 1) + E# m * (6 + 4 * n# m) + B# m * (1 + 2 * n# m)) 2 (L# m)
+
+  size-is : 4 + L# m * (6 * n# m + 1) + E# m * (6 + 4 * n# m) + B# m * (1 + 2 * n# m) + L# m * 2 ≡ modelSize m
+  size-is = omega (arith, switches-at m, forbiddens-at m, cuts-at m, words-end m)
 
   words-are : fileWords s (headWords s) ≡ take (modelSize m) m
   words-are =
       same-words (headWords s) m same s
-      ∙ ap₂ (λ (x y : List ℤ). x ++ y) head-words (runs ∙ ap₂ (λ (x y : List ℤ). x ++ y) location-parts (ap₂ (λ (x y : List ℤ). x ++ y) switch-parts forbidden-parts))
-      ∙ four-parts m 4 (L# m * (6 * n# m + 1)) (E# m * (6 + 4 * n# m)) (B# m * (1 + 2 * n# m))
+      ∙ ap₂ (λ (x y : List ℤ). x ++ y)
+      (ap₂ (λ (x y : List ℤ). x ++ y) head-words (runs ∙ ap₂ (λ (x y : List ℤ). x ++ y) location-parts (ap₂ (λ (x y : List ℤ). x ++ y) switch-parts forbidden-parts))
+      ∙ four-parts m 4 (L# m * (6 * n# m + 1)) (E# m * (6 + 4 * n# m)) (B# m * (1 + 2 * n# m)))
+      cut-parts
+      ∙ sym (take-add (4 + L# m * (6 * n# m + 1) + E# m * (6 + 4 * n# m) + B# m * (1 + 2 * n# m)) (L# m * 2) m)
       ∙ ap (λ (k : ℕ). take k m) size-is
 
   -- the model's words alone pass, too
@@ -229,32 +285,42 @@ module _ (m : List ℤ) (ok : Passed m) (f : AreWords m) where
 
 -- ---- no refusal is 100
 
-asks : (b : Bool) (k : ℕ) → k ≤ 19 → ask b k ≤ 19
+asks : (b : Bool) (k : ℕ) → k ≤ 46 → ask b k ≤ 46
 asks b k h = omega (arith, ask-le b k)
 
 module _ (s : List ℕ) where
-  run-le : (from count tag w : ℕ) → runQuestions s from count tag w ≤ 19
+  run-le : (from count tag w : ℕ) → runQuestions s from count tag w ≤ 46
   unfolding runQuestions
   run-le from count tag w =
-      first-le count (λ i. fieldQuestions (fieldAt s (fieldPlace from w i)) tag (4 * w)) 19 (λ i.
+      first-le count (λ i. fieldQuestions (fieldAt s (fieldPlace from w i)) tag (4 * w)) 46 (λ i.
       let f : Field = fieldAt s (fieldPlace from w i) in
-      then-le _ _ 19 (asks (hasTag f tag) 6 (omega arith)) (asks (isField f tag (4 * w)) 7 (omega arith)))
+      then-le _ _ 46 (asks (hasTag f tag) 6 (omega arith)) (asks (isField f tag (4 * w)) 7 (omega arith)))
 
-  pub head-le : headQuestions s ≤ 19
+  cuts-le : (from L : ℕ) → cutsQuestions s from L ≤ 46
+  unfolding cutsQuestions endQuestions cutFieldQuestions
+  cuts-le from L =
+      first-le (suc L) (endQuestions s from L) 46 (λ i.
+      let at : ℕ = cutPlace from i in
+      let least : ℕ = leastLocation s from i in
+      by-test (λ (q : ℕ). q ≤ 46) (leb (length s) at) (λ _. omega arith)
+      (λ _. then-le _ _ 46 (asks (eqb (getD s at 0) 8) 8 (omega arith))
+      (then-le _ _ 46 (asks (isField (fieldAt s at) 8 12) 46 (omega arith)) (asks (cutWordsOk (cutFieldWords s at) least L) 46 (omega arith)))))
+
+  pub head-le : headQuestions s ≤ 46
   unfolding headQuestions
-  head-le = then-le _ _ 19 (asks (isField (fieldAt s 0) 1 16) 1 (omega arith)) (ranges-le (headWords s))
+  head-le = then-le _ _ 46 (asks (isField (fieldAt s 0) 1 16) 1 (omega arith)) (ranges-le (headWords s))
 
-  body-le : (h : List ℤ) → bodyQuestions s h ≤ 19
+  body-le : (h : List ℤ) → bodyQuestions s h ≤ 46
   unfolding bodyQuestions
   body-le h =
-      then-le _ _ 19 (run-le 19 (L# h) 2 (6 * n# h + 1))
-      (then-le _ _ 19 (run-le (switchesFrom h) (E# h) 3 (6 + 4 * n# h))
-      (then-le _ _ 19 (run-le (forbiddensFrom h) (B# h) 4 (1 + 2 * n# h))
-      (asks (eqb (length s) (fileEnd h)) 8 (omega arith))))
+      then-le _ _ 46 (run-le 19 (L# h) 2 (6 * n# h + 1))
+      (then-le _ _ 46 (run-le (switchesFrom h) (E# h) 3 (6 + 4 * n# h))
+      (then-le _ _ 46 (run-le (forbiddensFrom h) (B# h) 4 (1 + 2 * n# h))
+      (cuts-le (cutsFrom h) (L# h))))
 
-  pub records-file-le : (h : List ℤ) → recordsFileQuestions s h ≤ 19
+  pub records-file-le : (h : List ℤ) → recordsFileQuestions s h ≤ 46
   unfolding recordsFileQuestions
-  records-file-le h = then-le _ _ 19 (body-le h) (records-le (fileWords s h))
+  records-file-le h = then-le _ _ 46 (body-le h) (records-le (fileWords s h))
 
 -- ---- bytes that are read are the file of the words that they give
 
@@ -263,8 +329,9 @@ file-by : (a b : List ℤ) → SameHead a b → modelFile a
     ≡ recordField 1 a 0 4
     ++ (cat (L# b) (λ i. recordField 2 a (4 + i * (6 * n# b + 1)) (6 * n# b + 1))
     ++ (cat (E# b) (λ i. recordField 3 a (4 + L# b * (6 * n# b + 1) + i * (6 + 4 * n# b)) (6 + 4 * n# b))
-    ++ cat (B# b) (λ i. recordField 4 a (4 + L# b * (6 * n# b + 1) + E# b * (6 + 4 * n# b) + i * (1 + 2 * n# b)) (1 + 2 * n# b))))
-unfolding modelFile locationAt switchAt forbiddenAt
+    ++ (cat (B# b) (λ i. recordField 4 a (4 + L# b * (6 * n# b + 1) + E# b * (6 + 4 * n# b) + i * (1 + 2 * n# b)) (1 + 2 * n# b))
+    ++ cat (L# b) (λ i. cutField i (word a (4 + L# b * (6 * n# b + 1) + E# b * (6 + 4 * n# b) + B# b * (1 + 2 * n# b) + i * 2)) (word a (4 + L# b * (6 * n# b + 1) + E# b * (6 + 4 * n# b) + B# b * (1 + 2 * n# b) + i * 2 + 1))))))
+unfolding modelFile locationAt switchAt forbiddenAt cutVariable cutValue cutAt
 file-by a b e = rw (e 0 (omega arith), e 1 (omega arith), e 2 (omega arith), e 3 (omega arith)) refl
 
 -- the fields of a run are the file's part that is read
@@ -295,7 +362,7 @@ module _ (s : List ℕ) where
       (then-intro (same-ranges a (headWords s) same-read ∙ ranges)
       (then-intro (ask-intro (leb (modelSize a) (length a)) 5 (le→leb (modelSize a) (length a) (omega (arith, length-read, read-size)))) records))
 
-module _ (s : List ℕ) (b : AreBytes s) (first-due : Due s 0 1 16) (y : BodyPassed s (headWords s)) where
+module _ (s : List ℕ) (b : AreBytes s) (first-due : Due s 0 1 16) (some : 0 < L# (headWords s)) (y : BodyPassed s (headWords s)) where
   abbrev h : List ℤ
   h = headWords s
 
@@ -311,15 +378,20 @@ module _ (s : List ℕ) (b : AreBytes s) (first-due : Due s 0 1 16) (y : BodyPas
   abbrev forbiddenRun : List ℤ
   forbiddenRun = runWords s (forbiddensFrom h) (B# h) (1 + 2 * n# h)
 
-  around-locations : a ≡ h ++ (locationRun ++ (switchRun ++ forbiddenRun))
-  unfolding fileWords
-  around-locations = refl
+  abbrev cutRun : List ℤ
+  cutRun = cutWords s (cutsFrom h) (L# h)
 
-  around-switch-run : a ≡ (h ++ locationRun) ++ (switchRun ++ forbiddenRun)
-  around-switch-run = around-locations ∙ sym (append-assoc h locationRun (switchRun ++ forbiddenRun))
+  around-locations : a ≡ h ++ (locationRun ++ (switchRun ++ (forbiddenRun ++ cutRun)))
+  unfolding fileWords recordWords
+  around-locations =
+      append-assoc h (locationRun ++ (switchRun ++ forbiddenRun)) cutRun
+      ∙ ap (λ (x : List ℤ). h ++ x) (append-assoc locationRun (switchRun ++ forbiddenRun) cutRun ∙ ap (λ (x : List ℤ). locationRun ++ x) (append-assoc switchRun forbiddenRun cutRun))
 
-  around-forbidden-run : a ≡ ((h ++ locationRun) ++ switchRun) ++ (forbiddenRun ++ [])
-  around-forbidden-run = around-switch-run ∙ sym (append-assoc (h ++ locationRun) switchRun forbiddenRun) ∙ ap (λ (x : List ℤ). ((h ++ locationRun) ++ switchRun) ++ x) (sym (append-nil forbiddenRun))
+  around-switch-run : a ≡ (h ++ locationRun) ++ (switchRun ++ (forbiddenRun ++ cutRun))
+  around-switch-run = around-locations ∙ sym (append-assoc h locationRun (switchRun ++ (forbiddenRun ++ cutRun)))
+
+  around-forbidden-run : a ≡ ((h ++ locationRun) ++ switchRun) ++ (forbiddenRun ++ cutRun)
+  around-forbidden-run = around-switch-run ∙ sym (append-assoc (h ++ locationRun) switchRun (forbiddenRun ++ cutRun))
 
   length-two : length (h ++ locationRun) ≡ 4 + L# h * (6 * n# h + 1)
   length-two = omega (arith, length-append h locationRun, length-head s, length-run s 19 (L# h) (6 * n# h + 1))
@@ -328,7 +400,7 @@ module _ (s : List ℕ) (b : AreBytes s) (first-due : Due s 0 1 16) (y : BodyPas
   length-three = omega (arith, length-append (h ++ locationRun) switchRun, length-two, length-run s (switchesFrom h) (E# h) (6 + 4 * n# h))
 
   head-part : part a 0 4 ≡ h
-  head-part = ap (λ (x : List ℤ). part x 0 4) around-locations ∙ take-at h (locationRun ++ (switchRun ++ forbiddenRun)) 4 (length-head s)
+  head-part = ap (λ (x : List ℤ). part x 0 4) around-locations ∙ take-at h (locationRun ++ (switchRun ++ (forbiddenRun ++ cutRun))) 4 (length-head s)
 
   head-stands : recordField 1 a 0 4 ≡ take 19 s
   unfolding headWords
@@ -337,15 +409,31 @@ module _ (s : List ℕ) (b : AreBytes s) (first-due : Due s 0 1 16) (y : BodyPas
       ∙ ap (field 1) (all-bytes-back s 3 4 b (first-due .there))
       ∙ sym (field-part s 0 1 3 16 19 b (first-due .field-is))
 
+  -- word j of the cut of location l
+  cut-word : (at l j : ℕ) → length (recordWords s h) ≡ at → l < L# h → j < 2 → word a (at + (l * 2 + j)) ≡ word (fileCut s (cutsFrom h) (L# h) l) j
+  unfolding fileWords cutWords
+  cut-word at l j e u v =
+      rw (← e) (getD-append-add (recordWords s h) cutRun (l * 2 + j) (pos 0) ∙ counted.cat-at (L# h) 2 (fileCut s (cutsFrom h) (L# h)) (λ i _. length-cut s (cutsFrom h) (L# h) i) l j u v)
+
+  -- the fields of the cuts are the rest of the file
+  cuts-again : (at : ℕ) → length (recordWords s h) ≡ at → cat (L# h) (λ l. cutField l (word a (at + l * 2)) (word a (at + l * 2 + 1))) ≡ drop (cutsFrom h) s
+  cuts-again at e =
+      cat-ext (L# h) (λ l. cutField l (word a (at + l * 2)) (word a (at + l * 2 + 1))) (λ l. cutField l (word (fileCut s (cutsFrom h) (L# h) l) 0) (word (fileCut s (cutsFrom h) (L# h) l) 1))
+      (λ l u.
+      let p : at + l * 2 ≡ at + (l * 2 + 0) = omega arith in
+      let q : at + l * 2 + 1 ≡ at + (l * 2 + 1) = omega arith in
+      ap₂ (λ (v x : ℤ). cutField l v x) (ap (word a) p ∙ cut-word at l 0 e u (omega arith)) (ap (word a) q ∙ cut-word at l 1 e u (omega arith)))
+      ∙ cuts-stand s b (cutsFrom h) (L# h) some (y .cuts-pass)
+
   is-file : s ≡ modelFile a
   is-file =
       sym (file-by a h (same-file s h (length-head s))
       ∙ ap₂ (λ (x y : List ℕ). x ++ y) head-stands
-      (ap₂ (λ (x y : List ℕ). x ++ y) (run-stands s b a h (switchRun ++ forbiddenRun) 19 (L# h) 2 (6 * n# h + 1) 4 around-locations (length-head s) (y .locations-whole))
-      (ap₂ (λ (x y : List ℕ). x ++ y) (run-stands s b a (h ++ locationRun) forbiddenRun (switchesFrom h) (E# h) 3 (6 + 4 * n# h) (4 + L# h * (6 * n# h + 1)) around-switch-run length-two (y .switches-whole))
-      (run-stands s b a ((h ++ locationRun) ++ switchRun) [] (forbiddensFrom h) (B# h) 4 (1 + 2 * n# h) (4 + L# h * (6 * n# h + 1) + E# h * (6 + 4 * n# h)) around-forbidden-run length-three (y .forbiddens-whole))))
-      ∙ four-parts s 19 (L# h * (3 + 4 * (6 * n# h + 1))) (E# h * (3 + 4 * (6 + 4 * n# h))) (B# h * (3 + 4 * (1 + 2 * n# h)))
-      ∙ take-all (fileEnd h) s (omega (arith, y .ended)))
+      (ap₂ (λ (x y : List ℕ). x ++ y) (run-stands s b a h (switchRun ++ (forbiddenRun ++ cutRun)) 19 (L# h) 2 (6 * n# h + 1) 4 around-locations (length-head s) (y .locations-whole))
+      (ap₂ (λ (x y : List ℕ). x ++ y) (run-stands s b a (h ++ locationRun) (forbiddenRun ++ cutRun) (switchesFrom h) (E# h) 3 (6 + 4 * n# h) (4 + L# h * (6 * n# h + 1)) around-switch-run length-two (y .switches-whole))
+      (ap₂ (λ (x y : List ℕ). x ++ y) (run-stands s b a ((h ++ locationRun) ++ switchRun) cutRun (forbiddensFrom h) (B# h) 4 (1 + 2 * n# h) (4 + L# h * (6 * n# h + 1) + E# h * (6 + 4 * n# h)) around-forbidden-run length-three (y .forbiddens-whole))
+      (cuts-again (4 + L# h * (6 * n# h + 1) + E# h * (6 + 4 * n# h) + B# h * (1 + 2 * n# h)) (to-cuts s h (length-head s) ∙ omega (arith, switches-at h, forbiddens-at h, cuts-at h))))))
+      ∙ five-parts s 19 (L# h * (3 + 4 * (6 * n# h + 1))) (E# h * (3 + 4 * (6 + 4 * n# h))) (B# h * (3 + 4 * (1 + 2 * n# h))))
 
   pub read-file : rangesQuestions h ≡ 0 → recordsQuestions a ≡ 0 → IsModelFile s a
   read-file ranges records = record { is-file = is-file; passes = read-passes s ranges records; no-more = length-read s ∙ sym (read-size s) }
@@ -371,12 +459,12 @@ read-is-file : (s : List ℕ) (words : List ℤ) → AreBytes s → readReply (r
 unfolding readModelCall recordsFileQuestions
 read-is-file s words b e =
     let h : List ℤ = headWords s in
-    let x = done (headQuestions s then bufferQuestion h (length words)) _ _ (omega (arith, then-le _ _ 19 (head-le s) (asks (leb (modelSize h) (length words)) 5 (omega arith)))) e in
+    let x = done (headQuestions s then bufferQuestion h (length words)) _ _ (omega (arith, then-le _ _ 46 (head-le s) (asks (leb (modelSize h) (length words)) 5 (omega arith)))) e in
     let y = done (recordsFileQuestions s h) _ _ (omega (arith, records-file-le s h)) (rw (x .1) at e) in
     let z : (bodyQuestions s h ≡ 0) × (recordsQuestions (fileWords s h) ≡ 0) = then-both (bodyQuestions s h) (recordsQuestions (fileWords s h)) (y .0) in
     let k = head-passed s (then-both (headQuestions s) _ (x .0) .0) in
     rw (x .1 ∙ y .1, take-onto (fileWords s h) words (modelSize h) (length-file s h (length-head s)))
-    (read-file s b (k .0) (body-passed s h (z .0)) (k .1) (z .1))
+    (read-file s b (k .0) (within-one (word h 1) 64 (ranges-passed h (k .1) .L-within)) (body-passed s h (z .0)) (k .1) (z .1))
 
 pub model-files-exact : ModelFilesExact
 model-files-exact = record {

@@ -1,18 +1,24 @@
-// Reading a model's file (document 01, "Files").
+// Reading a model's file (document 01, "Files"; document 02, T-12).
 use plant::Count;
 ghost use mathlib.Core.Path.{_≡_};
-ghost use mathlib.Core.List.{_++_};
-ghost use Prim.Native.Nat.{_≤_};
+ghost use mathlib.Core.Bool.{true, cond};
+ghost use mathlib.Core.List.{[], _∷_, _++_};
+ghost use Prim.Native.Nat.{_+_, _≤_, _<_};
+ghost use lib.IntN.{pos, negsuc};
 ghost use lib.ListN.{length, take};
-ghost use Rattle.integers.specs.Words.{onto};
+ghost use Rattle.integers.specs.Words.{word, num, onto};
+ghost use Rattle.wire.specs.Fields.{fieldLength};
 ghost use Rattle.plant.specs.Ask.{_then_};
+ghost use Rattle.plant.specs.Model.{cutSize};
 ghost use Rattle.plant.specs.Questions.{rangesQuestions};
 ghost use Rattle.records.specs.Whole.{Head};
-ghost use Rattle.model_files.specs.ModelFile.{headFieldSize, hasTag, fieldQuestions, runQuestions, bufferQuestion, locationsFrom, switchesFrom, forbiddensFrom, fileEnd, bodyQuestions, runWords, fileWords, readRecords, readModelCall};
-ghost use Rattle.model_files.specs.Room.{RunReady, HeadRead};
+ghost use Rattle.model_files.specs.ModelFile.{headFieldSize, cutFieldSize, hasTag, fieldQuestions, runQuestions, bufferQuestion, locationsFrom, switchesFrom, forbiddensFrom, cutsFrom, cutFieldWords, cutWordsOk, cutFieldQuestions, cutsQuestions, bodyQuestions, runWords, recordWords, namesLocation, cutWords, fileWords, readRecords, readModelCall};
+ghost use Rattle.model_files.specs.Room.{RunReady, CutThere, CutsReady, HeadRead};
 
-// How many words the first field has.
+// How many words the first field has, and a cut's: location, variable, value.
 const HEAD_FIELD_SIZE: usize = 4;
+
+const CUT_FIELD_SIZE: usize = 3;
 
 // ---- the questions of a file
 
@@ -101,9 +107,9 @@ fn forbiddens_from(head: &[i32]) -> usize
     )
 }
 
-fn file_end(head: &[i32]) -> usize
+fn cuts_from(head: &[i32]) -> usize
     requires { ⌜ Head (now head) ⌝ }
-    ensures { λ r. ⌜ r ≡ fileEnd (now (head .entry)) ⌝ }
+    ensures { λ r. ⌜ r ≡ cutsFrom (now (head .entry)) ⌝ }
 {
     wire::field_place(
         forbiddens_from(head),
@@ -112,7 +118,62 @@ fn file_end(head: &[i32]) -> usize
     )
 }
 
-// Each field in turn, and the end of the file.
+// ---- the questions of the cuts' fields
+
+// The location that the field at a position names.
+fn cut_location(file: &[u8], at: usize) -> usize
+    requires { ⌜ CutThere (now file) at ⌝ }
+    ensures { λ r. ⌜ r ≡ num (cutFieldWords (now (file .entry)) at) 0 ⌝ }
+{
+    integers::natural(wire::word_at(file, at + wire::HEADER_SIZE))
+}
+
+// A location from the least to the last of the model, and a variable that is not -1.
+fn cut_words_ok(file: &[u8], at: usize, least: usize, count: usize) -> bool
+    requires { ⌜ (at + fieldLength cutFieldSize ≤ length (now file)) × (least ≤ 64) × (1 ≤ count) × (count ≤ 64) ⌝ }
+    ensures { λ r. ⌜ r ≡ cutWordsOk (cutFieldWords (now (file .entry)) at) least count ⌝ }
+{
+    let start = at + wire::HEADER_SIZE;
+    let location = wire::word_at(file, start) as i64;
+    let variable = wire::word_at(file, start + wire::WORD_SIZE);
+    let named = integers::within(location, least as i64, (count - 1) as i64);
+    named & !integers::same(variable, -1)
+}
+
+// Of the bytes at a position: the tag of a cut's field? 8. The field whole, its words as they may be? 46
+fn cut_questions(file: &[u8], at: usize, least: usize, count: usize) -> u32
+    requires { ⌜ (at < length (now file)) × (least ≤ 64) × (1 ≤ count) × (count ≤ 64) ⌝ }
+    ensures { λ r. ⌜ r ≡ cutFieldQuestions (now (file .entry)) at least count ⌝ }
+{
+    if file[at] != 8 {
+        return 8;
+    }
+    let field = wire::next_field(file, at);
+    if !wire::is_field(field, 8, wire::payload_length(CUT_FIELD_SIZE)) {
+        return 46;
+    }
+    model::ask(cut_words_ok(file, at, least, count), 46)
+}
+
+// Of each cut's field in turn, from a position to the end of the file, in a model of `count` locations.
+fn cuts_questions(file: &[u8], from: usize, count: usize) -> u32
+    requires { ⌜ (1 ≤ count) × (count ≤ 64) ⌝ }
+    ensures { λ r. ⌜ r ≡ cutsQuestions (now (file .entry)) from count ⌝ }
+{
+    let mut least: usize = 0;
+    let mut at = from;
+    while at < file.len() {
+        let r = cut_questions(file, at, least, count);
+        if r != 0 {
+            return r;
+        }
+        least = cut_location(file, at) + 1;
+        at = at + wire::field_length(CUT_FIELD_SIZE);
+    }
+    0
+}
+
+// Each record's field in turn, then the cuts' fields and the end of the file.
 fn body_questions(file: &[u8], head: &[i32]) -> u32
     requires { ⌜ Head (now head) ⌝ }
     ensures { λ r. ⌜ r ≡ bodyQuestions (now (file .entry)) (now (head .entry)) ⌝ }
@@ -139,10 +200,10 @@ fn body_questions(file: &[u8], head: &[i32]) -> u32
         4,
         records::forbidden_size(n),
     );
-    let ended = model::ask(file.len() == file_end(head), 8);
+    let cuts = cuts_questions(file, cuts_from(head), records::locations(head));
     model::or_else(
         locations,
-        model::or_else(switches, model::or_else(forbiddens, ended)),
+        model::or_else(switches, model::or_else(forbiddens, cuts)),
     )
 }
 
@@ -168,10 +229,10 @@ fn copy_run(file: &[u8], from: usize, count: usize, w: usize, words: &mut [i32],
     }
 }
 
-// Copies all words of a file that passes its questions.
-fn fill(file: &[u8], head: &[i32], words: &mut [i32])
+// Copies the words of the head and the records of a file that passes its questions.
+fn fill_records(file: &[u8], head: &[i32], words: &mut [i32])
     requires { ⌜ HeadRead (now file) (now head) (now words) × (bodyQuestions (now file) (now head) ≡ 0) ⌝ }
-    ensures { λ _. ⌜ now (words .exit) ≡ onto (fileWords (now (file .entry)) (now (head .entry))) (now (words .entry)) ⌝ }
+    ensures { λ _. ⌜ now (words .exit) ≡ onto (recordWords (now (file .entry)) (now (head .entry))) (now (words .entry)) ⌝ }
 {
     let n = records::variables(head);
     copy_run(file, 0, 1, HEAD_FIELD_SIZE, words, 0);
@@ -199,6 +260,73 @@ fn fill(file: &[u8], head: &[i32], words: &mut [i32])
         words,
         records::forbidden_at(head, 0),
     )
+}
+
+// ---- the words of the cuts
+
+// The field at a position is there, and names location l.
+fn names_location(file: &[u8], at: usize, l: usize) -> bool
+    requires { ⌜ (at < length (now file) → CutThere (now file) at) ⌝ }
+    ensures { λ r. ⌜ r ≡ namesLocation (now (file .entry)) at l ⌝ }
+{
+    if file.len() <= at {
+        return false;
+    }
+    cut_location(file, at) == l
+}
+
+// Copies variable and value of the field at a position to a place of the words, if it names the location; else -1 and 0.
+fn fill_cut(file: &[u8], at: usize, named: bool, words: &mut [i32], to: usize)
+    requires { ⌜ (named ≡ true → at + fieldLength cutFieldSize ≤ length (now file)) × (to + cutSize ≤ length (now words)) ⌝ }
+    ensures { λ _. ⌜ now (words .exit) ≡ onto (take to (now (words .entry)) ++ cond named (word (cutFieldWords (now (file .entry)) at) 1 ∷ word (cutFieldWords (now (file .entry)) at) 2 ∷ []) (negsuc 0 ∷ pos 0 ∷ [])) (now (words .entry)) ⌝ }
+{
+    if named {
+        let from = at + wire::HEADER_SIZE + wire::WORD_SIZE;
+        wire::copy_words(file, from, records::CUT_SIZE, words, to);
+    } else {
+        words[to] = -1;
+        words[to + 1] = 0;
+    }
+}
+
+// Where the next field begins: after this one, if it names the location.
+fn after_cut(at: usize, named: bool) -> usize
+    requires { ⌜ (named ≡ true → at + fieldLength cutFieldSize < 18446744073709551616) ⌝ }
+    ensures { λ r. ⌜ r ≡ cond named (at + fieldLength cutFieldSize) at ⌝ }
+{
+    if named {
+        at + wire::field_length(CUT_FIELD_SIZE)
+    } else {
+        at
+    }
+}
+
+// Copies the words of the cuts of `count` locations to a place of the words. Fields and locations ascend side by side.
+fn fill_cuts(file: &[u8], from: usize, count: usize, words: &mut [i32], to: usize)
+    requires { ⌜ CutsReady (now file) from count (now words) to ⌝ }
+    ensures { λ _. ⌜ now (words .exit) ≡ onto (take to (now (words .entry)) ++ cutWords (now (file .entry)) from count) (now (words .entry)) ⌝ }
+{
+    let mut at = from;
+    let mut place = to;
+    let mut l: usize = 0;
+    while l < count {
+        let named = names_location(file, at, l);
+        fill_cut(file, at, named, words, place);
+        at = after_cut(at, named);
+        place = place + records::CUT_SIZE;
+        l = l + 1;
+    }
+}
+
+// Copies all words of a file that passes its questions.
+fn fill(file: &[u8], head: &[i32], words: &mut [i32])
+    requires { ⌜ HeadRead (now file) (now head) (now words) × (bodyQuestions (now file) (now head) ≡ 0) ⌝ }
+    ensures { λ _. ⌜ now (words .exit) ≡ onto (fileWords (now (file .entry)) (now (head .entry))) (now (words .entry)) ⌝ }
+{
+    fill_records(file, head, words);
+    let count = records::locations(head);
+    let to = records::cut_at(head, 0);
+    fill_cuts(file, cuts_from(head), count, words, to)
 }
 
 // ---- reading

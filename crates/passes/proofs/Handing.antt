@@ -1,83 +1,107 @@
--- A face joined with a step that is handed over as an answer and words: the face's words are joined, or stay; and the steps
--- from a part, which is there or not, joined to all faces of a location.
-use mathlib.Core.Path.{_≡_, refl, sym, ap, _∙_}
+-- A step that is handed over as an answer and words, joined to the pieces of a face: they are joined with it, or stay; and the
+-- steps from a part, which is there or not, joined to all pieces of a location.
+use mathlib.Core.Path.{_≡_, refl, sym, ap, _∙_, subst}
 use mathlib.Core.Bool.{Bool, true, false, cond}
 use mathlib.Core.List.{List}
-use Prim.Native.Nat.{ℕ, _*_, _<_, _≤_}
-use native.Mathlib.Omega.{arith}
+use Prim.Native.Nat.{ℕ, _+_, _*_, _<_, _≤_}
 use lib.IntN.{ℤ, pos}
 use lib.ListN.{length, take}
-use lib.Seq.{length-take-le}
 use Rattle.integers.specs.Words.{word, eqZ}
 use Rattle.integers.proofs.Tests.{true-is}
 use Rattle.integers.proofs.Counted.{eqZ-eq}
 use Rattle.integers.proofs.Buffers.{cat-ext}
 use Rattle.plant.specs.Box.{boxAt, Face, absent, present, faceWords, join}
+use Rattle.plant.specs.Model.{Cut, cutFrom, variableOf}
+use Rattle.plant.specs.Pieces.{piecesPerFace}
 use Rattle.plant.specs.Steps.{wallStep, switchStep}
 use Rattle.plant.specs.Tables.{faceRead}
-use Rattle.plant.proofs.Boxes.{length-face}
-use Rattle.tables.specs.Room.{Joinable}
+use Rattle.plant.proofs.Boxes.{FaceAll}
+use Rattle.tables.specs.Room.{faceIn, AreFaces, joinedEach, cutEach, CutVariable, PiecesJoinable}
+use Rattle.tables.proofs.Faces.{join-absent}
 use Rattle.steps.specs.Ready.{WallReady, SwitchReady}
 use Rattle.steps.specs.Handing.{Handed}
-use Rattle.passes.specs.Joining.{IsFace, WallJoin, WallsJoin, PartJoin, SwitchJoin, faceIn, joinedWith, joinedAll, wallsOf, wallsFrom}
-use Rattle.passes.proofs.Joined.{join-absent, nothing-joined, read-present, read-absent}
+use Rattle.steps.proofs.Faces.{InInvariant, wall-in, switch-in}
+use Rattle.passes.specs.Joining.{piecesWith, WallJoin, WallsJoin, PartJoin, SwitchJoin, wallsFrom}
+use Rattle.passes.proofs.Joined.{read-present, read-absent}
+use Rattle.passes.proofs.Locations.{same-joined, piece-face, piece-index}
 
--- there is room for the box of n variables, and the words of a face to join it to
-pub joinable : (n : ℕ) (after face : List ℤ) → n ≤ 6 → length after ≡ 12 → IsFace n face → Joinable n (take (2 * n) after) face
-joinable n after face h e f = record {
-  n-small = h;
-  box-there = omega (arith, length-take-le (2 * n) after (omega arith));
-  face-length = sym (ap length f) ∙ length-face n (faceRead n face 0);
-}
+-- k faces joined with nothing stay
+pub none-joined : (n k : ℕ) (words : List ℤ) → AreFaces n k words → words ≡ joinedEach n k words (λ q. absent)
+none-joined n k words are = sym (cat-ext k (λ q. faceWords n (join n (faceIn n words q) absent)) (λ q. faceWords n (faceIn n words q)) (λ q _. ap (faceWords n) (join-absent n (faceIn n words q))) ∙ are)
 
--- by the answer r, with the words after
-module _ (n : ℕ) (r : Bool) (after face : List ℤ) (h : Face) (e : h ≡ cond r (present (take (2 * n) after)) absent) where
-  joins-it : {exit : List ℤ} → r ≡ true → exit ≡ joinedWith n face (present (take (2 * n) after)) → exit ≡ joinedWith n face h
-  joins-it u k = k ∙ ap (joinedWith n face) (sym (e ∙ ap (λ (x : Bool). cond x (present (take (2 * n) after)) absent) u))
+-- the step h by the answer r, with the words after, joined to the pieces of a face of wall variable d
+module _ (n : ℕ) (variable value : ℤ) (d : ℕ) (r : Bool) (after pieces : List ℤ) (h : Face) (e : h ≡ cond r (present (take (2 * n) after)) absent) where
+  abbrev c : Cut
+  c = cutFrom variable value
 
-  joins-nothing : r ≡ false → IsFace n face → face ≡ joinedWith n face h
-  joins-nothing u f = nothing-joined n h f (e ∙ ap (λ (x : Bool). cond x (present (take (2 * n) after)) absent) u)
+  joins-it : {exit : List ℤ} → r ≡ true → exit ≡ joinedEach n (piecesPerFace c) pieces (cutEach n c d (present (take (2 * n) after))) → exit ≡ joinedEach n (piecesPerFace c) pieces (cutEach n c d h)
+  joins-it u k = k ∙ ap (λ (g : Face). joinedEach n (piecesPerFace c) pieces (cutEach n c d g)) (sym (e ∙ ap (λ (x : Bool). cond x (present (take (2 * n) after)) absent) u))
 
-module _ (n : ℕ) (inv rate bounds : List ℤ) (d : ℕ) (b : ℤ) (face : List ℤ) (ok : WallJoin n inv rate bounds d b face) (out : List ℤ) (room : 2 * n ≤ length out) where
+  joins-nothing : r ≡ false → AreFaces n (piecesPerFace c) pieces → pieces ≡ joinedEach n (piecesPerFace c) pieces (cutEach n c d h)
+  joins-nothing u are = none-joined n (piecesPerFace c) pieces are ∙ ap (λ (g : Face). joinedEach n (piecesPerFace c) pieces (cutEach n c d g)) (sym (e ∙ ap (λ (x : Bool). cond x (present (take (2 * n) after)) absent) u))
+
+  -- its box is ordered, and can be joined to them
+  joinable : (inv : List ℤ) → r ≡ true → FaceAll (InInvariant n inv) h → n ≤ 6 → CutVariable n variable → AreFaces n (piecesPerFace c) pieces → PiecesJoinable n variable value (take (2 * n) after) pieces
+  joinable inv u all small w are =
+      let b : InInvariant n inv (take (2 * n) after) = subst (FaceAll (InInvariant n inv)) (e ∙ ap (λ (x : Bool). cond x (present (take (2 * n) after)) absent) u) all in
+      record { n-small = small; box-length = b .sized; box-ordered = b .is-ordered; cut-words = w; are-pieces = are }
+
+module _ (n : ℕ) (inv rate bounds : List ℤ) (d : ℕ) (b variable value : ℤ) (pieces : List ℤ) (ok : WallJoin n inv rate bounds d b variable value pieces) (out : List ℤ) (room : 2 * n ≤ length out) where
+  abbrev wallJoined : List ℤ
+  wallJoined = joinedEach n (piecesPerFace (cutFrom variable value)) pieces (cutEach n (cutFrom variable value) d (wallStep n inv rate bounds d b))
+
   pub wall-ready : WallReady n inv rate bounds b out × (d < n)
-  wall-ready = (record { inv-in = ok .inv-in; rate-in = ok .rate-in; part-in = ok .bounds-in; wall-in = ok .wall-in; room = room }, ok .variable)
+  wall-ready = (record { inv-in = ok .inv-in; rate-in = ok .rate-in; part-in = ok .bounds-in; wall-in = ok .wall-in; room = room }, ok .d-below)
 
   module _ {r : Bool} {after : List ℤ} (gives : Handed n r after out (wallStep n inv rate bounds d b)) where
-    pub wall-joins : {exit : List ℤ} → r ≡ true → exit ≡ joinedWith n face (present (take (2 * n) after)) → exit ≡ joinedWith n face (wallStep n inv rate bounds d b)
-    wall-joins = joins-it n r after face (wallStep n inv rate bounds d b) (gives .is-face)
+    pub wall-joinable : r ≡ true → PiecesJoinable n variable value (take (2 * n) after) pieces
+    wall-joinable u = joinable n variable value d r after pieces (wallStep n inv rate bounds d b) (gives .is-face) inv u (wall-in n inv rate bounds d b) (ok .n-small) (ok .cut-words) (ok .are-pieces)
 
-    pub wall-joins-nothing : r ≡ false → face ≡ joinedWith n face (wallStep n inv rate bounds d b)
-    wall-joins-nothing u = joins-nothing n r after face (wallStep n inv rate bounds d b) (gives .is-face) u (ok .is-face)
+    pub wall-joins : {exit : List ℤ} → r ≡ true → exit ≡ joinedEach n (piecesPerFace (cutFrom variable value)) pieces (cutEach n (cutFrom variable value) d (present (take (2 * n) after))) → exit ≡ wallJoined
+    wall-joins = joins-it n variable value d r after pieces (wallStep n inv rate bounds d b) (gives .is-face)
 
--- the steps from a part to all faces of a location
-module _ (n : ℕ) (inv rate part block : List ℤ) (ok : PartJoin n inv rate part block) where
+    pub wall-joins-nothing : r ≡ false → pieces ≡ wallJoined
+    wall-joins-nothing u = joins-nothing n variable value d r after pieces (wallStep n inv rate bounds d b) (gives .is-face) u (ok .are-pieces)
+
+-- the step to face f is what the location's pieces of that face are given
+pub walls-given : (n : ℕ) (inv rate bounds : List ℤ) (c : Cut) (f : ℕ) (words : List ℤ) → joinedEach n (piecesPerFace c) words (cutEach n c (variableOf f) (wallStep n inv rate bounds (variableOf f) (word inv f))) ≡ joinedEach n (piecesPerFace c) words (λ j. wallsFrom n inv rate c (present bounds) (f * piecesPerFace c + j))
+walls-given n inv rate bounds c f words = same-joined n (piecesPerFace c) words _ _
+    (λ j u i. cutEach n c (variableOf (sym (piece-face c f j u) i)) (wallStep n inv rate bounds (variableOf (sym (piece-face c f j u) i)) (word inv (sym (piece-face c f j u) i))) (sym (piece-index c f j u) i))
+
+-- the steps from a part to all pieces of a location
+module _ (n : ℕ) (inv rate part : List ℤ) (variable value : ℤ) (block : List ℤ) (ok : PartJoin n inv rate part variable value block) where
+  abbrev partJoined : Face → List ℤ
+  partJoined g = joinedEach n (piecesWith n (cutFrom variable value)) block (wallsFrom n inv rate (cutFrom variable value) g)
+
   -- from an absent part
-  pub part-none : eqZ (word part 0) (pos 1) ≡ false → block ≡ joinedAll n block (wallsFrom n inv rate (faceRead n part 0))
-  part-none u = sym (ap (λ (g : Face). joinedAll n block (wallsFrom n inv rate g)) (read-absent n part u)
-      ∙ cat-ext (2 * n) (λ f. faceWords n (join n (faceIn n block f) absent)) (λ f. faceWords n (faceIn n block f)) (λ f _. ap (faceWords n) (join-absent n (faceIn n block f)))
-      ∙ ok .is-location)
+  pub part-none : eqZ (word part 0) (pos 1) ≡ false → block ≡ partJoined (faceRead n part 0)
+  part-none u = none-joined n (piecesWith n (cutFrom variable value)) block (ok .are-pieces) ∙ sym (ap partJoined (read-absent n part u))
 
   -- from a present one
   module _ {bounds : List ℤ} (flag : eqZ (word part 0) (pos 1) ≡ true) (is-box : bounds ≡ boxAt n part 1) where
-    pub walls-join : WallsJoin n inv rate bounds block
+    pub walls-join : WallsJoin n inv rate bounds variable value block
     walls-join = record {
       n-small = ok .part-ok .n-small;
       inv-in = ok .inv-in;
       rate-in = ok .rate-in;
       bounds-in = rw is-box (ok .part-ok .in-range (eqZ-eq (word part 0) (pos 1) (true-is flag)));
-      is-location = ok .is-location;
+      cut-words = ok .cut-words;
+      are-pieces = ok .are-pieces;
     }
 
-    pub part-joins : {exit : List ℤ} → exit ≡ joinedAll n block (wallsOf n inv rate bounds) → exit ≡ joinedAll n block (wallsFrom n inv rate (faceRead n part 0))
-    part-joins e = e ∙ ap (λ (g : Face). joinedAll n block (wallsFrom n inv rate g)) (ap present is-box ∙ sym (read-present n part flag))
+    pub part-joins : {exit : List ℤ} → exit ≡ partJoined (present bounds) → exit ≡ partJoined (faceRead n part 0)
+    part-joins e = e ∙ ap partJoined (ap present is-box ∙ sym (read-present n part flag))
 
-module _ (n mask : ℕ) (guard reset inv from face : List ℤ) (ok : SwitchJoin n guard reset inv from face) where
+module _ (n mask : ℕ) (guard reset inv from : List ℤ) (d : ℕ) (variable value : ℤ) (pieces : List ℤ) (ok : SwitchJoin n guard reset inv from variable value pieces) where
+  abbrev switchJoined : Face → List ℤ
+  switchJoined g = joinedEach n (piecesPerFace (cutFrom variable value)) pieces (cutEach n (cutFrom variable value) d g)
+
   from-absent : switchStep n mask guard reset inv absent ≡ absent
   unfolding switchStep
   from-absent = refl
 
-  pub switch-none : eqZ (word from 0) (pos 1) ≡ false → face ≡ joinedWith n face (switchStep n mask guard reset inv (faceRead n from 0))
-  switch-none u = nothing-joined n (switchStep n mask guard reset inv (faceRead n from 0)) (ok .is-face) (ap (switchStep n mask guard reset inv) (read-absent n from u) ∙ from-absent)
+  pub switch-none : eqZ (word from 0) (pos 1) ≡ false → pieces ≡ switchJoined (switchStep n mask guard reset inv (faceRead n from 0))
+  switch-none u = none-joined n (piecesPerFace (cutFrom variable value)) pieces (ok .are-pieces) ∙ sym (ap switchJoined (ap (switchStep n mask guard reset inv) (read-absent n from u) ∙ from-absent))
 
   module _ {bounds : List ℤ} (flag : eqZ (word from 0) (pos 1) ≡ true) (is-box : bounds ≡ boxAt n from 1) (out : List ℤ) (room : 2 * n ≤ length out) where
     pub switch-ready : SwitchReady n guard reset inv bounds out
@@ -93,8 +117,11 @@ module _ (n mask : ℕ) (guard reset inv from face : List ℤ) (ok : SwitchJoin 
       switch-is : switchStep n mask guard reset inv (faceRead n from 0) ≡ cond r (present (take (2 * n) after)) absent
       switch-is = ap (switchStep n mask guard reset inv) (read-present n from flag ∙ ap present (sym is-box)) ∙ gives .is-face
 
-      pub switch-joins : {exit : List ℤ} → r ≡ true → exit ≡ joinedWith n face (present (take (2 * n) after)) → exit ≡ joinedWith n face (switchStep n mask guard reset inv (faceRead n from 0))
-      switch-joins = joins-it n r after face (switchStep n mask guard reset inv (faceRead n from 0)) switch-is
+      pub switch-joinable : r ≡ true → PiecesJoinable n variable value (take (2 * n) after) pieces
+      switch-joinable u = joinable n variable value d r after pieces (switchStep n mask guard reset inv (faceRead n from 0)) switch-is inv u (switch-in n mask guard reset inv (faceRead n from 0)) (ok .from-ok .n-small) (ok .cut-words) (ok .are-pieces)
 
-      pub switch-joins-nothing : r ≡ false → face ≡ joinedWith n face (switchStep n mask guard reset inv (faceRead n from 0))
-      switch-joins-nothing u = joins-nothing n r after face (switchStep n mask guard reset inv (faceRead n from 0)) switch-is u (ok .is-face)
+      pub switch-joins : {exit : List ℤ} → r ≡ true → exit ≡ switchJoined (present (take (2 * n) after)) → exit ≡ switchJoined (switchStep n mask guard reset inv (faceRead n from 0))
+      switch-joins = joins-it n variable value d r after pieces (switchStep n mask guard reset inv (faceRead n from 0)) switch-is
+
+      pub switch-joins-nothing : r ≡ false → pieces ≡ switchJoined (switchStep n mask guard reset inv (faceRead n from 0))
+      switch-joins-nothing u = joins-nothing n variable value d r after pieces (switchStep n mask guard reset inv (faceRead n from 0)) switch-is u (ok .are-pieces)

@@ -15,11 +15,11 @@ use Rattle.integers.proofs.Tests.{and-yes, or-yes}
 use Rattle.integers.proofs.Counted.{all-yes, eqZ-eq}
 use Rattle.plant.specs.Box.{low, high, boxBy, boxAt, Face, absent, present, faceWords, join}
 use Rattle.plant.specs.Questions.{insideOk, zerosOk}
+use Rattle.plant.specs.Pieces.{Extent, keepsTo}
 use Rattle.plant.specs.Tables.{faceRead, onWall, absentOk, presentOk}
 use Rattle.plant.proofs.Boxes.{length-boxBy, length-boxAt, box-ends}
-use Rattle.plant.proofs.Tables.{ends, words-ends}
+use Rattle.plant.proofs.Tables.{ends}
 use Rattle.tables.proofs.Faces.{join-words}
-use Rattle.passes.specs.Joining.{IsFace, joinedWith}
 
 pub read-words : (n : ℕ) (g : Face) → faceRead n (faceWords n g) 0 ≡ ends n g
 unfolding faceRead faceWords boxAt
@@ -29,23 +29,6 @@ read-words n (present b) = ap present (take-all (2 * n) (boxBy n (low b) (high b
 -- the ends of a face's box alone join to the same words
 pub join-ends : (n : ℕ) (g h : Face) → faceWords n (join n (ends n g) h) ≡ faceWords n (join n g h)
 join-ends n g h = ap (λ (x : Face). faceWords n (join n x h)) (sym (read-words n g)) ∙ join-words n g h
-
--- the words of a face are those of a face
-pub is-face : (n : ℕ) (g : Face) {s : List ℤ} → s ≡ faceWords n g → IsFace n s
-is-face n g e = rw e (ap (faceWords n) (read-words n g) ∙ words-ends n g)
-
--- and join as the face does
-pub joined-words : (n : ℕ) (g h : Face) {s : List ℤ} → s ≡ faceWords n g → joinedWith n s h ≡ faceWords n (join n g h)
-joined-words n g h e = rw e (join-words n g h)
-
--- joined with nothing it stays
-pub join-absent : (n : ℕ) (g : Face) → join n g absent ≡ g
-unfolding join
-join-absent n absent = refl
-join-absent n (present a) = refl
-
-pub nothing-joined : (n : ℕ) (h : Face) {s : List ℤ} → IsFace n s → h ≡ absent → s ≡ joinedWith n s h
-nothing-joined n h {s} f e = sym (ap (joinedWith n s) e ∙ ap (faceWords n) (join-absent n (faceRead n s 0)) ∙ f)
 
 -- the face of some words, by its flag
 module _ (n : ℕ) (s : List ℤ) where
@@ -57,7 +40,7 @@ module _ (n : ℕ) (s : List ℤ) where
   unfolding faceRead
   read-absent e = rw e
 
--- ---- the words of a face that passes 32
+-- ---- the words of a piece that passes 32
 
 module _ (n : ℕ) (s : List ℤ) (sized : length s ≡ 1 + 2 * n) where
   zero-words : T (absentOk n s) → (i : ℕ) → i < length s → word s i ≡ pos 0
@@ -89,9 +72,9 @@ present-kept n s e h =
     ∙ ap (λ (b : List ℤ). pos 1 ∷ b) (box-ends n (boxAt n s 1) (length-boxAt n s 1 (omega arith)))
     ∙ flag-first (2 * n) s e h
 
-pub words-kept : (n : ℕ) (inv : List ℤ) (d : ℕ) (w : ℤ) (s : List ℤ) → length s ≡ 1 + 2 * n → T (absentOk n s || presentOk n inv d w s) → faceWords n (faceRead n s 0) ≡ s
+pub words-kept : (n : ℕ) (inv : List ℤ) (d : ℕ) (w : ℤ) (extent : Extent) (s : List ℤ) → length s ≡ 1 + 2 * n → T (absentOk n s || presentOk n inv d w extent s) → faceWords n (faceRead n s 0) ≡ s
 unfolding presentOk
-words-kept n inv d w s e h =
+words-kept n inv d w extent s e h =
     ⊎-elim (absent-kept n s e)
-    (λ u. present-kept n s e (eqZ-eq (word s 0) (pos 1) (and-yes (eqZ (word s 0) (pos 1)) (insideOk n (drop 1 s) inv && onWall (drop 1 s) d w) u .0)))
-    (or-yes (absentOk n s) (presentOk n inv d w s) h)
+    (λ u. present-kept n s e (eqZ-eq (word s 0) (pos 1) (and-yes (eqZ (word s 0) (pos 1)) (insideOk n (drop 1 s) inv && (onWall (drop 1 s) d w && keepsTo extent (drop 1 s))) u .0)))
+    (or-yes (absentOk n s) (presentOk n inv d w extent s) h)

@@ -1,80 +1,134 @@
--- The words of a location are those of its faces, one after the other: each face is read back from its place, and there it is
--- joined with what leads to it.
-use mathlib.Core.Path.{_≡_, sym, ap, _∙_}
-use mathlib.Core.List.{List}
-use Prim.Native.Nat.{ℕ, _+_, _*_, _-_, _<_, _≤_}
-use native.Mathlib.Nat.{mul-le-mul-right}
+-- Faces that stand one after the other: each is read back from its place, and there it is joined with what leads to it. In a
+-- location they are the pieces of its faces, as many for each.
+use mathlib.Core.Path.{_≡_, refl, sym, ap, _∙_}
+use mathlib.Core.List.{List, _++_}
+use Prim.Native.Nat.{ℕ, _+_, _*_, _-_, _/_, _%_, _<_, _≤_}
+use native.Mathlib.Nat.{mul-le-mul, mul-le-mul-right}
 use native.Mathlib.Omega.{arith}
 use lib.IntN.{ℤ}
 use lib.ListN.{length}
 use borrow.Rule.Slice.PartMut.{midOf}
 use Rattle.integers.specs.Words.{onto}
-use Rattle.integers.specs.Counted.{cat}
+use Rattle.integers.specs.Counted.{cat, sumBelow}
+use Rattle.integers.proofs.Counted.{sum-same}
 use Rattle.integers.proofs.Buffers.{cat-at, length-cat, cat-ext}
 use Rattle.plant.specs.Box.{Face, faceWords, join}
-use Rattle.plant.specs.Tables.{wordsPerLocation, faceSize, faceRead}
+use Rattle.plant.specs.Model.{Cut, uncut, cutBy}
+use Rattle.plant.specs.Pieces.{piecesPerFace}
+use Rattle.plant.specs.Tables.{faceSize, faceRead}
 use Rattle.plant.proofs.Boxes.{length-face}
-use Rattle.plant.proofs.Tables.{words-per-location, location-length, ends, words-ends}
-use Rattle.tables.proofs.Faces.{words-grow}
-use Rattle.passes.specs.Joining.{IsFace, IsLocation, locationBy, faceIn, joinedWith, joinedAll}
-use Rattle.passes.proofs.Joined.{read-words, is-face, join-ends, joined-words}
+use Rattle.plant.proofs.Tables.{ends, words-ends}
+use Rattle.tables.specs.Room.{facesBy, faceIn, AreFaces, joinedEach}
+use Rattle.passes.specs.Joining.{piecesWith}
+use Rattle.passes.proofs.Joined.{read-words, join-ends}
 use Rattle.passes.proofs.PartWords.{face-there}
-use Rattle.passes.proofs.Blocks.{mid-between, place-rest}
+use Rattle.passes.proofs.Blocks.{mid-between, cat-groups, place-rest}
 
--- ---- the location with the faces g
+-- ---- the k faces g
 
-module _ (n : ℕ) (g : ℕ → Face) where
-  words-there : (f : ℕ) → f < 2 * n → midOf (f * faceSize n) (faceSize n) (locationBy n g) ≡ faceWords n (g f)
-  words-there f u =
-      let d = cat-at (λ f. faceWords n (g f)) (2 * n) f u in
-      ap (midOf (f * faceSize n) (faceSize n)) (d .1)
-      ∙ mid-between (cat f (λ f. faceWords n (g f))) (faceWords n (g f)) (d .0) (f * faceSize n) (faceSize n) (length-cat f (faceSize n) (λ f. faceWords n (g f)) (λ j _. length-face n (g j))) (length-face n (g f))
+module _ (n k : ℕ) (g : ℕ → Face) where
+  pub faces-length : length (facesBy n k g) ≡ k * faceSize n
+  faces-length = length-cat k (faceSize n) (λ q. faceWords n (g q)) (λ q _. length-face n (g q))
 
-  face-back : (f : ℕ) → f < 2 * n → faceIn n (locationBy n g) f ≡ ends n (g f)
-  face-back f u = sym (face-there n (locationBy n g) (f * faceSize n)) ∙ ap (λ (s : List ℤ). faceRead n s 0) (words-there f u) ∙ read-words n (g f)
+  words-there : (q : ℕ) → q < k → midOf (q * faceSize n) (faceSize n) (facesBy n k g) ≡ faceWords n (g q)
+  words-there q u =
+      let d = cat-at (λ q. faceWords n (g q)) k q u in
+      ap (midOf (q * faceSize n) (faceSize n)) (d .1)
+      ∙ mid-between (cat q (λ q. faceWords n (g q))) (faceWords n (g q)) (d .0) (q * faceSize n) (faceSize n) (length-cat q (faceSize n) (λ q. faceWords n (g q)) (λ j _. length-face n (g j))) (length-face n (g q))
 
-  module _ {block : List ℤ} (e : block ≡ locationBy n g) where
-    pub is-location : IsLocation n block
-    is-location = rw e (cat-ext (2 * n) (λ f. faceWords n (faceIn n (locationBy n g) f)) (λ f. faceWords n (g f)) (λ f u. ap (faceWords n) (face-back f u) ∙ words-ends n (g f)))
+  face-back : (q : ℕ) → q < k → faceIn n (facesBy n k g) q ≡ ends n (g q)
+  face-back q u = sym (face-there n (facesBy n k g) (q * faceSize n)) ∙ ap (λ (s : List ℤ). faceRead n s 0) (words-there q u) ∙ read-words n (g q)
 
-    pub all-joined : (h : ℕ → Face) → joinedAll n block h ≡ locationBy n (λ f. join n (g f) (h f))
-    all-joined h = rw e (cat-ext (2 * n) (λ f. faceWords n (join n (faceIn n (locationBy n g) f) (h f))) (λ f. faceWords n (join n (g f) (h f)))
-        (λ f u. ap (λ (x : Face). faceWords n (join n x (h f))) (face-back f u) ∙ join-ends n (g f) (h f)))
+  module _ {words : List ℤ} (e : words ≡ facesBy n k g) where
+    pub are-faces : AreFaces n k words
+    are-faces = rw e (cat-ext k (λ q. faceWords n (faceIn n (facesBy n k g) q)) (λ q. faceWords n (g q)) (λ q u. ap (faceWords n) (face-back q u) ∙ words-ends n (g q)))
 
--- ---- the words of a location
+    pub each-joined : (h : ℕ → Face) → joinedEach n k words h ≡ facesBy n k (λ q. join n (g q) (h q))
+    each-joined h = rw e (cat-ext k (λ q. faceWords n (join n (faceIn n (facesBy n k g) q) (h q))) (λ q. faceWords n (join n (g q) (h q)))
+        (λ q u. ap (λ (x : Face). faceWords n (join n x (h q))) (face-back q u) ∙ join-ends n (g q) (h q)))
 
-module _ (n : ℕ) (block : List ℤ) (loc : IsLocation n block) where
-  pub block-length : length block ≡ 2 * n * faceSize n
-  block-length = ap length (sym loc) ∙ location-length n (faceIn n block) ∙ words-per-location n
+pub words-length : (n k : ℕ) (words : List ℤ) → AreFaces n k words → length words ≡ k * faceSize n
+words-length n k words e = ap length (sym e) ∙ faces-length n k (faceIn n words)
 
-  pub words-few : n ≤ 6 → length block ≤ 156
-  unfolding wordsPerLocation
-  words-few h = omega (arith, block-length, words-grow n 6 h)
+-- the same faces, joined with the same
+pub same-joined : (n k : ℕ) (words : List ℤ) (h h′ : ℕ → Face) → ((q : ℕ) → q < k → h q ≡ h′ q) → joinedEach n k words h ≡ joinedEach n k words h′
+same-joined n k words h h′ e = cat-ext k (λ q. faceWords n (join n (faceIn n words q) (h q))) (λ q. faceWords n (join n (faceIn n words q) (h′ q))) (λ q u. ap (λ (x : Face). faceWords n (join n (faceIn n words q) x)) (e q u))
 
-  pub next-inside : (f : ℕ) → f < 2 * n → f * faceSize n + faceSize n ≤ length block
-  next-inside f u = omega (arith, block-length, mul-le-mul-right (faceSize n) u)
+-- ---- the pieces of a location with the cut c: of face f those from f * p on, p for each
+
+pub piece-face : (c : Cut) (f j : ℕ) → j < piecesPerFace c → (f * piecesPerFace c + j) / piecesPerFace c ≡ f
+unfolding piecesPerFace
+piece-face uncut f j u = omega arith
+piece-face (cutBy v x) f j u = omega arith
+
+pub piece-index : (c : Cut) (f j : ℕ) → j < piecesPerFace c → (f * piecesPerFace c + j) % piecesPerFace c ≡ j
+unfolding piecesPerFace
+piece-index uncut f j u = omega arith
+piece-index (cutBy v x) f j u = omega arith
+
+pub pieces-few : (c : Cut) → piecesPerFace c ≤ 2
+unfolding piecesPerFace
+pieces-few uncut = omega arith
+pieces-few (cutBy v x) = omega arith
+
+pub group-few : (n : ℕ) (c : Cut) → n ≤ 6 → piecesPerFace c * faceSize n ≤ 26
+group-few n c h = let b : faceSize n ≤ 13 = omega arith in let g : piecesPerFace c * faceSize n ≤ 2 * 13 = mul-le-mul (pieces-few c) b in omega arith
 
 -- of which the faces below f are joined with the faces h
+module _ (n : ℕ) (c : Cut) (block : List ℤ) (h : ℕ → Face) where
+  abbrev pub groupSize : ℕ
+  groupSize = piecesPerFace c * faceSize n
 
-module _ (n : ℕ) (block : List ℤ) (h : ℕ → Face) where
-  abbrev pub joinedFace : ℕ → List ℤ
-  joinedFace f = faceWords n (join n (faceIn n block f) (h f))
+  abbrev pub joinedGroup : ℕ → List ℤ
+  joinedGroup f = facesBy n (piecesPerFace c) (λ j. join n (faceIn n block (f * piecesPerFace c + j)) (h (f * piecesPerFace c + j)))
 
-  pub joined-sized : (f : ℕ) → length (joinedFace f) ≡ faceSize n
-  joined-sized f = length-face n (join n (faceIn n block f) (h f))
+  pub joined-sized : (f : ℕ) → length (joinedGroup f) ≡ groupSize
+  joined-sized f = faces-length n (piecesPerFace c) (λ j. join n (faceIn n block (f * piecesPerFace c + j)) (h (f * piecesPerFace c + j)))
 
-  module _ (loc : IsLocation n block) (f : ℕ) (u : f < 2 * n) {at end : ℕ} {ws : List ℤ} (filled : ws ≡ onto (cat f joinedFace) block) (at-is : at ≡ f * faceSize n) (end-is : end ≡ at + faceSize n) where
-    next-words : midOf at (end - at) ws ≡ faceWords n (faceIn n block f)
-    next-words =
-        place-rest (faceSize n) joinedFace joined-sized block f filled at-is end-is (omega (arith, next-inside n block loc f u))
-        ∙ rw (size, at-is) (ap (midOf (f * faceSize n) (faceSize n)) (sym loc) ∙ words-there n (faceIn n block) f u)
-      where
-        size : end - at ≡ faceSize n
-        size = omega arith
+  pub groups-joined : cat (2 * n) joinedGroup ≡ joinedEach n (piecesWith n c) block h
+  groups-joined = sym (cat-groups (2 * n) (piecesPerFace c) (λ q. faceWords n (join n (faceIn n block q) (h q))))
 
-    -- the next face's words are those of a face
-    pub next-is-face : IsFace n (midOf at (end - at) ws)
-    next-is-face = is-face n (faceIn n block f) next-words
+  module _ (are : AreFaces n (piecesWith n c) block) where
+    group : ℕ → List ℤ
+    group f = facesBy n (piecesPerFace c) (λ j. faceIn n block (f * piecesPerFace c + j))
 
-    pub next-joined : {exit : List ℤ} → exit ≡ joinedWith n (midOf at (end - at) ws) (h f) → exit ≡ joinedFace f
-    next-joined e = e ∙ joined-words n (faceIn n block f) (h f) next-words
+    group-sized : (f : ℕ) → length (group f) ≡ groupSize
+    unfolding group
+    group-sized f = faces-length n (piecesPerFace c) (λ j. faceIn n block (f * piecesPerFace c + j))
+
+    are-groups : block ≡ cat (2 * n) group
+    unfolding group
+    are-groups = sym are ∙ cat-groups (2 * n) (piecesPerFace c) (λ q. faceWords n (faceIn n block q))
+
+    pub block-length : length block ≡ 2 * n * groupSize
+    block-length = ap length are-groups ∙ length-cat (2 * n) groupSize group (λ f _. group-sized f)
+
+    pub block-few : n ≤ 6 → length block ≤ 312
+    block-few u = let a : 2 * n ≤ 12 = omega arith in let g : 2 * n * groupSize ≤ 12 * 26 = mul-le-mul a (group-few n c u) in omega (arith, block-length)
+
+    pub block-sum : length block ≡ sumBelow (2 * n) (λ f. groupSize)
+    block-sum = block-length ∙ sym (sum-same (2 * n) groupSize)
+
+    pub next-inside : (f : ℕ) → f < 2 * n → f * groupSize + groupSize ≤ length block
+    next-inside f u = omega (arith, block-length, mul-le-mul-right groupSize u)
+
+    module _ (f : ℕ) (u : f < 2 * n) {at end : ℕ} {ws : List ℤ} (filled : ws ≡ onto (cat f joinedGroup) block) (at-is : at ≡ f * groupSize) (end-is : end ≡ at + groupSize) where
+      next-words : midOf at (end - at) ws ≡ facesBy n (piecesPerFace c) (λ j. faceIn n block (f * piecesPerFace c + j))
+      unfolding group
+      next-words =
+          place-rest (λ f. groupSize) joinedGroup joined-sized block f filled (at-is ∙ sym (sum-same f groupSize)) end-is (omega (arith, next-inside f u))
+          ∙ rw (size, at-is) (ap (midOf (f * groupSize) groupSize) (are-groups ∙ there .1)
+          ∙ mid-between (cat f group) (group f) (there .0) (f * groupSize) groupSize (length-cat f groupSize group (λ j _. group-sized j)) (group-sized f))
+        where
+          size : end - at ≡ groupSize
+          size = omega arith
+
+          there : (r : List ℤ) × (cat (2 * n) group ≡ cat f group ++ (group f ++ r))
+          there = cat-at group (2 * n) f u
+
+      -- the next face's words are those of its pieces
+      pub next-are-pieces : AreFaces n (piecesPerFace c) (midOf at (end - at) ws)
+      next-are-pieces = are-faces n (piecesPerFace c) (λ j. faceIn n block (f * piecesPerFace c + j)) next-words
+
+      pub next-joined : {exit : List ℤ} → exit ≡ joinedEach n (piecesPerFace c) (midOf at (end - at) ws) (λ j. h (f * piecesPerFace c + j)) → exit ≡ joinedGroup f
+      next-joined e = e ∙ each-joined n (piecesPerFace c) (λ j. faceIn n block (f * piecesPerFace c + j)) next-words (λ j. h (f * piecesPerFace c + j))

@@ -1,4 +1,4 @@
--- The words of a part give the part, and its box, if it is there, is one of levels: a start box and a face lie inside the
+-- The words of a part give the part, and its box, if it is there, is one of levels: a start box and a piece lie inside the
 -- invariant.
 use mathlib.Core.Path.{_≡_, sym, ap, ap₂, _∙_, subst}
 use mathlib.Core.Bool.{Bool, cond}
@@ -18,14 +18,14 @@ use Rattle.delays.specs.Ranges.{Level, Levels, Rates}
 use Rattle.plant.specs.Box.{low, high, boxAt, Face, absent, present}
 use Rattle.plant.specs.Model.{n#, L#, locationAt, invariant, rate, startFlag, startBox}
 use Rattle.plant.specs.Questions.{modelQuestions}
-use Rattle.plant.specs.Tables.{faceSize, tableSize, faceAt, faceRead, faceOf, tableOk, startPart, partOf}
+use Rattle.plant.specs.Pieces.{pieces}
+use Rattle.plant.specs.Tables.{faceSize, piecesBefore, tableSize, pieceAt, faceRead, pieceOf, tableOk, startPart, partOf}
 use Rattle.plant.proofs.Boxes.{FaceAll, length-boxAt}
 use Rattle.plant.proofs.Passed.{InRange, Passed, LocationPassed, passed}
-use Rattle.plant.proofs.Tables.{take-behind, face-inside, OkBox, ok-valid}
+use Rattle.plant.proofs.Tables.{take-behind, piece-inside, OkBox, ok-valid}
 use Rattle.records.specs.Whole.{Whole}
 use Rattle.records.proofs.Positions.{location-within, length-invariant, length-rate, length-startBox}
 use Rattle.model.proofs.Passing.{whole-passed}
-use Rattle.tables.proofs.Faces.{face-begins}
 use Rattle.steps.proofs.Faces.{in-levels}
 use Rattle.passes.specs.Parts.{IsPart}
 use Rattle.passes.specs.Joining.{PartOk}
@@ -80,9 +80,10 @@ module _ (n : ℕ) (s : List ℤ) (at : ℕ) where
   unfolding faceRead
   face-there = ap₂ (λ (z : ℤ) (b : List ℤ). cond (eqZ z (pos 1)) (present b) absent) flag-there box-there
 
--- where a face begins, by what code has: where those of its location begin, and its place among them
-pub face-place : (m : List ℤ) (l f : ℕ) {n at within : ℕ} → n ≡ n# m → at ≡ faceAt m l 0 → within ≡ f * faceSize n → at + within ≡ faceAt m l f
-face-place m l f e a h = ap₂ (λ (x y : ℕ). x + y) a (h ∙ ap (λ (n : ℕ). f * faceSize n) e) ∙ face-begins m l f
+-- where a piece begins, by what code has: how many pieces stand before its location
+pub place-is : (m : List ℤ) (l q : ℕ) {n before at : ℕ} → n ≡ n# m → before ≡ piecesBefore m l → at ≡ (before + q) * faceSize n → at ≡ pieceAt m l q
+unfolding pieceAt
+place-is m l q e b h = h ∙ ap₂ (λ (x n : ℕ). (x + q) * faceSize n) b e
 
 -- ---- the words of a part
 
@@ -95,16 +96,16 @@ start-read : (m : List ℤ) (l : ℕ) → faceRead (n# m) m (locationAt m l + 4 
 unfolding startPart startFlag faceRead
 start-read m l = ap (λ (b : List ℤ). cond (eqZ (startFlag m l) (pos 1)) (present b) absent) (start-place m l)
 
--- face f's words, at the place that code has
-module _ (m : List ℤ) (l : ℕ) (u : l < L# m) (t : List ℤ) (room : tableSize m ≤ length t) (f : ℕ) (v : f < 2 * n# m) {n at : ℕ} (n-is : n ≡ n# m) (at-is : at ≡ faceAt m l f) where
-  pub face-end : at + faceSize n ≤ length t
-  face-end = omega (arith, n-is, at-is, face-inside m l f u v)
+-- piece q's words, at the place that code has
+module _ (m : List ℤ) (l : ℕ) (u : l < L# m) (t : List ℤ) (room : tableSize m ≤ length t) (q : ℕ) (v : q < pieces m l) {n at : ℕ} (n-is : n ≡ n# m) (at-is : at ≡ pieceAt m l q) where
+  pub piece-end : at + faceSize n ≤ length t
+  piece-end = omega (arith, n-is, at-is, piece-inside m l q u v)
 
-  pub face-part : {words : List ℤ} → words ≡ take (faceSize n) (drop at t) → IsPart (n# m) words (faceOf m t l f)
-  unfolding faceOf
-  face-part e = rw (e, at-is, n-is) (record {
-    sized = length-take-le (faceSize (n# m)) (drop (faceAt m l f) t) (omega (arith, length-drop (faceAt m l f) t, face-inside m l f u v));
-    gives = face-there (n# m) t (faceAt m l f);
+  pub piece-part : {words : List ℤ} → words ≡ take (faceSize n) (drop at t) → IsPart (n# m) words (pieceOf m t l q)
+  unfolding pieceOf
+  piece-part e = rw (e, at-is, n-is) (record {
+    sized = length-take-le (faceSize (n# m)) (drop (pieceAt m l q) t) (omega (arith, length-drop (pieceAt m l q) t, piece-inside m l q u v));
+    gives = face-there (n# m) t (pieceAt m l q);
   })
 
 module _ (m : List ℤ) (ok : Passed m) (l : ℕ) (u : l < L# m) where
@@ -135,23 +136,23 @@ module _ (m : List ℤ) (ok : Passed m) (l : ℕ) (u : l < L# m) where
 
   module _ (t : List ℤ) (room : tableSize m ≤ length t) where
     -- the box of a part is one of levels
-    face-levels : T (tableOk m t) → (f : ℕ) → f < 2 * n# m → FaceAll (Levels (n# m)) (faceOf m t l f)
-    unfolding faceOf faceRead
-    face-levels valid f v = by-test (FaceAll (Levels (n# m))) (eqZ (word t (faceAt m l f)) (pos 1)) flagged (λ _. tt)
+    piece-levels : T (tableOk m t) → (q : ℕ) → q < pieces m l → FaceAll (Levels (n# m)) (pieceOf m t l q)
+    unfolding pieceOf faceRead
+    piece-levels valid q v = by-test (FaceAll (Levels (n# m))) (eqZ (word t (pieceAt m l q)) (pos 1)) flagged (λ _. tt)
       where
-        there : T (eqZ (word t (faceAt m l f)) (pos 1)) → faceOf m t l f ≡ present (boxAt (n# m) t (faceAt m l f + 1))
-        there h = ap (λ (b : Bool). cond b (present (boxAt (n# m) t (faceAt m l f + 1))) absent) (is-true {b = eqZ (word t (faceAt m l f)) (pos 1)} h)
+        there : T (eqZ (word t (pieceAt m l q)) (pos 1)) → pieceOf m t l q ≡ present (boxAt (n# m) t (pieceAt m l q + 1))
+        there h = ap (λ (b : Bool). cond b (present (boxAt (n# m) t (pieceAt m l q + 1))) absent) (is-true {b = eqZ (word t (pieceAt m l q)) (pos 1)} h)
 
-        flagged : T (eqZ (word t (faceAt m l f)) (pos 1)) → Levels (n# m) (boxAt (n# m) t (faceAt m l f + 1))
+        flagged : T (eqZ (word t (pieceAt m l q)) (pos 1)) → Levels (n# m) (boxAt (n# m) t (pieceAt m l q + 1))
         flagged h =
-            let k : OkBox m l f (boxAt (n# m) t (faceAt m l f + 1)) = subst (FaceAll (OkBox m l f)) (there h) (ok-valid m t valid .valid l f u v) in
-            in-levels {n = n# m} {inv = invariant m l} {b = boxAt (n# m) t (faceAt m l f + 1)} (invariant-in m ok l u)
-            (record { sized = length-boxAt (n# m) t (faceAt m l f + 1) (omega (arith, face-inside m l f u v)); is-ordered = k .ordered; inside = k .inside })
+            let k : OkBox m l q (boxAt (n# m) t (pieceAt m l q + 1)) = subst (FaceAll (OkBox m l q)) (there h) (ok-valid m t valid .valid l q u v) in
+            in-levels {n = n# m} {inv = invariant m l} {b = boxAt (n# m) t (pieceAt m l q + 1)} (invariant-in m ok l u)
+            (record { sized = length-boxAt (n# m) t (pieceAt m l q + 1) (omega (arith, piece-inside m l q u v)); is-ordered = k .wall .ordered; inside = k .wall .inside })
 
-    pub part-levels : T (tableOk m t) → (p : ℕ) → p ≤ 2 * n# m → FaceAll (Levels (n# m)) (partOf m t l p)
+    pub part-levels : T (tableOk m t) → (p : ℕ) → p ≤ pieces m l → FaceAll (Levels (n# m)) (partOf m t l p)
     unfolding partOf
     part-levels valid zero v = start-levels
-    part-levels valid (suc f) v = face-levels valid f (omega arith)
+    part-levels valid (suc q) v = piece-levels valid q (omega arith)
 
 -- words that give a part whose box is one of levels
 pub is-part-ok : (n : ℕ) (words : List ℤ) (part : Face) → n ≤ 6 → IsPart n words part → FaceAll (Levels n) part → PartOk n words

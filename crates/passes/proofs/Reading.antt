@@ -1,46 +1,55 @@
--- What a pass reads of a model and a table that passed their questions: parts whose levels are in range, and faces that stand
+-- What a pass reads of a model and a table that passed their questions: parts whose levels are in range, and pieces that stand
 -- in their words.
 use mathlib.Core.Path.{_≡_, refl, sym, ap, _∙_}
+use mathlib.Core.Logic.{inl, inr, ⊎-elim}
 use mathlib.Core.List.{List}
 use Prim.Native.Nat.{ℕ, _+_, _*_, _<_, _≤_}
 use native.Mathlib.Nat.{mul-le-mul-right}
 use native.Mathlib.Numerals.{add-one}
 use native.Mathlib.Omega.{arith}
 use lib.IntN.{ℤ}
-use lib.ListN.{length, take, drop}
+use lib.ListN.{length, take, drop, getD}
 use Rattle.integers.specs.Words.{word}
-use Rattle.integers.specs.Counted.{cat, allBelow}
+use Rattle.integers.specs.Counted.{cat, allBelow, sumBelow}
 use Rattle.integers.proofs.Tests.{true-is}
-use Rattle.integers.proofs.Counted.{all-yes}
+use Rattle.integers.proofs.Counted.{split, all-yes, sum-part}
 use Rattle.integers.proofs.Buffers.{cat-parts, cat-ext}
 use Rattle.plant.specs.Box.{Face, faceWords, join, joins}
-use Rattle.plant.specs.Model.{n#, L#, E#, invariant, rate, source, target, resetMask, guard, reset, variableOf, sideOf, faceWall}
+use Rattle.plant.specs.Model.{n#, L#, E#, invariant, rate, source, target, wallVariable, resetMask, guard, reset, variableOf, sideOf, faceWall, cutVariable, cutValue, cutFrom, cutOf}
+use Rattle.plant.specs.Pieces.{piecesPerFace, perFace, pieces, pieceNumber, pieceFace, pieceIndex, pieceVariable, pieceWall, pieceExtent}
 use Rattle.plant.specs.Steps.{switchStep}
-use Rattle.plant.specs.Tables.{faceSize, wordsPerLocation, tableSize, faceAt, tableBy, faceRead, faceOf, faceOk, tableOk, startPart, partOf, wallStepAt, wallFrom, wallsJoined, switchStepAt, sourceFace, targetFace}
+use Rattle.plant.specs.Tables.{faceSize, piecesBefore, pieceCount, tableSize, pieceAt, tableBy, faceRead, pieceOf, pieceOk, tableOk, startPart, partOf, toPiece, wallStepAt, wallFrom, wallsJoined, switchStepAt, sourceFace, sourcePiece, targetFace}
 use Rattle.plant.proofs.Passed.{SwitchPassed, Passed, passed}
-use Rattle.plant.proofs.Tables.{words-per-location, location-length, face-inside, wordsOf}
-use Rattle.tables.proofs.Faces.{faces-begin, face-begins, table-most}
+use Rattle.plant.proofs.PieceCases.{before-more}
+use Rattle.plant.proofs.Pieces.{number-below}
+use Rattle.plant.proofs.Tables.{locationWords, words-before, piece-place, location-length, piece-inside, wordsOf}
+use Rattle.tables.specs.Places.{Places}
+use Rattle.tables.specs.Room.{AreFaces, joinedEach, cutEach, CutVariable}
+use Rattle.tables.proofs.Faces.{table-most}
+use Rattle.tables.proofs.Sizes.{before-most}
 use Rattle.records.specs.Whole.{Whole, Placed}
 use Rattle.records.proofs.Positions.{length-guard, length-reset}
 use Rattle.records.proofs.Walls.{wall-at}
 use Rattle.model.proofs.Passing.{whole-passed, switch-placed}
 use Rattle.passes.specs.Checked.{Checked}
 use Rattle.passes.specs.Parts.{IsPart}
-use Rattle.passes.specs.Joining.{PartOk, IsFace, PartJoin, SwitchJoin, joinedWith, joinedAll, wallsFrom, locationBy, landing}
-use Rattle.passes.proofs.PartWords.{levels-from, invariant-in, rate-in, face-part, part-levels, is-part-ok}
+use Rattle.passes.specs.Joining.{PartOk, piecesWith, PartJoin, SwitchJoin, wallsFrom, locationBy, landing, landedOn}
+use Rattle.passes.proofs.PartWords.{levels-from, invariant-in, rate-in, piece-part, part-levels, is-part-ok}
 use Rattle.passes.proofs.Joined.{words-kept}
-use Rattle.passes.proofs.Locations.{is-location, all-joined}
+use Rattle.passes.proofs.Locations.{are-faces, each-joined}
 
 -- the wall of a face is one word of the invariant
 pub wall-word : (m : List ℤ) (l f : ℕ) → faceWall m l f ≡ word (invariant m l) f
 unfolding faceWall
 wall-word m l f = sym (wall-at (invariant m l) (variableOf f) (sideOf f) (omega arith)) ∙ ap (word (invariant m l)) (omega arith)
 
--- what was read of location l: the number of variables, invariant and rate
-pub record LocationRead (m : List ℤ) (l n : ℕ) (inv rates : List ℤ) : Type 0 where
+-- what was read of location l: the number of variables, invariant, rate and cut
+pub record LocationRead (m : List ℤ) (l n : ℕ) (inv rates : List ℤ) (variable value : ℤ) : Type 0 where
   pub n-is : n ≡ n# m
   pub inv-is : inv ≡ invariant m l
   pub rate-is : rates ≡ rate m l
+  pub variable-is : variable ≡ cutVariable m l
+  pub value-is : value ≡ cutValue m l
 
 module _ (m t : List ℤ) (ok : Checked m t) where
   pub model-passed : Passed m
@@ -52,134 +61,161 @@ module _ (m t : List ℤ) (ok : Checked m t) where
   pub placed : (e : ℕ) → e < E# m → Placed m e
   placed e l = switch-placed m model-passed e l
 
+  -- the first word of a cut
+  pub cut-words : (l : ℕ) → l < L# m → CutVariable (n# m) (cutVariable m l)
+  cut-words l u = ⊎-elim (λ h. inl (h .no-variable)) (λ h. inr (h .not-negative, h .inside .0)) (model-passed .of-cut l u .words)
+
   -- ---- the parts of a location
 
-  pub part-ok : (l p : ℕ) → l < L# m → p ≤ 2 * n# m → {words : List ℤ} → IsPart (n# m) words (partOf m t l p) → PartOk (n# m) words
+  pub part-ok : (l p : ℕ) → l < L# m → p ≤ pieces m l → {words : List ℤ} → IsPart (n# m) words (partOf m t l p) → PartOk (n# m) words
   part-ok l p u v {words} h = is-part-ok (n# m) words (partOf m t l p) (model-passed .n-small) h (part-levels m model-passed l u t (ok .ready .room) (true-is (ok .valid)) p v)
 
-  -- the start part, and face f of location l, whose words code has
+  -- the start part, and piece q of location l, whose words code has
   pub start-is-part : (l : ℕ) {words : List ℤ} → IsPart (n# m) words (startPart m l) → IsPart (n# m) words (partOf m t l 0)
   unfolding partOf
   start-is-part l h = h
 
-  pub face-is-part : (l f : ℕ) → l < L# m → f < 2 * n# m → {n at : ℕ} → n ≡ n# m → at ≡ faceAt m l f → {words : List ℤ} → words ≡ take (faceSize n) (drop at t) → IsPart (n# m) words (partOf m t l (f + 1))
+  pub piece-is-part : (l q : ℕ) → l < L# m → q < pieces m l → {n at : ℕ} → n ≡ n# m → at ≡ pieceAt m l q → {words : List ℤ} → words ≡ take (faceSize n) (drop at t) → IsPart (n# m) words (partOf m t l (q + 1))
   unfolding partOf
-  face-is-part l f u v e a h = rw (add-one f) (face-part m l u t (ok .ready .room) f v e a h)
+  piece-is-part l q u v e a h = rw (add-one q) (piece-part m l u t (ok .ready .room) q v e a h)
 
-  -- the words of a face of the table are those of the face
-  pub old-words : (l f : ℕ) → l < L# m → f < 2 * n# m → wordsOf m t l f ≡ faceWords (n# m) (faceOf m t l f)
-  unfolding tableOk faceOk
-  old-words l f u v =
-      let part : IsPart (n# m) (wordsOf m t l f) (faceOf m t l f) = face-part m l u t (ok .ready .room) f v {at = faceAt m l f} refl refl refl in
-      sym (words-kept (n# m) (invariant m l) (variableOf f) (faceWall m l f) (wordsOf m t l f) (part .sized)
-      (all-yes (2 * n# m) (faceOk m t l) (all-yes (L# m) (λ l. allBelow (2 * n# m) (faceOk m t l)) (true-is (ok .valid)) l u) f v))
+  -- the words of a piece of the table are those of the piece
+  pub old-words : (l q : ℕ) → l < L# m → q < pieces m l → wordsOf m t l q ≡ faceWords (n# m) (pieceOf m t l q)
+  unfolding tableOk pieceOk
+  old-words l q u v =
+      let part : IsPart (n# m) (wordsOf m t l q) (pieceOf m t l q) = piece-part m l u t (ok .ready .room) q v {at = pieceAt m l q} refl refl refl in
+      sym (words-kept (n# m) (invariant m l) (pieceVariable m l q) (pieceWall m l q) (pieceExtent m l q) (wordsOf m t l q) (part .sized)
+      (all-yes (pieces m l) (pieceOk m t l) (all-yes (L# m) (λ l. allBelow (pieces m l) (pieceOk m t l)) (true-is (ok .valid)) l u) q v))
       ∙ ap (faceWords (n# m)) (part .gives)
 
-  -- ---- the wall steps from them to the faces of location l, with what was read of it
+  -- ---- the wall steps from them to the pieces of location l, with what was read of it
 
   module _ (l : ℕ) (u : l < L# m) where
     -- the words that it has in the table
-    pub old-location : {from k : ℕ} → from ≡ faceAt m l 0 → k ≡ wordsPerLocation (n# m) → take k (drop from t) ≡ locationBy (n# m) (faceOf m t l)
+    pub old-location : {from k : ℕ} → from ≡ pieceAt m l 0 → k ≡ locationWords m l → take k (drop from t) ≡ locationBy m l (pieceOf m t l)
     old-location a b =
-        rw (a, b ∙ words-per-location (n# m)) (sym (cat-parts t (faceAt m l 0) (faceSize (n# m)) (2 * n# m)))
-        ∙ cat-ext (2 * n# m) _ (λ f. faceWords (n# m) (faceOf m t l f)) (λ f v. ap (λ (k : ℕ). take (faceSize (n# m)) (drop k t)) (face-begins m l f) ∙ old-words l f u v)
+        rw (a, b) (sym (cat-parts t (pieceAt m l 0) (faceSize (n# m)) (pieces m l)))
+        ∙ cat-ext (pieces m l) _ (λ q. faceWords (n# m) (pieceOf m t l q)) (λ q v. ap (λ (k : ℕ). take (faceSize (n# m)) (drop k t)) (there q) ∙ old-words l q u v)
+      where
+        there : (q : ℕ) → pieceAt m l 0 + q * faceSize (n# m) ≡ pieceAt m l q
+        there q = omega (arith, piece-place m l 0, piece-place m l q)
 
-    -- its faces, joined with the wall steps from the parts below p
+    -- its pieces, joined with the wall steps from the parts below p
     abbrev pub joinedTo : ℕ → List ℤ
-    joinedTo p = locationBy (n# m) (λ f. joins (n# m) p (wallFrom m t l f) (faceOf m t l f))
+    joinedTo p = locationBy m l (λ q. joins (n# m) p (wallFrom m t l q) (pieceOf m t l q))
 
-    pub joined-none : {block : List ℤ} → block ≡ locationBy (n# m) (faceOf m t l) → block ≡ joinedTo 0
+    pub joined-none : {block : List ℤ} → block ≡ locationBy m l (pieceOf m t l) → block ≡ joinedTo 0
     unfolding joins
     joined-none e = e
 
-    pub joined-all : joinedTo (2 * n# m + 1) ≡ locationBy (n# m) (wallsJoined m t l)
+    pub joined-all : joinedTo (pieces m l + 1) ≡ locationBy m l (wallsJoined m t l)
     unfolding wallsJoined
-    joined-all = rw (add-one (2 * n# m))
+    joined-all = rw (add-one (pieces m l))
 
-    pub joined-length : (p : ℕ) → length (joinedTo p) ≡ 2 * n# m * faceSize (n# m)
-    joined-length p = location-length (n# m) (λ f. joins (n# m) p (wallFrom m t l f) (faceOf m t l f)) ∙ words-per-location (n# m)
+    pub joined-length : (p : ℕ) → length (joinedTo p) ≡ locationWords m l
+    joined-length p = location-length m (λ l q. joins (n# m) p (wallFrom m t l q) (pieceOf m t l q)) l
 
-    module _ {n : ℕ} {inv rates : List ℤ} (r : LocationRead m l n inv rates) (p : ℕ) {part block : List ℤ} (part-is : IsPart (n# m) part (partOf m t l p)) (block-is : block ≡ joinedTo p) where
-      pub part-join : p ≤ 2 * n# m → PartJoin n inv rates part block
-      part-join w = rw (r .n-is, r .inv-is, r .rate-is) (record {
+    module _ {n : ℕ} {inv rates : List ℤ} {variable value : ℤ} (r : LocationRead m l n inv rates variable value) (p : ℕ) {part block : List ℤ} (part-is : IsPart (n# m) part (partOf m t l p)) (block-is : block ≡ joinedTo p) where
+      pub part-join : p ≤ pieces m l → PartJoin n inv rates part variable value block
+      unfolding pieces perFace cutOf
+      part-join w = rw (r .n-is, r .inv-is, r .rate-is, r .variable-is, r .value-is) (record {
         inv-in = invariant-in m model-passed l u;
         rate-in = rate-in m model-passed l u;
         part-ok = part-ok l p u w part-is;
-        is-location = is-location (n# m) (λ f. joins (n# m) p (wallFrom m t l f) (faceOf m t l f)) block-is;
+        cut-words = cut-words l u;
+        are-pieces = are-faces (n# m) (pieces m l) (λ q. joins (n# m) p (wallFrom m t l q) (pieceOf m t l q)) block-is;
       })
 
-      walls-are : (f : ℕ) → wallsFrom (n# m) (invariant m l) (rate m l) (faceRead (n# m) part 0) f ≡ wallFrom m t l f p
-      unfolding wallFrom wallStepAt
-      walls-are f = rw (← (wall-word m l f), part-is .gives) refl
+      walls-are : (q : ℕ) → wallsFrom (n# m) (invariant m l) (rate m l) (cutOf m l) (faceRead (n# m) part 0) q ≡ wallFrom m t l q p
+      unfolding wallFrom toPiece wallStepAt pieceExtent pieceVariable pieceFace pieceIndex perFace
+      walls-are q = rw (← (wall-word m l (pieceFace m l q)), part-is .gives) refl
 
-      pub joined-more : {exit : List ℤ} → exit ≡ joinedAll n block (wallsFrom n inv rates (faceRead n part 0)) → exit ≡ joinedTo (p + 1)
-      unfolding joins
+      pub joined-more : {exit : List ℤ} → exit ≡ joinedEach n (piecesWith n (cutFrom variable value)) block (wallsFrom n inv rates (cutFrom variable value) (faceRead n part 0)) → exit ≡ joinedTo (p + 1)
+      unfolding joins pieces perFace cutOf
       joined-more k = rw (add-one p)
-          (k ∙ rw (r .n-is, r .inv-is, r .rate-is) (all-joined (n# m) (λ f. joins (n# m) p (wallFrom m t l f) (faceOf m t l f)) block-is (wallsFrom (n# m) (invariant m l) (rate m l) (faceRead (n# m) part 0)))
-          ∙ cat-ext (2 * n# m) _ _ (λ f v. ap (λ (x : Face). faceWords (n# m) (join (n# m) (joins (n# m) p (wallFrom m t l f) (faceOf m t l f)) x)) (walls-are f)))
+          (k ∙ rw (r .n-is, r .inv-is, r .rate-is, r .variable-is, r .value-is) (each-joined (n# m) (pieces m l) (λ q. joins (n# m) p (wallFrom m t l q) (pieceOf m t l q)) block-is (wallsFrom (n# m) (invariant m l) (rate m l) (cutOf m l) (faceRead (n# m) part 0)))
+          ∙ cat-ext (pieces m l) _ _ (λ q v. ap (λ (x : Face). faceWords (n# m) (join (n# m) (joins (n# m) p (wallFrom m t l q) (pieceOf m t l q)) x)) (walls-are q)))
 
   -- ---- the step of switch e
 
-  -- the face that it leaves, and the one on which it lands
+  -- the face that it leaves, with its pieces, and the one on which it lands
   pub source-face : (e : ℕ) → e < E# m → (source m e < L# m) × (sourceFace m e < 2 * n# m)
   source-face e u = let p : Placed m e = placed e u in (p .source-is, omega (arith, p .variable-is, p .source-side))
+
+  pub source-below : (e k : ℕ) → e < E# m → k < perFace m (source m e) → sourcePiece m e k < pieces m (source m e)
+  unfolding sourcePiece
+  source-below e k u v = number-below m (source m e) (sourceFace m e) k (source-face e u .1) v
 
   pub target-face : (e : ℕ) → e < E# m → targetFace m e < 2 * n# m
   target-face e l = let p : Placed m e = placed e l in omega (arith, p .variable-is, p .target-side)
 
-  module _ (e : ℕ) {n : ℕ} {gs rs inv from : List ℤ} (n-is : n ≡ n# m) (guard-is : gs ≡ guard m e) (reset-is : rs ≡ reset m e) (inv-is : inv ≡ invariant m (target m e)) (from-is : IsPart (n# m) from (partOf m t (source m e) (sourceFace m e + 1))) where
-    pub switch-join : e < E# m → {face : List ℤ} → IsFace (n# m) face → SwitchJoin n gs rs inv from face
-    switch-join l w =
-        let p : Placed m e = placed e l in
-        let s : SwitchPassed m e = model-passed .of-switch e l in
-        rw (n-is, guard-is, reset-is, inv-is) (record {
-          guard-in = levels-from (n# m) (guard m e) (length-guard m whole e l) (s .guard-levels);
-          reset-in = levels-from (n# m) (reset m e) (length-reset m whole e l) (s .reset-levels);
+  module _ (e k : ℕ) (u : e < E# m) (v : k < perFace m (source m e)) {n : ℕ} {gs rs inv from : List ℤ} {variable value : ℤ} (n-is : n ≡ n# m) (guard-is : gs ≡ guard m e) (reset-is : rs ≡ reset m e) (inv-is : inv ≡ invariant m (target m e))
+      (from-is : IsPart (n# m) from (partOf m t (source m e) (sourcePiece m e k + 1))) (variable-is : variable ≡ cutVariable m (target m e)) (value-is : value ≡ cutValue m (target m e)) where
+    pub switch-join : {words : List ℤ} → AreFaces (n# m) (perFace m (target m e)) words → SwitchJoin n gs rs inv from variable value words
+    unfolding perFace cutOf
+    switch-join w =
+        let p : Placed m e = placed e u in
+        let s : SwitchPassed m e = model-passed .of-switch e u in
+        rw (n-is, guard-is, reset-is, inv-is, variable-is, value-is) (record {
+          guard-in = levels-from (n# m) (guard m e) (length-guard m whole e u) (s .guard-levels);
+          reset-in = levels-from (n# m) (reset m e) (length-reset m whole e u) (s .reset-levels);
           inv-in = invariant-in m model-passed (target m e) (p .target-is);
-          from-ok = part-ok (source m e) (sourceFace m e + 1) (p .source-is) (omega (arith, p .variable-is, p .source-side)) from-is;
-          is-face = w;
+          from-ok = part-ok (source m e) (sourcePiece m e k + 1) (p .source-is) (omega (arith, source-below e k u v)) from-is;
+          cut-words = cut-words (target m e) (p .target-is);
+          are-pieces = w;
         })
 
-    pub step-joined : {mask : ℕ} → mask ≡ resetMask m e → (face : List ℤ) {exit : List ℤ} → exit ≡ joinedWith n face (switchStep n mask gs rs inv (faceRead n from 0)) → exit ≡ joinedWith (n# m) face (landing m t e)
-    unfolding switchStepAt partOf
-    step-joined mask-is face h = h ∙ rw (n-is, mask-is, guard-is, reset-is, inv-is, from-is .gives, add-one (sourceFace m e)) refl
+    pub step-joined : {mask d : ℕ} → mask ≡ resetMask m e → d ≡ wallVariable m e → (words : List ℤ) {exit : List ℤ} → exit ≡ joinedEach n (piecesPerFace (cutFrom variable value)) words (cutEach n (cutFrom variable value) d (switchStep n mask gs rs inv (faceRead n from 0))) → exit ≡ landedOn m t e k words
+    unfolding switchStepAt partOf perFace cutOf
+    step-joined mask-is d-is words h = h ∙ rw (n-is, mask-is, d-is, guard-is, reset-is, inv-is, variable-is, value-is, from-is .gives, add-one (sourcePiece m e k)) refl
 
 -- ---- the locations, one after the other
 
+sum-upto : (k : ℕ) (f : ℕ → ℕ) (i : ℕ) → i ≤ k → sumBelow i f ≤ sumBelow k f
+sum-upto k f i u = ⊎-elim (λ v. omega (arith, sum-part k f i v)) (λ e. rw e (omega arith)) (split i k (omega arith))
+
 abbrev pub locationsOf : List ℤ → List ℤ → ℕ → List ℤ
-locationsOf m t l = locationBy (n# m) (wallsJoined m t l)
+locationsOf m t l = locationBy m l (wallsJoined m t l)
 
 pub all-locations : (m t : List ℤ) → cat (L# m) (locationsOf m t) ≡ tableBy m (wallsJoined m t)
 unfolding tableBy
 all-locations m t = refl
 
-pub locations-sized : (m t : List ℤ) (l : ℕ) → length (locationsOf m t l) ≡ wordsPerLocation (n# m)
-locations-sized m t l = location-length (n# m) (wallsJoined m t l)
+pub locations-sized : (m t : List ℤ) (l : ℕ) → length (locationsOf m t l) ≡ locationWords m l
+locations-sized m t l = location-length m (wallsJoined m t) l
 
 module _ (m t : List ℤ) (ok : Checked m t) where
-  pub table-small : tableSize m ≤ 9984
+  pub table-small : tableSize m ≤ 19968
   table-small = table-most m (whole m t ok .head)
 
-  pub face-small : (l f : ℕ) → l < L# m → f < 2 * n# m → faceAt m l f + faceSize (n# m) ≤ 9984
-  face-small l f u v = omega (arith, face-inside m l f u v, table-small)
+  pub piece-small : (l q : ℕ) → l < L# m → q < pieces m l → pieceAt m l q + faceSize (n# m) ≤ 19968
+  piece-small l q u v = omega (arith, piece-inside m l q u v, table-small)
+
+-- how many pieces stand before location l, as code has it
+module _ (m t : List ℤ) (ok : Checked m t) (places : List ℕ) (p : Places m places) (l : ℕ) (u : l ≤ L# m) where
+  pub place-there : l < length places
+  place-there = omega (arith, p .long, whole m t ok .head .L-small)
+
+  pub place-small : getD places l 0 ≤ 1536
+  place-small = omega (arith, p .each l u, before-most m (whole m t ok .head) l u)
 
 module _ (m : List ℤ) where
   -- the words of location l: where they begin and end, by what code has
-  module _ (l : ℕ) {at end : ℕ} (at-is : at ≡ faceAt m l 0) (end-is : end ≡ faceAt m (l + 1) 0) where
-    pub location-from : at ≡ l * wordsPerLocation (n# m)
-    location-from = at-is ∙ sym (faces-begin m l)
+  module _ (l : ℕ) {at end : ℕ} (at-is : at ≡ pieceAt m l 0) (end-is : end ≡ pieceAt m (l + 1) 0) where
+    pub location-from : at ≡ sumBelow l (locationWords m)
+    location-from = omega (arith, at-is, piece-place m l 0, words-before m l)
 
-    pub location-to : end ≡ at + wordsPerLocation (n# m)
-    location-to = omega (arith, at-is, end-is, faces-begin m l, faces-begin m (l + 1))
+    pub location-to : end ≡ at + locationWords m l
+    location-to = omega (arith, at-is, end-is, piece-place m l 0, piece-place m (l + 1) 0, ap (λ (k : ℕ). k * faceSize (n# m)) (before-more m l))
 
-    pub location-inside : l < L# m → {k : ℕ} → k ≡ tableSize m → end ≤ k
-    unfolding tableSize
-    location-inside u h = omega (arith, end-is, faces-begin m (l + 1), mul-le-mul-right (wordsPerLocation (n# m)) u)
+  -- a location that begins in the table ends in it
+  pub location-inside : (l : ℕ) {at : ℕ} → at ≡ pieceAt m l 0 → l < L# m → {k : ℕ} → k ≡ tableSize m → at + locationWords m l ≤ k
+  unfolding tableSize pieceCount
+  location-inside l a u h = omega (arith, a, piece-place m l 0, words-before m l, sum-part (L# m) (locationWords m) l u, words-before m (L# m), h)
 
-  pub table-within : (l : ℕ) → l ≤ L# m → {k : ℕ} → k ≡ tableSize m → l * wordsPerLocation (n# m) ≤ k
-  unfolding tableSize
-  table-within l u h = omega (arith, mul-le-mul-right (wordsPerLocation (n# m)) u)
+  pub table-sized : {k : ℕ} → k ≡ tableSize m → k ≡ sumBelow (L# m) (locationWords m)
+  unfolding tableSize pieceCount
+  table-sized h = h ∙ sym (words-before m (L# m))
 
-  pub table-sized : {k : ℕ} → k ≡ tableSize m → k ≡ L# m * wordsPerLocation (n# m)
-  unfolding tableSize
-  table-sized h = h
+  pub table-within : (l : ℕ) → l ≤ L# m → {k : ℕ} → k ≡ tableSize m → sumBelow l (locationWords m) ≤ k
+  table-within l u h = omega (arith, table-sized h, sum-upto (L# m) (locationWords m) l u)

@@ -1,14 +1,19 @@
-// The switch steps of a pass: each from the source's face of the table before the pass onto the target's face.
+// The switch steps of a pass: each from a piece of the source's face of the table before the pass, given to the pieces of the
+// target's face.
 ghost use mathlib.Core.Path.{_≡_};
-ghost use Prim.Native.Nat.{_<_};
-ghost use Rattle.plant.specs.Model.{n#, E#};
+ghost use Prim.Native.Nat.{_+_, _<_};
+ghost use Rattle.plant.specs.Model.{n#, E#, source, target, cutFrom};
+ghost use Rattle.plant.specs.Pieces.{piecesPerFace, perFace};
 ghost use Rattle.plant.specs.Steps.{switchStep};
 ghost use Rattle.plant.specs.Tables as T;
-ghost use Rattle.plant.specs.Tables.{tableBy, faceRead, wallsJoined};
+ghost use Rattle.plant.specs.Tables.{tableBy, faceRead, sourcePiece, wallsJoined};
+ghost use Rattle.tables.specs.Places.{Places};
+ghost use Rattle.tables.specs.Room.{AreFaces, joinedEach, cutEach};
 ghost use Rattle.passes.specs.Checked.{Checked};
-ghost use Rattle.passes.specs.Joining.{SwitchJoin, IsFace, IsTable, joinedWith, landing, withSwitch};
+ghost use Rattle.passes.specs.Parts.{IsPart};
+ghost use Rattle.passes.specs.Joining.{SwitchJoin, IsTable, landedOn, withSwitch, joinedBelow};
 
-// Joins to a face the switch step from the source's face.
+// Joins to the pieces of a face of wall variable d the switch step from a piece of the source's face.
 fn join_switch(
     n: usize,
     mask: usize,
@@ -16,57 +21,110 @@ fn join_switch(
     reset: &[i32],
     inv: &[i32],
     from: &[i32],
-    face: &mut [i32],
+    d: usize,
+    variable: i32,
+    value: i32,
+    pieces: &mut [i32],
 )
-    requires { ⌜ SwitchJoin n (now guard) (now reset) (now inv) (now from) (now face) ⌝ }
-    ensures { λ _. ⌜ now (face .exit) ≡ joinedWith n (now (face .entry)) (switchStep n mask (now (guard .entry)) (now (reset .entry)) (now (inv .entry)) (faceRead n (now (from .entry)) 0)) ⌝ }
+    requires { ⌜ SwitchJoin n (now guard) (now reset) (now inv) (now from) variable value (now pieces) ⌝ }
+    ensures { λ _. ⌜ now (pieces .exit) ≡ joinedEach n (piecesPerFace (cutFrom variable value)) (now (pieces .entry)) (cutEach n (cutFrom variable value) d (switchStep n mask (now (guard .entry)) (now (reset .entry)) (now (inv .entry)) (faceRead n (now (from .entry)) 0))) ⌝ }
 {
     if integers::same(from[0], 1) {
         let mut after = [0i32; 12];
         let end = 2 * n;
         let bounds = records::box_at(from, 1, n);
         if steps::switch_step(n, mask, guard, reset, inv, bounds, &mut after) {
-            tables::join(n, &after[..end], face);
+            tables::join_pieces(n, d, variable, value, &after[..end], pieces);
         }
     }
 }
 
-// Joins to a face the step of switch e from its source's face.
-fn join_from<'a>(model: &'a [i32], table: &'a [i32], e: usize, face: &mut [i32])
-    requires { ⌜ Checked (now model) (now table) × (e < E# (now model)) × IsFace (n# (now model)) (now face) ⌝ }
-    ensures { λ _. ⌜ now (face .exit) ≡ joinedWith (n# (now (model .entry))) (now (face .entry)) (landing (now (model .entry)) (now (table .entry)) e) ⌝ }
+// The words of piece k of the face that switch e leaves.
+fn source_piece<'a>(
+    model: &'a [i32],
+    places: &[usize],
+    table: &'a [i32],
+    e: usize,
+    k: usize,
+) -> &'a [i32]
+    requires { ⌜ Checked (now model) (now table) × Places (now model) (now places) × (e < E# (now model)) × (k < perFace (now model) (source (now model) e)) ⌝ }
+    ensures { λ r. ⌜ IsPart (n# (now (model .entry))) (now r) (T.partOf (now (model .entry)) (now (table .entry)) (source (now (model .entry)) e) (sourcePiece (now (model .entry)) e k + 1)) ⌝ }
 {
     let n = records::variables(model);
+    let l = records::source(model, e);
     let f = 2 * records::wall_variable(model, e) + records::source_side(model, e);
-    let at = tables::face_at(model, records::source(model, e), f);
-    let from = tables::face(table, at, n);
-    let inv = records::invariant(model, records::target(model, e));
+    let q = f * tables::per_face(model, l) + k;
+    tables::face(table, tables::piece_at(places[l], q, n), n)
+}
+
+// Joins to the pieces of the face on which switch e lands its step from piece k of its source's face.
+fn join_from<'a>(
+    model: &'a [i32],
+    places: &[usize],
+    table: &'a [i32],
+    e: usize,
+    k: usize,
+    pieces: &mut [i32],
+)
+    requires { ⌜ Checked (now model) (now table) × Places (now model) (now places) × (e < E# (now model)) × (k < perFace (now model) (source (now model) e)) × AreFaces (n# (now model)) (perFace (now model) (target (now model) e)) (now pieces) ⌝ }
+    ensures { λ _. ⌜ now (pieces .exit) ≡ landedOn (now (model .entry)) (now (table .entry)) e k (now (pieces .entry)) ⌝ }
+{
+    let n = records::variables(model);
+    let from = source_piece(model, places, table, e, k);
+    let l = records::target(model, e);
+    let inv = records::invariant(model, l);
+    let variable = records::cut_variable(model, l);
+    let value = records::cut_value(model, l);
+    let d = records::wall_variable(model, e);
     let mask = records::reset_mask(model, e);
     let guard = records::guard(model, e);
-    join_switch(n, mask, guard, records::reset(model, e), inv, from, face);
+    let reset = records::reset(model, e);
+    join_switch(n, mask, guard, reset, inv, from, d, variable, value, pieces);
 }
 
-// Joins the step of switch e to the face on which it lands.
-fn land<'a>(model: &'a [i32], table: &'a [i32], e: usize, out: &mut [i32])
-    requires { ⌜ Checked (now model) (now table) × (e < E# (now model)) × IsTable (now model) (now out) ⌝ }
-    ensures { λ _. ⌜ now (out .exit) ≡ withSwitch (now (model .entry)) (now (table .entry)) e (now (out .entry)) ⌝ }
+// Joins the step of switch e from piece k of its source's face to the pieces of the face on which it lands.
+fn land<'a>(
+    model: &'a [i32],
+    places: &[usize],
+    table: &'a [i32],
+    e: usize,
+    k: usize,
+    out: &mut [i32],
+)
+    requires { ⌜ Checked (now model) (now table) × Places (now model) (now places) × (e < E# (now model)) × (k < perFace (now model) (source (now model) e)) × IsTable (now model) (now out) ⌝ }
+    ensures { λ _. ⌜ now (out .exit) ≡ withSwitch (now (model .entry)) (now (table .entry)) e k (now (out .entry)) ⌝ }
 {
     let n = records::variables(model);
+    let l = records::target(model, e);
     let f = 2 * records::wall_variable(model, e) + records::target_side(model, e);
-    let at = tables::face_at(model, records::target(model, e), f);
-    let end = at + tables::face_size(n);
-    join_from(model, table, e, &mut out[at..end]);
+    let count = tables::per_face(model, l);
+    let at = tables::piece_at(places[l], f * count, n);
+    let end = at + count * tables::face_size(n);
+    join_from(model, places, table, e, k, &mut out[at..end]);
 }
 
-// Joins all switch steps to the faces that have their wall steps.
-pub fn switches<'a>(model: &'a [i32], table: &'a [i32], out: &mut [i32])
-    requires { ⌜ Checked (now model) (now table) × (now out ≡ tableBy (now model) (wallsJoined (now model) (now table))) ⌝ }
+// Joins the steps of switch e from all pieces of its source's face.
+fn land_each<'a>(model: &'a [i32], places: &[usize], table: &'a [i32], e: usize, out: &mut [i32])
+    requires { ⌜ Checked (now model) (now table) × Places (now model) (now places) × (e < E# (now model)) × (now out ≡ tableBy (now model) (joinedBelow (now model) (now table) e)) ⌝ }
+    ensures { λ _. ⌜ now (out .exit) ≡ tableBy (now (model .entry)) (joinedBelow (now (model .entry)) (now (table .entry)) (e + 1)) ⌝ }
+{
+    let count = tables::per_face(model, records::source(model, e));
+    let mut k = 0;
+    while k < count {
+        land(model, places, table, e, k, out);
+        k = k + 1;
+    }
+}
+
+// Joins all switch steps to the pieces that have their wall steps.
+pub fn switches<'a>(model: &'a [i32], places: &[usize], table: &'a [i32], out: &mut [i32])
+    requires { ⌜ Checked (now model) (now table) × Places (now model) (now places) × (now out ≡ tableBy (now model) (wallsJoined (now model) (now table))) ⌝ }
     ensures { λ _. ⌜ now (out .exit) ≡ T.pass (now (model .entry)) (now (table .entry)) ⌝ }
 {
     let count = records::switches(model);
     let mut e = 0;
     while e < count {
-        land(model, table, e, out);
+        land_each(model, places, table, e, out);
         e = e + 1;
     }
 }

@@ -1,15 +1,20 @@
-// The wall steps of a pass: to each face, from the location's start box and faces.
+// The wall steps of a pass: to each face, from the location's start box and pieces; a step is made once for a part and a face, and
+// then given to the pieces of the face.
 ghost use mathlib.Core.Path.{_≡_};
-ghost use Prim.Native.Nat.{_<_};
+ghost use Prim.Native.Nat.{_*_, _<_};
 ghost use lib.ListN.{length};
-ghost use Rattle.plant.specs.Model.{n#, L#};
+ghost use Rattle.plant.specs.Box.{present};
+ghost use Rattle.plant.specs.Model.{n#, L#, cutFrom};
+ghost use Rattle.plant.specs.Pieces.{piecesPerFace, pieces};
 ghost use Rattle.plant.specs.Steps.{wallStep};
-ghost use Rattle.plant.specs.Tables.{wordsPerLocation, tableSize, faceAt, faceRead, faceOf, tableBy, wallsJoined};
+ghost use Rattle.plant.specs.Tables.{faceSize, piecesBefore, tableSize, faceRead, pieceOf, tableBy, wallsJoined};
+ghost use Rattle.tables.specs.Places.{Places};
+ghost use Rattle.tables.specs.Room.{joinedEach, cutEach};
 ghost use Rattle.passes.specs.Checked.{Checked};
-ghost use Rattle.passes.specs.Joining.{WallJoin, WallsJoin, PartJoin, joinedWith, joinedAll, wallsOf, wallsFrom, locationBy};
+ghost use Rattle.passes.specs.Joining.{piecesWith, WallJoin, WallsJoin, PartJoin, wallsFrom, locationBy};
 use super::parts;
 
-// Joins to a face the wall step from a box to the value b of variable d.
+// Joins to the pieces of a face the wall step from a box to the value b of variable d.
 fn join_wall(
     n: usize,
     inv: &[i32],
@@ -17,28 +22,38 @@ fn join_wall(
     bounds: &[i32],
     d: usize,
     b: i64,
-    face: &mut [i32],
+    variable: i32,
+    value: i32,
+    pieces: &mut [i32],
 )
-    requires { ⌜ WallJoin n (now inv) (now rate) (now bounds) d b (now face) ⌝ }
-    ensures { λ _. ⌜ now (face .exit) ≡ joinedWith n (now (face .entry)) (wallStep n (now (inv .entry)) (now (rate .entry)) (now (bounds .entry)) d b) ⌝ }
+    requires { ⌜ WallJoin n (now inv) (now rate) (now bounds) d b variable value (now pieces) ⌝ }
+    ensures { λ _. ⌜ now (pieces .exit) ≡ joinedEach n (piecesPerFace (cutFrom variable value)) (now (pieces .entry)) (cutEach n (cutFrom variable value) d (wallStep n (now (inv .entry)) (now (rate .entry)) (now (bounds .entry)) d b)) ⌝ }
 {
     let mut after = [0i32; 12];
     let end = 2 * n;
     if steps::wall_step(n, inv, rate, bounds, d, b, &mut after) {
-        tables::join(n, &after[..end], face);
+        tables::join_pieces(n, d, variable, value, &after[..end], pieces);
     }
 }
 
-// Joins to each face of a location the wall step from a box.
-fn join_walls(n: usize, inv: &[i32], rate: &[i32], bounds: &[i32], block: &mut [i32])
-    requires { ⌜ WallsJoin n (now inv) (now rate) (now bounds) (now block) ⌝ }
-    ensures { λ _. ⌜ now (block .exit) ≡ joinedAll n (now (block .entry)) (wallsOf n (now (inv .entry)) (now (rate .entry)) (now (bounds .entry))) ⌝ }
+// Joins to the pieces of each face of a location the wall step from a box.
+fn join_walls(
+    n: usize,
+    inv: &[i32],
+    rate: &[i32],
+    bounds: &[i32],
+    variable: i32,
+    value: i32,
+    block: &mut [i32],
+)
+    requires { ⌜ WallsJoin n (now inv) (now rate) (now bounds) variable value (now block) ⌝ }
+    ensures { λ _. ⌜ now (block .exit) ≡ joinedEach n (piecesWith n (cutFrom variable value)) (now (block .entry)) (wallsFrom n (now (inv .entry)) (now (rate .entry)) (cutFrom variable value) (present (now (bounds .entry)))) ⌝ }
 {
     let faces = 2 * n;
-    let size = tables::face_size(n);
+    let size = tables::pieces_by(variable) * tables::face_size(n);
     let mut f = 0;
     while f < faces {
-        let at = tables::face_within(n, f);
+        let at = f * size;
         let end = at + size;
         join_wall(
             n,
@@ -47,62 +62,100 @@ fn join_walls(n: usize, inv: &[i32], rate: &[i32], bounds: &[i32], block: &mut [
             bounds,
             f / 2,
             integers::word(inv, f),
+            variable,
+            value,
             &mut block[at..end],
         );
         f = f + 1;
     }
 }
 
-// Joins to each face of a location the wall step from a part, if it is there.
-fn join_part(n: usize, inv: &[i32], rate: &[i32], part: &[i32], block: &mut [i32])
-    requires { ⌜ PartJoin n (now inv) (now rate) (now part) (now block) ⌝ }
-    ensures { λ _. ⌜ now (block .exit) ≡ joinedAll n (now (block .entry)) (wallsFrom n (now (inv .entry)) (now (rate .entry)) (faceRead n (now (part .entry)) 0)) ⌝ }
+// Joins to the pieces of each face of a location the wall step from a part, if it is there.
+fn join_part(
+    n: usize,
+    inv: &[i32],
+    rate: &[i32],
+    part: &[i32],
+    variable: i32,
+    value: i32,
+    block: &mut [i32],
+)
+    requires { ⌜ PartJoin n (now inv) (now rate) (now part) variable value (now block) ⌝ }
+    ensures { λ _. ⌜ now (block .exit) ≡ joinedEach n (piecesWith n (cutFrom variable value)) (now (block .entry)) (wallsFrom n (now (inv .entry)) (now (rate .entry)) (cutFrom variable value) (faceRead n (now (part .entry)) 0)) ⌝ }
 {
     if integers::same(part[0], 1) {
-        join_walls(n, inv, rate, records::box_at(part, 1, n), block);
+        join_walls(
+            n,
+            inv,
+            rate,
+            records::box_at(part, 1, n),
+            variable,
+            value,
+            block,
+        );
     }
 }
 
-// Joins to the faces of location l, which begin at a place of the table, the wall steps from all parts of the location: its
-// start box, and its faces. The start box comes before the loop, so that the compiler keeps join_part as one function.
-fn join_parts<'a>(model: &'a [i32], table: &'a [i32], l: usize, at: usize, block: &mut [i32])
-    requires { ⌜ Checked (now model) (now table) × (l < L# (now model)) × (at ≡ faceAt (now model) l 0) × (now block ≡ locationBy (n# (now model)) (faceOf (now model) (now table) l)) ⌝ }
-    ensures { λ _. ⌜ now (block .exit) ≡ locationBy (n# (now (model .entry))) (wallsJoined (now (model .entry)) (now (table .entry)) l) ⌝ }
+// Joins to the pieces of location l, before which so many pieces stand in the table, the wall steps from all parts of the
+// location: its start box, and its pieces. The start box comes before the loop, so that the compiler keeps join_part as one
+// function.
+fn join_parts<'a>(model: &'a [i32], table: &'a [i32], l: usize, before: usize, block: &mut [i32])
+    requires { ⌜ Checked (now model) (now table) × (l < L# (now model)) × (before ≡ piecesBefore (now model) l) × (now block ≡ locationBy (now model) l (pieceOf (now model) (now table) l)) ⌝ }
+    ensures { λ _. ⌜ now (block .exit) ≡ locationBy (now (model .entry)) l (wallsJoined (now (model .entry)) (now (table .entry)) l) ⌝ }
 {
     let n = records::variables(model);
     let inv = records::invariant(model, l);
     let rate = records::rate(model, l);
-    join_part(n, inv, rate, parts::start_part(model, l), block);
-    let count = 2 * n;
-    let mut f = 0;
-    while f < count {
-        let face = tables::face(table, at + tables::face_within(n, f), n);
-        join_part(n, inv, rate, face, block);
-        f = f + 1;
+    let variable = records::cut_variable(model, l);
+    let value = records::cut_value(model, l);
+    join_part(
+        n,
+        inv,
+        rate,
+        parts::start_part(model, l),
+        variable,
+        value,
+        block,
+    );
+    let count = tables::pieces(model, l);
+    let mut q = 0;
+    while q < count {
+        let piece = tables::face(table, tables::piece_at(before, q, n), n);
+        join_part(n, inv, rate, piece, variable, value, block);
+        q = q + 1;
     }
 }
 
-// The faces of location l, which begin at a place of the table, with all their wall steps.
-fn walls_location<'a>(model: &'a [i32], table: &'a [i32], l: usize, at: usize, block: &mut [i32])
-    requires { ⌜ Checked (now model) (now table) × (l < L# (now model)) × (at ≡ faceAt (now model) l 0) × (length (now block) ≡ wordsPerLocation (n# (now model))) ⌝ }
-    ensures { λ _. ⌜ now (block .exit) ≡ locationBy (n# (now (model .entry))) (wallsJoined (now (model .entry)) (now (table .entry)) l) ⌝ }
+// The pieces of location l, before which so many pieces stand in the table, with all their wall steps.
+fn walls_location<'a>(
+    model: &'a [i32],
+    table: &'a [i32],
+    l: usize,
+    before: usize,
+    block: &mut [i32],
+)
+    requires { ⌜ Checked (now model) (now table) × (l < L# (now model)) × (before ≡ piecesBefore (now model) l) × (length (now block) ≡ pieces (now model) l * faceSize (n# (now model))) ⌝ }
+    ensures { λ _. ⌜ now (block .exit) ≡ locationBy (now (model .entry)) l (wallsJoined (now (model .entry)) (now (table .entry)) l) ⌝ }
 {
+    let at = tables::piece_at(before, 0, records::variables(model));
     let end = at + block.len();
     integers::copy(&table[at..end], block);
-    join_parts(model, table, l, at, block);
+    join_parts(model, table, l, before, block);
 }
 
 // The whole table.
-pub fn walls<'a>(model: &'a [i32], table: &'a [i32], out: &mut [i32])
-    requires { ⌜ Checked (now model) (now table) × (length (now out) ≡ tableSize (now model)) ⌝ }
+pub fn walls<'a>(model: &'a [i32], places: &[usize], table: &'a [i32], out: &mut [i32])
+    requires { ⌜ Checked (now model) (now table) × Places (now model) (now places) × (length (now out) ≡ tableSize (now model)) ⌝ }
     ensures { λ _. ⌜ now (out .exit) ≡ tableBy (now (model .entry)) (wallsJoined (now (model .entry)) (now (table .entry))) ⌝ }
 {
+    let n = records::variables(model);
     let locations = records::locations(model);
     let mut l = 0;
     while l < locations {
-        let at = tables::faces_at(model, l);
-        let end = tables::faces_at(model, l + 1);
-        walls_location(model, table, l, at, &mut out[at..end]);
+        let before = places[l];
+        let at = tables::piece_at(before, 0, n);
+        let end = tables::piece_at(places[l + 1], 0, n);
+        walls_location(model, table, l, before, &mut out[at..end]);
         l = l + 1;
     }
 }

@@ -3,7 +3,7 @@
 use mathlib.Core.Path.{_≡_, refl, sym, ap, _∙_, subst}
 use mathlib.Core.Bool.{not}
 use mathlib.Core.List.{List}
-use Prim.Native.Nat.{ℕ, zero, suc, _*_, _<_, _≤_}
+use Prim.Native.Nat.{ℕ, zero, suc, _<_, _≤_}
 use native.Mathlib.Omega.{arith}
 use lib.Dec.{T, T-not, not-T, leb, le→leb}
 use lib.IntN.{ℤ}
@@ -14,32 +14,33 @@ use Rattle.plant.specs.Ask.{ask}
 use Rattle.plant.specs.Box.{Face, FaceIn}
 use Rattle.plant.specs.Model.{n#, L#}
 use Rattle.plant.specs.Questions.{modelQuestions}
-use Rattle.plant.specs.Tables.{tableSize, tableOk, faceOf, newFace, pass, tableAfter, touching}
+use Rattle.plant.specs.Pieces.{pieces}
+use Rattle.plant.specs.Tables.{tableSize, tableOk, pieceOf, newPiece, pass, tableAfter, touching}
 use Rattle.plant.specs.Calls.{unchanged, certificateQuestions, tableQuestions, checkerQuestions, checkBy, checkCall}
 use Rattle.plant.specs.Demands.{Accepts, Touches, Repeats}
 use Rattle.plant.proofs.Asks.{ask-yes, ask-intro, ask-le, asked, then-both, then-intro, then-le}
 use Rattle.plant.proofs.Numbers.{model-le}
 use Rattle.plant.proofs.Boxes.{face-eq, face-trans, face-antisym}
 use Rattle.plant.proofs.Passed.{Passed, passed}
-use Rattle.plant.proofs.Tables.{Begins, ends, ends-in, in-ends, long-enough, face-read, table-ext, Valid, ok-valid, made-valid, made-ok}
+use Rattle.plant.proofs.Tables.{Begins, ends, ends-in, in-ends, long-enough, piece-read, table-ext, Valid, ok-valid, made-valid, made-ok}
 use Rattle.plant.proofs.Growth.{TableIn, narrower-refl, new-mono}
-use Rattle.plant.proofs.Keeps.{facesAfter, faces-ok, after-made, after-pass, after-begins, onto-begins, after-valid}
+use Rattle.plant.proofs.Keeps.{piecesAfter, pieces-ok, after-made, after-pass, after-begins, onto-begins, after-valid}
 use Rattle.plant.proofs.Forbidden.{touching-mono}
 use Rattle.plant.proofs.Sound.{Closed}
 
 -- ---- the number of a refusal
 
 -- no refusal of the checker is 100
-pub certificate-le : (m t : List ℤ) → certificateQuestions m t ≤ 34
+pub certificate-le : (m t : List ℤ) → certificateQuestions m t ≤ 46
 unfolding certificateQuestions
-certificate-le m t = then-le (ask (unchanged m t) 33) _ 34 (omega (arith, ask-le (unchanged m t) 33)) (ask-le (not (touching m t)) 34)
+certificate-le m t = then-le (ask (unchanged m t) 33) _ 46 (omega (arith, ask-le (unchanged m t) 33)) (omega (arith, ask-le (not (touching m t)) 34))
 
-checker-le : (m t : List ℤ) → checkerQuestions m t ≤ 34
+checker-le : (m t : List ℤ) → checkerQuestions m t ≤ 46
 unfolding checkerQuestions tableQuestions
 checker-le m t =
-    then-le (modelQuestions m) _ 34 (omega (arith, model-le m))
-    (then-le (ask (leb (tableSize m) (length t)) 20) _ 34 (omega (arith, ask-le (leb (tableSize m) (length t)) 20))
-    (then-le (ask (tableOk m t) 32) _ 34 (omega (arith, ask-le (tableOk m t) 32)) (certificate-le m t)))
+    then-le (modelQuestions m) _ 46 (omega (arith, model-le m))
+    (then-le (ask (leb (tableSize m) (length t)) 20) _ 46 (omega (arith, ask-le (leb (tableSize m) (length t)) 20))
+    (then-le (ask (tableOk m t) 32) _ 46 (omega (arith, ask-le (tableOk m t) 32)) (certificate-le m t)))
 
 pub accepted-code : (q : ℕ) → q < 100 → checkBy q .code ≡ 100 → q ≡ 0
 accepted-code zero l e = refl
@@ -60,9 +61,9 @@ pub record Accepted (m t : List ℤ) : Type 0 where
 closed-of : (m t : List ℤ) → T (unchanged m t) → Closed m t
 unfolding unchanged pass
 closed-of m t h = record {
-  closed = λ l f u v.
-      face-trans (n# m) (newFace m t l f) (ends (n# m) (newFace m t l f)) (faceOf m t l f) (in-ends (n# m) (newFace m t l f))
-      (face-eq (n# m) (sym (face-read m t (newFace m t) (sym (equal-eq (pass m t) (take (tableSize m) t) h)) l f u v)));
+  closed = λ l q u v.
+      face-trans (n# m) (newPiece m t l q) (ends (n# m) (newPiece m t l q)) (pieceOf m t l q) (in-ends (n# m) (newPiece m t l q))
+      (face-eq (n# m) (sym (piece-read m t (newPiece m t) (sym (equal-eq (pass m t) (take (tableSize m) t) h)) l q u v)));
 }
 
 pub accepted : (m t : List ℤ) → Accepts m t → Accepted m t
@@ -78,22 +79,22 @@ module _ (m : List ℤ) (asks : modelQuestions m ≡ 0) where
   ok : Passed m
   ok = passed m asks
 
-  -- t holds table k if it holds the faces of which table k is made
-  table-held : (t : List ℤ) (k : ℕ) → ((l f : ℕ) → l < L# m → f < 2 * n# m → FaceIn (n# m) (facesAfter m k l f) (faceOf m t l f)) → TableIn m (tableAfter m k) t
+  -- t holds table k if it holds the pieces of which table k is made
+  table-held : (t : List ℤ) (k : ℕ) → ((l q : ℕ) → l < L# m → q < pieces m l → FaceIn (n# m) (piecesAfter m k l q) (pieceOf m t l q)) → TableIn m (tableAfter m k) t
   table-held t k h = record {
-    each = λ l f u v. subst (λ (x : Face). FaceIn (n# m) x (faceOf m t l f)) (sym (face-read m (tableAfter m k) (facesAfter m k) (after-begins m k) l f u v))
-        (face-trans (n# m) (ends (n# m) (facesAfter m k l f)) (facesAfter m k l f) (faceOf m t l f) (ends-in (n# m) (facesAfter m k l f)) (h l f u v));
+    each = λ l q u v. subst (λ (x : Face). FaceIn (n# m) x (pieceOf m t l q)) (sym (piece-read m (tableAfter m k) (piecesAfter m k) (after-begins m k) l q u v))
+        (face-trans (n# m) (ends (n# m) (piecesAfter m k l q)) (piecesAfter m k l q) (pieceOf m t l q) (ends-in (n# m) (piecesAfter m k l q)) (h l q u v));
   }
 
   -- it does: table 0 is all absent, and a pass of what it holds stays in it
-  faces-held : (t : List ℤ) → Accepted m t → (k l f : ℕ) → l < L# m → f < 2 * n# m → FaceIn (n# m) (facesAfter m k l f) (faceOf m t l f)
-  faces-held t a zero l f u v = tt
-  faces-held t a (suc k) l f u v =
-      face-trans (n# m) (newFace m (tableAfter m k) l f) (newFace m t l f) (faceOf m t l f)
-      (new-mono m m ok (narrower-refl m) (tableAfter m k) t (after-valid m ok k) (table-held t k (faces-held t a k)) l f u v) (a .is-closed .closed l f u v)
+  pieces-held : (t : List ℤ) → Accepted m t → (k l q : ℕ) → l < L# m → q < pieces m l → FaceIn (n# m) (piecesAfter m k l q) (pieceOf m t l q)
+  pieces-held t a zero l q u v = tt
+  pieces-held t a (suc k) l q u v =
+      face-trans (n# m) (newPiece m (tableAfter m k) l q) (newPiece m t l q) (pieceOf m t l q)
+      (new-mono m m ok (narrower-refl m) (tableAfter m k) t (after-valid m ok k) (table-held t k (pieces-held t a k)) l q u v) (a .is-closed .closed l q u v)
 
   pub holds-table : (t : List ℤ) → Accepted m t → (k : ℕ) → TableIn m (tableAfter m k) t
-  holds-table t a k = table-held t k (faces-held t a k)
+  holds-table t a k = table-held t k (pieces-held t a k)
 
   -- so where table k touches, every list of words is refused
   pub touches-refused : (k : ℕ) → Touches m k → (t : List ℤ) → Accepts m t → ⊥
@@ -103,38 +104,38 @@ module _ (m : List ℤ) (asks : modelQuestions m ≡ 0) where
 
   -- ---- a table that repeats and touches nothing
 
-  -- lists of words that begin with the same faces
-  same-faces : (t t′ : List ℤ) (g : ℕ → ℕ → Face) → Begins m t g → Begins m t′ g → TableIn m t t′
-  same-faces t t′ g b b′ = record { each = λ l f u v. face-eq (n# m) (face-read m t g b l f u v ∙ sym (face-read m t′ g b′ l f u v)) }
+  -- lists of words that begin with the same pieces
+  same-pieces : (t t′ : List ℤ) (g : ℕ → ℕ → Face) → Begins m t g → Begins m t′ g → TableIn m t t′
+  same-pieces t t′ g b b′ = record { each = λ l q u v. face-eq (n# m) (piece-read m t g b l q u v ∙ sym (piece-read m t′ g b′ l q u v)) }
 
   same-pass : (t t′ : List ℤ) → Valid m t → Valid m t′ → TableIn m t t′ → TableIn m t′ t → pass m t ≡ pass m t′
   unfolding pass
-  same-pass t t′ v v′ p q = table-ext m (newFace m t) (newFace m t′)
-      (λ l f x y. face-antisym (n# m) (newFace m t l f) (newFace m t′ l f) (new-mono m m ok (narrower-refl m) t t′ v p l f x y) (new-mono m m ok (narrower-refl m) t′ t v′ q l f x y))
+  same-pass t t′ v v′ p r = table-ext m (newPiece m t) (newPiece m t′)
+      (λ l q x y. face-antisym (n# m) (newPiece m t l q) (newPiece m t′ l q) (new-mono m m ok (narrower-refl m) t t′ v p l q x y) (new-mono m m ok (narrower-refl m) t′ t v′ r l q x y))
 
   -- with any words put behind it
   pub repeats-accepted : (k : ℕ) → (Touches m k → ⊥) → Repeats m k → (s : List ℤ) → Accepts m (onto (tableAfter m k) s)
   unfolding checkCall checkerQuestions tableQuestions certificateQuestions unchanged
   repeats-accepted k clear repeats s = ap (λ (q : ℕ). checkBy q .code)
       (then-intro asks
-      (then-intro (ask-intro (leb (tableSize m) (length t)) 20 (le→leb (tableSize m) (length t) (long-enough m t (facesAfter m k) begins)))
-      (then-intro (ask-intro (tableOk m t) 32 (made-ok m t (facesAfter m k) begins (faces-ok m ok k)))
+      (then-intro (ask-intro (leb (tableSize m) (length t)) 20 (le→leb (tableSize m) (length t) (long-enough m t (piecesAfter m k) begins)))
+      (then-intro (ask-intro (tableOk m t) 32 (made-ok m ok t (piecesAfter m k) begins (pieces-ok m ok k)))
       (then-intro (ask-intro (unchanged m t) 33 (equal-intro same-words)) (ask-intro (not (touching m t)) 34 (not-T (touching m t) clears))))))
     where
       t : List ℤ
       t = onto (tableAfter m k) s
 
-      begins : Begins m t (facesAfter m k)
+      begins : Begins m t (piecesAfter m k)
       begins = onto-begins m k s
 
       valid-t : Valid m t
-      valid-t = made-valid m t (facesAfter m k) begins (faces-ok m ok k)
+      valid-t = made-valid m ok t (piecesAfter m k) begins (pieces-ok m ok k)
 
       into : TableIn m t (tableAfter m k)
-      into = same-faces t (tableAfter m k) (facesAfter m k) begins (after-begins m k)
+      into = same-pieces t (tableAfter m k) (piecesAfter m k) begins (after-begins m k)
 
       from : TableIn m (tableAfter m k) t
-      from = same-faces (tableAfter m k) t (facesAfter m k) (after-begins m k) begins
+      from = same-pieces (tableAfter m k) t (piecesAfter m k) (after-begins m k) begins
 
       same-words : pass m t ≡ take (tableSize m) t
       same-words = same-pass t (tableAfter m k) valid-t (after-valid m ok k) into from ∙ after-pass m k ∙ repeats ∙ after-made m k ∙ sym begins

@@ -28,7 +28,9 @@ use Rattle.plant.proofs.WallStep.{above-low, below-high, in-delays, del
 use Rattle.plant.proofs.Tight.{lowBefore, highBefore, AttainedLow, AttainedHigh, to-wall, low-attained, high-attained}
 use Rattle.plant.proofs.SwitchStep.{switch-holds, switch-mono}
 use Rattle.plant.proofs.SwitchExact.{switch-from, switch-ordered}
-use Rattle.plant.proofs.Tables.{table-length}
+use Rattle.plant.proofs.Pieces.{extent-mono, extent-holds, extent-only, extent-ordered, covered}
+use Rattle.plant.proofs.Uncut.{no-cuts}
+use Rattle.plant.proofs.Tables.{table-words, table-length, ok-valid, second-absent}
 
 -- ---- the wall step
 
@@ -158,5 +160,12 @@ meaning = record {
   wall-grows = λ n inv rate rate′ part part′ d b ld parts rates larger wider. wall-mono n inv rate rate′ part part′ d b larger wider ld parts rates;
   switch-grows = switch-mono;
   seven-sizes = refl;
+  piece-cut = λ n D e b y positive one. (extent-only n e one D y b, λ h. extent-holds n e D y b positive (h .1) (h .0));
+  piece-not-empty = λ n e b box o h. subst (FaceAll (Ordered n)) h (extent-ordered n e b o);
+  piece-grows = λ n e a b one p. extent-mono n e one a b p;
+  covered = covered;
+  second-absent = λ m t h. second-absent m t (ok-valid m t h);
+  table-words = table-words;
+  no-cuts = no-cuts;
   table-length = table-length;
 }

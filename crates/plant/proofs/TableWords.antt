@@ -14,10 +14,11 @@ use Rattle.integers.proofs.Signed.{fits32, between}
 use Rattle.integers.proofs.Every.{every-none, every-more, every-replicate, every-cat}
 use Rattle.plant.specs.Box.{low, high, boxBy, Inside, Ordered, Face, absent, present, faceWords}
 use Rattle.plant.specs.Model.{n#, L#, invariant}
+use Rattle.plant.specs.Pieces.{pieces}
 use Rattle.plant.specs.Tables.{tableBy, tableAfter}
 use Rattle.plant.proofs.Passed.{InRange, Passed}
 use Rattle.plant.proofs.Tables.{OkFace}
-use Rattle.plant.proofs.Keeps.{facesAfter, after-made, faces-ok}
+use Rattle.plant.proofs.Keeps.{piecesAfter, after-made, pieces-ok}
 
 abbrev Fits : ℤ → Type 0
 Fits z = SFits w32 z
@@ -39,17 +40,17 @@ box-words n inv b r p o =
     (small (high b i) (between (high b i) (trans (p .lower i l) (o i l)) (p .higher i l) (r (2 * i) (omega arith)) (r (2 * i + 1) (omega arith))))
     (every-none Fits (pos 0) none)))
 
-face-words : (m : List ℤ) → Passed m → (l f : ℕ) → l < L# m → (g : Face) → OkFace m l f g → AreWords (faceWords (n# m) g)
+piece-words : (m : List ℤ) → Passed m → (l q : ℕ) → l < L# m → (g : Face) → OkFace m l q g → AreWords (faceWords (n# m) g)
 unfolding faceWords
-face-words m ok l f u absent h = every-replicate Fits (pos 0) none (1 + 2 * n# m) (pos 0) none
-face-words m ok l f u (present b) h =
+piece-words m ok l q u absent h = every-replicate Fits (pos 0) none (1 + 2 * n# m) (pos 0) none
+piece-words m ok l q u (present b) h =
     every-more Fits (pos 0) (pos 1) (boxBy (n# m) (low b) (high b)) (small (pos 1) (omega arith))
-    (box-words (n# m) (invariant m l) b (ok .of-location l u .invariant-levels) (h .inside) (h .ordered))
+    (box-words (n# m) (invariant m l) b (ok .of-location l u .invariant-levels) (h .wall .inside) (h .wall .ordered))
 
 pub after-words : (m : List ℤ) → Passed m → (k : ℕ) → AreWords (tableAfter m k)
 unfolding tableBy
 after-words m ok k =
     subst AreWords (sym (after-made m k))
-    (every-cat Fits (pos 0) none (L# m) (λ l. cat (2 * n# m) (λ f. faceWords (n# m) (facesAfter m k l f)))
-    (λ l u. every-cat Fits (pos 0) none (2 * n# m) (λ f. faceWords (n# m) (facesAfter m k l f))
-    (λ f v. face-words m ok l f u (facesAfter m k l f) (faces-ok m ok k l f u v))))
+    (every-cat Fits (pos 0) none (L# m) (λ l. cat (pieces m l) (λ q. faceWords (n# m) (piecesAfter m k l q)))
+    (λ l u. every-cat Fits (pos 0) none (pieces m l) (λ q. faceWords (n# m) (piecesAfter m k l q))
+    (λ q v. piece-words m ok l q u (piecesAfter m k l q) (pieces-ok m ok k l q u v))))

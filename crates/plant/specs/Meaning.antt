@@ -1,25 +1,27 @@
 -- What the procedures of document 01, "Delays" and "Wall step and switch step", mean, so that nobody has to trust them: one record,
--- proved by one theorem. Levels, delays and switches are those of "Runs". It also says how large a table is.
+-- proved by one theorem. Levels, delays and switches are those of "Runs". It also says what pieces are, and how large a table is.
 use mathlib.Core.Path.{_≡_}
 use mathlib.Core.Logic.{_↔_}
 use mathlib.Core.Bool.{true}
 use mathlib.Core.List.{List, [], _∷_, map}
-use Prim.Native.Nat.{ℕ, _<_}
+use Prim.Native.Nat.{ℕ, _+_, _*_, _<_, _≤_}
 use lib.Dec.{T}
 use lib.IntN.{ℤ, pos, _*ℤ_}
 use lib.ListN.{length}
 use lib.Signed.{_≤ℤ_, _<ℤ_}
 use Rattle.integers.specs.Rounding.{floorZ, ceilZ}
 use Rattle.integers.specs.Words.{word}
+use Rattle.integers.specs.Counted.{sumBelow}
 use Rattle.plant.specs.declared.Fraction.{Fraction}
 use Rattle.plant.specs.declared.End.the-variants.{At}
 use Rattle.plant.specs.declared.Interval.{Interval}
 use Rattle.plant.specs.declared.Delays.the-variants.{Between}
 use Rattle.plant.specs.Box.{low, high, Ordered, Inside, Face, absent, present, FaceIn}
-use Rattle.plant.specs.Model.{n#, E#, invariant, rate, source, target, resetMask, masked, guard, reset}
+use Rattle.plant.specs.Model.{n#, E#, invariant, rate, source, target, resetMask, masked, guard, reset, L#, Cut, uncut, cutBy, cutOf, faceNumber, variableOf}
 use Rattle.plant.specs.Delays.{delaysInto, In, Reaches}
 use Rattle.plant.specs.Steps.{touches, Touch, Bound, unbounded, bound, cutLow, cutHigh, wallDelays, wallStep, switchStep}
-use Rattle.plant.specs.Tables.{wordsPerLocation, tableSize, tableBy}
+use Rattle.plant.specs.Pieces.{Extent, wholeFace, upToValue, fromValue, noExtent, extentBy, cutToExtent, piecesPerFace, perFace, pieceNumber}
+use Rattle.plant.specs.Tables.{wordsPerLocation, tableSize, longestTableFile, tableBy, pieceOf, tableOk, widths, ceilingOf}
 use Rattle.plant.specs.Runs.{InBox, IsDelay, IsSwitch}
 
 -- the face is there, and the levels x over D lie in its box
@@ -125,6 +127,36 @@ module _ (m : List ℤ) (e : ℕ) where
     -- an empty cut lands nothing
     pub not-empty : (g : Face) (box : List ℤ) → switchFrom g ≡ present box → Ordered (n# m) box
 
+-- ---- the pieces of a face
+
+-- the variable of an extent, if it has one, is one of n; and levels y over D lie on the extent
+abbrev pub ExtentOf : ℕ → Extent → Type 0
+ExtentOf n wholeFace = Unit {0}
+ExtentOf n (upToValue v x) = v < n
+ExtentOf n (fromValue v x) = v < n
+ExtentOf n noExtent = Unit {0}
+
+abbrev pub PointOn : Extent → ℕ → List ℤ → Type 0
+PointOn wholeFace D y = Unit {0}
+PointOn (upToValue v x) D y = word y v ≤ℤ (x *ℤ pos D)
+PointOn (fromValue v x) D y = (x *ℤ pos D) ≤ℤ word y v
+PointOn noExtent D y = ⊥
+
+-- they lie on the side of one of the pieces of a face with wall variable d
+pub record SomePiece (c : Cut) (d D : ℕ) (y : List ℤ) : Type 0 where
+  pub piece : ℕ
+  pub is-piece : piece < piecesPerFace c
+  pub on-it : PointOn (extentBy c d piece) D y
+
+-- no location is cut
+abbrev pub Uncut : List ℤ → Type 0
+Uncut m = (l : ℕ) → l < L# m → cutOf m l ≡ uncut
+
+pub record UncutMeans (m : List ℤ) : Type 0 where
+  pub words : tableSize m ≡ L# m * wordsPerLocation (n# m)
+  pub bytes : longestTableFile m ≡ 7 + L# m * (2 * n# m) * (11 + 8 * n# m)
+  pub ceiling : ceilingOf m ≡ sumBelow (L# m) (λ l. sumBelow (2 * n# m) (λ f. 1 + widths (n# m) (variableOf f) (invariant m l)))
+
 -- ---- all of it
 
 pub record Meaning : Type 0 where
@@ -157,5 +189,21 @@ pub record Meaning : Type 0 where
       → FaceIn n (switchStep n mask guard reset inv g) (switchStep n mask guard′ reset′ inv g′)
   -- words per location, of 1 to 7 variables (document 02, T-04)
   pub seven-sizes : map wordsPerLocation (1 ∷ 2 ∷ 3 ∷ 4 ∷ 5 ∷ 6 ∷ 7 ∷ []) ≡ 6 ∷ 20 ∷ 42 ∷ 72 ∷ 110 ∷ 156 ∷ 210 ∷ []
-  -- a table, of whatever faces, has L times the words per location
+  -- a box cut to the side of a piece holds exactly the levels of the box that lie on it
+  pub piece-cut :
+      (n D : ℕ) (e : Extent) (b y : List ℤ) → 0 < D → ExtentOf n e
+      → Holds n D y (cutToExtent n e b) ↔ (InBox n D b y × PointOn e D y)
+  pub piece-not-empty : (n : ℕ) (e : Extent) (b box : List ℤ) → Ordered n b → cutToExtent n e b ≡ present box → Ordered n box
+  pub piece-grows : (n : ℕ) (e : Extent) (a b : List ℤ) → ExtentOf n e → Inside n a b → FaceIn n (cutToExtent n e a) (cutToExtent n e b)
+  -- whatever the levels, they lie on the side of one of the pieces (so what a step gives is held by the pieces of the face); and the
+  -- second piece on the cut variable's own walls is absent in every table that passes 32
+  pub covered : (c : Cut) (d D : ℕ) (y : List ℤ) → SomePiece c d D y
+  pub second-absent :
+      (m t : List ℤ) → T (tableOk m t) → (l d s : ℕ) (x : ℤ) → l < L# m → d < n# m → s ≤ 1 → cutOf m l ≡ cutBy d x
+      → pieceOf m t l (pieceNumber m l (faceNumber d s) 1) ≡ absent
+  -- a table has, of each location, the words per location, or twice as many where it is cut; where none is, its words, its longest
+  -- file and the ceiling are those of document 01
+  pub table-words : (m : List ℤ) → tableSize m ≡ sumBelow (L# m) (λ l. perFace m l * wordsPerLocation (n# m))
+  pub no-cuts : (m : List ℤ) → Uncut m → UncutMeans m
+  -- a table, of whatever pieces, has as many words as the size says
   pub table-length : (m : List ℤ) (g : ℕ → ℕ → Face) → length (tableBy m g) ≡ tableSize m

@@ -6,7 +6,7 @@ use native.Mathlib.Nat.{mul-le-mul, mul-le-mul-right}
 use native.Mathlib.Omega.{arith}
 use lib.IntN.{ℤ}
 use lib.ListN.{length}
-use Rattle.plant.specs.Model.{n#, L#, E#, B#, headSize, locationSize, switchSize, forbiddenSize, locationAt, invariant, rate, startBox, switchAt, guard, reset, forbiddenAt, forbiddenBox, modelSize}
+use Rattle.plant.specs.Model.{n#, L#, E#, B#, headSize, locationSize, switchSize, forbiddenSize, locationAt, invariant, rate, startBox, switchAt, guard, reset, forbiddenAt, forbiddenBox, cutSize, cutAt, modelSize}
 use Rattle.plant.proofs.Boxes.{length-boxAt}
 use Rattle.records.specs.Whole.{Head, Whole}
 
@@ -34,24 +34,32 @@ module _ (m : List ℤ) (h : Head m) where
   unfolding switchAt
   switch-small e k = omega (arith, location-small (L# m) (h .L-small), switches-small (n# m) e k (h .n-small))
 
+  pub forbidden-small : (b : ℕ) → b ≤ 64 → forbiddenAt m b ≤ 7044
+  unfolding forbiddenAt
+  forbidden-small b k = omega (arith, switch-small (E# m) (h .E-small), forbiddens-small (n# m) b k (h .n-small))
+
 -- ---- the records lie within the words
 
 -- after the head
 pub head-first : (m : List ℤ) → headSize ≤ modelSize m
-unfolding modelSize forbiddenAt switchAt locationAt
+unfolding modelSize cutAt forbiddenAt switchAt locationAt
 head-first m = omega arith
 
 module _ (m : List ℤ) (w : Whole m) where
+  pub cut-within : (l : ℕ) → l < L# m → cutAt m l + cutSize ≤ length m
+  unfolding cutAt modelSize
+  cut-within l k = omega (arith, w .long, row-within cutSize k)
+
   pub forbidden-within : (b : ℕ) → b < B# m → forbiddenAt m b + forbiddenSize (n# m) ≤ length m
-  unfolding forbiddenAt modelSize
+  unfolding forbiddenAt cutAt modelSize
   forbidden-within b l = omega (arith, w .long, row-within (forbiddenSize (n# m)) l)
 
   pub switch-within : (e : ℕ) → e < E# m → switchAt m e + switchSize (n# m) ≤ length m
-  unfolding switchAt forbiddenAt modelSize
+  unfolding switchAt forbiddenAt cutAt modelSize
   switch-within e l = omega (arith, w .long, row-within (switchSize (n# m)) l)
 
   pub location-within : (l : ℕ) → l < L# m → locationAt m l + locationSize (n# m) ≤ length m
-  unfolding locationAt switchAt forbiddenAt modelSize
+  unfolding locationAt switchAt forbiddenAt cutAt modelSize
   location-within l k = omega (arith, w .long, row-within (locationSize (n# m)) k)
 
   -- and so do their boxes

@@ -66,8 +66,11 @@ pub fn forbidden_size(n: usize) -> usize
     1 + 2 * n
 }
 
+// How many words a location's cut has, after the forbidden boxes: variable and value (document 02, T-12).
+pub const CUT_SIZE: usize = 2;
+
 // The words of the largest model: 6 variables, 64 locations, 128 switches, 64 forbidden boxes.
-pub const MOST_WORDS: usize = 7044;
+pub const MOST_WORDS: usize = 7172;
 
 // ---- where the records stand
 
@@ -92,12 +95,19 @@ pub fn forbidden_at(model: &[i32], b: usize) -> usize
     switch_at(model, switches(model)) + b * forbidden_size(variables(model))
 }
 
+pub fn cut_at(model: &[i32], l: usize) -> usize
+    requires { ⌜ Head (now model) × (l ≤ 64) ⌝ }
+    ensures { λ r. ⌜ r ≡ M.cutAt (now (model .entry)) l ⌝ }
+{
+    forbidden_at(model, forbidden_boxes(model)) + l * CUT_SIZE
+}
+
 // How many words the model has.
 pub fn size(model: &[i32]) -> usize
     requires { ⌜ Head (now model) ⌝ }
     ensures { λ r. ⌜ r ≡ M.modelSize (now (model .entry)) ⌝ }
 {
-    forbidden_at(model, forbidden_boxes(model))
+    cut_at(model, locations(model))
 }
 
 // The box of n variables at a place of the words.
@@ -222,6 +232,22 @@ pub fn forbidden_box(model: &[i32], b: usize) -> &[i32]
     ensures { λ r. ⌜ now r ≡ M.forbiddenBox (now (model .entry)) b ⌝ }
 {
     box_at(model, forbidden_at(model, b) + 1, variables(model))
+}
+
+// ---- the cut of a location
+
+pub fn cut_variable(model: &[i32], l: usize) -> i32
+    requires { ⌜ Whole (now model) × (l < M.L# (now model)) ⌝ }
+    ensures { λ r. ⌜ r ≡ M.cutVariable (now (model .entry)) l ⌝ }
+{
+    model[cut_at(model, l)]
+}
+
+pub fn cut_value(model: &[i32], l: usize) -> i32
+    requires { ⌜ Whole (now model) × (l < M.L# (now model)) ⌝ }
+    ensures { λ r. ⌜ r ≡ M.cutValue (now (model .entry)) l ⌝ }
+{
+    model[cut_at(model, l) + 1]
 }
 
 // The wall (d, s) of an invariant.

@@ -1,8 +1,10 @@
 pub mod Cases
 pub mod Keys
-pub mod Faces
+pub mod PieceKeys
+pub mod PlaceWords
 pub mod Listed
 pub mod TableAsked
 pub mod TableBack
 pub mod TableWriting
 pub mod TableReading
+pub mod UncutFile

@@ -1,9 +1,11 @@
--- Laws of writing a table's file: the sizes are small, the loops go over the faces by key, and a face's field is put together.
+-- Laws of writing a table's file: the sizes are small, one loop counts the pieces by key, two write their fields, and the field of
+-- a piece is put together.
 use mathlib.Core.Path.{_≡_, refl, sym, ap, ap₂, _∙_}
 use mathlib.Core.Bool.{Bool, true, false, cond}
-use mathlib.Core.List.{List, _∷_, _++_, append-assoc}
+use mathlib.Core.Logic.{⊎-elim}
+use mathlib.Core.List.{List, _++_, append-assoc, append-nil}
 use Prim.Native.Nat.{ℕ, zero, suc, _+_, _*_, _/_, _%_, _≤_, _<_}
-use native.Mathlib.Nat.{mul-le-mul, mul-le-mul-right, mod-lt, div-lt-iff-lt-mul}
+use native.Mathlib.Nat.{mul-le-mul-right}
 use native.Mathlib.Numerals.{add-one}
 use native.Mathlib.Omega.{arith}
 use lib.Dec.{leb, leb→le}
@@ -12,72 +14,76 @@ use lib.ListN.{length, take, length-append}
 use lib.Seq.{length-take-le}
 use Rattle.integers.specs.Words.{word, eqZ, onto}
 use Rattle.integers.specs.Counted.{cat, sumBelow}
+use Rattle.integers.proofs.Counted.{split, sum-ext, sum-part}
 use Rattle.integers.proofs.Buffers.{onto-start, cat-none, cat-more, cat-turn, length-onto}
 use Rattle.wire.specs.Bytes.{wordSize, wordBytes, wordsBytes, part}
 use Rattle.wire.specs.Fields.{headerSize, payloadLength, fieldLength, fieldPlace, header, field}
 use Rattle.wire.proofs.Buffers.{onto-then}
-use Rattle.wire.proofs.Words.{length-word, length-bytes, length-part}
-use Rattle.wire.proofs.Fields.{length-field}
+use Rattle.wire.proofs.Words.{length-word, length-bytes, length-part, bytes-append}
+use Rattle.wire.proofs.Fields.{length-field, place-small}
 use Rattle.plant.specs.Ask.{ask}
 use Rattle.plant.specs.Box.{low, high, boxBy, boxAt, Face, absent, present}
 use Rattle.plant.specs.Model.{n#, L#}
 use Rattle.plant.specs.Questions.{modelQuestions}
-use Rattle.plant.specs.Tables.{faceSize, tableSize, longestTableFile, faceRead, faceOf, tableOk}
+use Rattle.plant.specs.Pieces.{anyCut, perFace, pieces, pieceFace, pieceIndex}
+use Rattle.plant.specs.Tables.{faceSize, piecesBefore, pieceCount, tableSize, pieceAt, longestTableFile, faceRead, pieceOf, tableOk}
 use Rattle.plant.specs.declared.Count.the-variants.{Done, Refused}
 use Rattle.plant.proofs.Asks.{ask-yes, then-both}
 use Rattle.plant.proofs.Boxes.{length-boxBy, length-boxAt, box-ends}
-use Rattle.records.specs.Whole.{Head}
-use Rattle.model.proofs.Passing.{head-ready}
+use Rattle.plant.proofs.Tables.{count-most}
+use Rattle.records.specs.Whole.{Whole}
 use Rattle.records.proofs.Positions.{row-within}
+use Rattle.passes.proofs.PartWords.{whole, place-is}
 use Rattle.tables.proofs.Faces.{table-most}
-use Rattle.table_files.specs.TableFile.{countFieldSize, placeSize, faceFieldSize, faceField, presence, presentFaces, faceFields, tableFile, facesFrom, roomQuestions, writeQuestions, writeBy, writeTableCall}
-use Rattle.table_files.specs.TableRoom.{WriteReady, FaceRoom}
-use Rattle.table_files.proofs.Faces.{face-key, size-keys}
-use Rattle.table_files.proofs.Keys.{cat-keys, sum-keys, key-location, key-face}
-use Rattle.table_files.proofs.Listed.{keys}
+use Rattle.table_files.specs.TableFile.{countFieldSize, placeSize, pieceFieldSize, placeWords, pieceField, presence, presentPieces, locationFields, pieceFields, tableFile, piecesFrom, roomQuestions, writeQuestions, writeBy, writeTableCall}
+use Rattle.table_files.specs.TableRoom.{WriteReady, PieceRoom, LocationRoom}
+use Rattle.table_files.proofs.PieceKeys.{key-at, atKey}
+use Rattle.table_files.proofs.PlaceWords.{place-most, longest-is, length-place}
+use Rattle.table_files.proofs.Listed.{present-keys}
+use Rattle.table_files.proofs.TableAsked.{room-yes}
 
 -- ---- sizes
 
--- the model passes its questions and there is room for its table
-pub room-yes : (m : List ℤ) (room : ℕ) → roomQuestions m room ≡ 0 → (modelQuestions m ≡ 0) × (tableSize m ≤ room)
-unfolding roomQuestions
-room-yes m room e =
-    let a : (modelQuestions m ≡ 0) × (ask (leb (tableSize m) room) 20 ≡ 0) = then-both (modelQuestions m) (ask (leb (tableSize m) room) 20) e in
-    (a .0, leb→le (tableSize m) room (ask-yes (leb (tableSize m) room) 20 (omega arith) (a .1)))
+-- the pieces of a location, with those before, are among all
+pub location-counted : (m : List ℤ) (l : ℕ) → l < L# m → piecesBefore m l + pieces m l ≤ pieceCount m
+unfolding pieceCount piecesBefore
+location-counted m l u = sum-part (L# m) (pieces m) l u
 
-pub faces-few : (l n : ℕ) → l ≤ 64 → n ≤ 6 → l * (2 * n) ≤ 768
-faces-few l n h k = let f : 2 * n ≤ 12 = omega arith in let g : l * (2 * n) ≤ 64 * 12 = mul-le-mul h f in omega arith
+before-le : (m : List ℤ) (l : ℕ) → l ≤ L# m → piecesBefore m l ≤ pieceCount m
+unfolding pieceCount
+before-le m l u = ⊎-elim (λ v. omega (arith, location-counted m l v)) (λ e. rw e (omega arith)) (split l (L# m) (omega arith))
 
-pub bytes-few : (k n : ℕ) → k ≤ 768 → n ≤ 6 → k * (11 + 8 * n) ≤ 45312
-bytes-few k n h u = let f : 11 + 8 * n ≤ 59 = omega arith in let g : k * (11 + 8 * n) ≤ 768 * 59 = mul-le-mul h f in omega arith
+-- the field of a piece in bytes
+abbrev pub pieceBytes : List ℤ → ℕ
+pieceBytes m = fieldLength (pieceFieldSize m)
 
-module _ (m : List ℤ) (h : Head m) where
-  pub keys-few : keys m ≤ 768
-  keys-few = faces-few (L# m) (n# m) (h .L-small) (h .n-small)
+pub longest-least : (m : List ℤ) → 7 ≤ longestTableFile m
+unfolding longestTableFile
+longest-least m = omega arith
 
-  pub longest-is : longestTableFile m ≡ 7 + keys m * (11 + 8 * n# m)
-  unfolding longestTableFile
-  longest-is = refl
+module _ (m : List ℤ) (w : Whole m) where
+  pub pieces-few : pieceCount m ≤ 1536
+  pieces-few = count-most m (w .head .n-small) (w .head .L-small)
 
-  -- as the code computes them, from l locations and n variables
-  module _ {l n : ℕ} (el : l ≡ L# m) (en : n ≡ n# m) where
-    pub faces-fit : l * (2 * n) ≤ 768
-    faces-fit = rw (en, el) keys-few
+  -- the longest file of all
+  pub longest-most : longestTableFile m ≤ 96775
+  longest-most = omega (arith, longest-is m, place-small (pieceFieldSize m) (pieceCount m) 15 1536 pieces-few (omega (arith, place-most m, w .head .n-small)))
 
-    pub bytes-fit : l * (2 * n) * (11 + 8 * n) ≤ 45312
-    bytes-fit = rw (en, el) (bytes-few (keys m) (n# m) keys-few (h .n-small))
+  -- as the code computes them, from the width of places and n variables
+  module _ {width n : ℕ} (ep : width ≡ placeSize m) (en : n ≡ n# m) where
+    pub sizes-fit : (width ≤ 3) × (n ≤ 6)
+    sizes-fit = (omega (arith, place-most m), omega (arith, w .head .n-small))
 
-    pub most-few : 2 * n * l ≤ 768
-    most-few = omega (arith, faces-fit)
+    pub size-is : {size : ℕ} → size ≡ width + 2 * n → size ≡ pieceFieldSize m
+    size-is es = omega arith
 
-    pub longest-again : 7 + l * (2 * n) * (11 + 8 * n) ≡ longestTableFile m
-    unfolding longestTableFile
-    longest-again = rw (en, el) refl
+    pub size-few : {size : ℕ} → size ≡ width + 2 * n → size ≤ 15
+    size-few es = omega (arith, sizes-fit)
 
-    pub longest-made : {from w r : ℕ} → from ≡ facesFrom → w ≡ faceFieldSize n → r ≡ fieldPlace from w (l * (2 * n)) → r ≡ longestTableFile m
-    longest-made ef ew er = er ∙ rw (ef, ew) (omega arith) ∙ longest-again
+    pub longest-made : {from size k r : ℕ} → from ≡ piecesFrom → size ≡ width + 2 * n → k ≡ pieceCount m → r ≡ fieldPlace from size k → r ≡ longestTableFile m
+    longest-made ef es ek er = er ∙ rw (ef, size-is es, ek) (sym (longest-is m))
 
--- ---- one face, by its flag
+-- ---- one piece, by its flag
 
 module _ (n : ℕ) (t : List ℤ) (at : ℕ) where
   pub read-present : eqZ (word t at) (pos 1) ≡ true → faceRead n t at ≡ present (boxAt n t (at + 1))
@@ -101,9 +107,9 @@ presence-le (present b) = omega arith
 
 -- ---- the loop that counts
 
--- the faces whose keys are below k
+-- the pieces whose keys are below k
 abbrev pub countedBelow : (n : ℕ) (t : List ℤ) (k : ℕ) → ℕ
-countedBelow n t k = sumBelow k (λ q. presence (faceRead n t (q * faceSize n)))
+countedBelow n t k = sumBelow k (λ j. presence (faceRead n t (j * faceSize n)))
 
 pub counted-none : (n : ℕ) (t : List ℤ) → 0 ≡ countedBelow n t 0
 unfolding sumBelow
@@ -118,159 +124,223 @@ pub counted-more : (n : ℕ) (t : List ℤ) (k : ℕ) {at count p : ℕ} → at 
 unfolding sumBelow
 counted-more n t k {at} e ec ep = ap₂ _+_ ec (ep ∙ presence-read n t at ∙ ap (λ (x : ℕ). presence (faceRead n t x)) e) ∙ rw (add-one k) refl
 
-counted-keys : (m t : List ℤ) → countedBelow (n# m) t (keys m) ≡ presentFaces m t
-unfolding presentFaces faceOf
-counted-keys m t = sym (sum-keys (L# m) (2 * n# m) (λ l f. presence (faceOf m t l f)) (λ q. presence (faceRead (n# m) t (q * faceSize (n# m)))) (λ l f u v. rw (face-key m l f) refl))
+counted-keys : (m t : List ℤ) → countedBelow (n# m) t (pieceCount m) ≡ presentPieces m t
+unfolding pieceOf
+counted-keys m t = sum-ext (pieceCount m) (λ j. presence (faceRead (n# m) t (j * faceSize (n# m)))) (λ j. presence (atKey m (pieceOf m t) j))
+    (λ j u. ap (λ (at : ℕ). presence (faceRead (n# m) t at)) (sym (key-at m j u))) ∙ sym (present-keys m t)
 
-module _ (m : List ℤ) (h : Head m) {l n : ℕ} (el : l ≡ L# m) (en : n ≡ n# m) where
-  -- face k lies in the table
-  pub row-inside : {k at : ℕ} → k < l * (2 * n) → at ≡ k * faceSize n → at + faceSize n ≤ tableSize m
+module _ (m : List ℤ) (w : Whole m) {n pieces : ℕ} (en : n ≡ n# m) (ep : pieces ≡ pieceCount m) where
+  -- piece k lies in the table
+  pub row-inside : {k at : ℕ} → k < pieces → at ≡ k * faceSize n → at + faceSize n ≤ tableSize m
+  unfolding tableSize
   row-inside {k} u e =
-      let v : k < keys m = rw (en, el) at u in
-      rw en (omega (arith, row-within (faceSize (n# m)) v, size-keys m, rw en at e))
+      let v : k < pieceCount m = omega arith in
+      rw en (omega (arith, row-within (faceSize (n# m)) v, rw en at e))
 
-  pub row-few : {k at : ℕ} → k < l * (2 * n) → at ≡ k * faceSize n → at + faceSize n ≤ 9984
-  row-few u e = omega (arith, row-inside u e, table-most m h)
+  pub row-few : {k at : ℕ} → k < pieces → at ≡ k * faceSize n → at + faceSize n ≤ 19968
+  row-few u e = omega (arith, row-inside u e, table-most m (w .head))
 
-  pub count-few : (t : List ℤ) {k count p : ℕ} → k < l * (2 * n) → count ≡ countedBelow n t k → p ≤ 1 → count + p ≤ 768
-  count-few t {k} u e v = omega (arith, counted-le n t k, faces-fit m h el en)
+  pub count-few : (t : List ℤ) {k count p : ℕ} → k < pieces → count ≡ countedBelow n t k → p ≤ 1 → count + p ≤ 1536
+  count-few t {k} u e v = omega (arith, counted-le n t k, pieces-few m w)
 
-  pub counted-all : (t : List ℤ) {k count : ℕ} → k ≤ l * (2 * n) → l * (2 * n) ≤ k → count ≡ countedBelow n t k → count ≡ presentFaces m t
+  pub counted-all : (t : List ℤ) {k count : ℕ} → k ≤ pieces → pieces ≤ k → count ≡ countedBelow n t k → count ≡ presentPieces m t
   counted-all t {k} u v e =
-      let ek : k ≡ keys m = omega (arith, ap₂ (λ (a b : ℕ). a * (2 * b)) el en) in
+      let ek : k ≡ pieceCount m = omega arith in
       e ∙ ap₂ (λ (a b : ℕ). countedBelow a t b) en ek ∙ counted-keys m t
 
 pub next-row : (n k : ℕ) {at size : ℕ} → size ≡ faceSize n → at ≡ k * faceSize n → at + size ≡ (k + 1) * faceSize n
 next-row n k es e = omega arith
 
--- ---- the field of a face
+pub present-few : (m t : List ℤ) → Whole m → presentPieces m t ≤ 1536
+present-few m t w = omega (arith, counted-keys m t, counted-le (n# m) t (pieceCount m), pieces-few m w)
 
-pub field-length : (n l f : ℕ) (g : Face) → length (faceField n l f g) ≤ 11 + 8 * n
-field-length n l f absent = omega arith
-field-length n l f (present b) =
-    omega (arith, length-field 5 (wordsBytes (pos l ∷ pos f ∷ boxBy n (low b) (high b))), length-bytes (pos l ∷ pos f ∷ boxBy n (low b) (high b)), length-boxBy n (low b) (high b))
+-- ---- the field of a piece
 
-module _ (n : ℕ) (t : List ℤ) (at l f : ℕ) (there : at + faceSize n ≤ length t) where
+pub field-length : (m : List ℤ) (l q : ℕ) (g : Face) → length (pieceField m l q g) ≤ pieceBytes m
+field-length m l q absent = omega arith
+field-length m l q (present b) =
+    omega (
+      arith,
+      length-field 5 (wordsBytes (placeWords m l q ++ boxBy (n# m) (low b) (high b))),
+      length-bytes (placeWords m l q ++ boxBy (n# m) (low b) (high b)),
+      length-append (placeWords m l q) (boxBy (n# m) (low b) (high b)),
+      length-place m l q,
+      length-boxBy (n# m) (low b) (high b),
+    )
+
+-- its place, word by word
+module _ (m : List ℤ) (l q : ℕ) {per : ℕ} (ep : per ≡ perFace m l) where
+  pub face-is : q / per ≡ pieceFace m l q
+  unfolding pieceFace
+  face-is = ap (λ (k : ℕ). q / k) ep
+
+  pub index-is : q % per ≡ pieceIndex m l q
+  unfolding pieceIndex
+  index-is = ap (λ (k : ℕ). q % k) ep
+
+  module _ (d x y : List ℕ) (to : ℕ) (room : to ≤ length d) (ex : x ≡ onto (take to d ++ wordBytes (pos l)) d) (ey : y ≡ onto (take (to + wordSize) x ++ wordBytes (pos (q / per))) x) where
+    abbrev two : List ℕ
+    two = wordBytes (pos l) ++ wordBytes (pos (q / per))
+
+    two-put : y ≡ onto (take to d ++ two) d
+    two-put = ey ∙ onto-then (wordBytes (pos l)) (wordBytes (pos (q / per))) d x to (to + wordSize) ex room (omega (arith, length-word (pos l)))
+
+    pub place-put-two : anyCut m ≡ false → y ≡ onto (take to d ++ wordsBytes (placeWords m l q)) d
+    unfolding placeWords wordsBytes
+    place-put-two e = two-put ∙ rw (e, ← face-is) (ap (λ (s : List ℕ). onto (take to d ++ (wordBytes (pos l) ++ s)) d) (sym (append-nil (wordBytes (pos (q / per))))))
+
+    pub place-put-three : anyCut m ≡ true → {z : List ℕ} → z ≡ onto (take (to + 2 * wordSize) y ++ wordBytes (pos (q % per))) y → z ≡ onto (take to d ++ wordsBytes (placeWords m l q)) d
+    unfolding placeWords wordsBytes
+    place-put-three e {z} ez =
+        let k : List ℕ = wordBytes (pos (q % per)) in
+        let ez′ : z ≡ onto (take to d ++ (two ++ k)) d = ez ∙ onto-then two k d y to (to + 2 * wordSize) two-put room
+        (omega (arith, length-append (wordBytes (pos l)) (wordBytes (pos (q / per))), length-word (pos l), length-word (pos (q / per)))) in
+        ez′ ∙ rw (e, ← face-is, ← index-is) (ap (λ (s : List ℕ). onto (take to d ++ s) d)
+        (append-assoc (wordBytes (pos l)) (wordBytes (pos (q / per))) k
+        ∙ ap (λ (s : List ℕ). wordBytes (pos l) ++ (wordBytes (pos (q / per)) ++ s)) (sym (append-nil k))))
+
+-- the words of piece q of location l stand at a place of the table
+module _ (m t : List ℤ) {at : ℕ} (l q : ℕ) (at-is : at ≡ pieceAt m l q) (there : at + faceSize (n# m) ≤ length t) where
   abbrev payload : List ℕ
-  payload = wordBytes (pos l) ++ (wordBytes (pos f) ++ wordsBytes (part t (at + 1) (2 * n)))
+  payload = wordsBytes (placeWords m l q) ++ wordsBytes (part t (at + 1) (2 * n# m))
 
-  payload-length : length payload ≡ 8 + 8 * n
+  payload-length : length payload ≡ payloadLength (pieceFieldSize m)
   payload-length = omega (
     arith,
-    length-append (wordBytes (pos l)) (wordBytes (pos f) ++ wordsBytes (part t (at + 1) (2 * n))),
-    length-append (wordBytes (pos f)) (wordsBytes (part t (at + 1) (2 * n))),
-    length-word (pos l),
-    length-word (pos f),
-    length-bytes (part t (at + 1) (2 * n)),
-    length-part t (at + 1) (2 * n) (omega arith),
+    length-append (wordsBytes (placeWords m l q)) (wordsBytes (part t (at + 1) (2 * n# m))),
+    length-bytes (placeWords m l q),
+    length-place m l q,
+    length-bytes (part t (at + 1) (2 * n# m)),
+    length-part t (at + 1) (2 * n# m) (omega arith),
   )
 
-  -- a present face's field has the words of the table
-  payload-is : eqZ (word t at) (pos 1) ≡ true → faceField n l f (faceRead n t at) ≡ field 5 payload
-  unfolding wordsBytes boxAt
-  payload-is e = rw (read-present n t at e) (ap (λ (b : List ℤ). field 5 (wordsBytes (pos l ∷ pos f ∷ b))) (box-ends n (boxAt n t (at + 1)) (length-boxAt n t (at + 1) (omega arith))))
+  piece-is : pieceOf m t l q ≡ faceRead (n# m) t at
+  unfolding pieceOf
+  piece-is = ap (faceRead (n# m) t) (sym at-is)
 
-  -- header, location, face number and box, each put behind the one before
-  pub face-put : (d x y z w : List ℕ) (to : ℕ) {len box : ℕ} → eqZ (word t at) (pos 1) ≡ true → to ≤ length d → len ≡ payloadLength (faceFieldSize n) → box ≡ payloadLength placeSize
+  -- a present piece's field has the words of the table
+  payload-is : eqZ (word t at) (pos 1) ≡ true → pieceField m l q (pieceOf m t l q) ≡ field 5 payload
+  unfolding boxAt
+  payload-is e = rw (piece-is, read-present (n# m) t at e)
+      (ap (λ (b : List ℤ). field 5 (wordsBytes (placeWords m l q ++ b))) (box-ends (n# m) (boxAt (n# m) t (at + 1)) (length-boxAt (n# m) t (at + 1) (omega arith)))
+      ∙ ap (field 5) (bytes-append (placeWords m l q) (part t (at + 1) (2 * n# m))))
+
+  -- header, place and box, each put behind the one before
+  pub piece-put : (d x y z : List ℕ) (to : ℕ) {len box n : ℕ} → eqZ (word t at) (pos 1) ≡ true → to ≤ length d → len ≡ payloadLength (pieceFieldSize m) → box ≡ payloadLength (placeSize m) → n ≡ n# m
       → x ≡ onto (take to d ++ header 5 len) d
-      → y ≡ onto (take (to + headerSize) x ++ wordBytes (pos l)) x
-      → z ≡ onto (take (to + headerSize + wordSize) y ++ wordBytes (pos f)) y
-      → w ≡ onto (take (to + headerSize + box) z ++ wordsBytes (part t (at + 1) (2 * n))) z
-      → w ≡ onto (take to d ++ faceField n l f (faceRead n t at)) d
+      → y ≡ onto (take (to + headerSize) x ++ wordsBytes (placeWords m l q)) x
+      → z ≡ onto (take (to + headerSize + box) y ++ wordsBytes (part t (at + 1) (2 * n))) y
+      → z ≡ onto (take to d ++ pieceField m l q (pieceOf m t l q)) d
   unfolding field
-  face-put d x y z w to {len} {box} e room el eb ex ey ez ew =
+  piece-put d x y z to {len} {box} {n} e room el eb en ex ey ez =
       let hd : List ℕ = header 5 len in
-      let ey′ : y ≡ onto (take to d ++ (hd ++ wordBytes (pos l))) d = ey ∙ onto-then hd (wordBytes (pos l)) d x to (to + 3) ex room (omega arith) in
-      let ez′ : z ≡ onto (take to d ++ ((hd ++ wordBytes (pos l)) ++ wordBytes (pos f))) d = ez ∙ onto-then (hd ++ wordBytes (pos l)) (wordBytes (pos f)) d y to (to + headerSize + wordSize) ey′ room
-      (omega (arith, length-append hd (wordBytes (pos l)), length-word (pos l))) in
-      let ew′ : w ≡ onto (take to d ++ (((hd ++ wordBytes (pos l)) ++ wordBytes (pos f)) ++ wordsBytes (part t (at + 1) (2 * n)))) d =
-      ew ∙ onto-then ((hd ++ wordBytes (pos l)) ++ wordBytes (pos f)) (wordsBytes (part t (at + 1) (2 * n))) d z to (to + headerSize + box) ez′ room
-      (omega (arith, length-append (hd ++ wordBytes (pos l)) (wordBytes (pos f)), length-append hd (wordBytes (pos l)), length-word (pos l), length-word (pos f))) in
-      let together : ((hd ++ wordBytes (pos l)) ++ wordBytes (pos f)) ++ wordsBytes (part t (at + 1) (2 * n)) ≡ hd ++ payload = simp append-assoc in
-      ew′ ∙ ap (λ (s : List ℕ). onto (take to d ++ s) d) (together ∙ ap (λ (k : ℕ). header 5 k ++ payload) (el ∙ omega (arith, payload-length)) ∙ sym (payload-is e))
+      let place : List ℕ = wordsBytes (placeWords m l q) in
+      let words : List ℕ = wordsBytes (part t (at + 1) (2 * n)) in
+      let ey′ : y ≡ onto (take to d ++ (hd ++ place)) d = ey ∙ onto-then hd place d x to (to + 3) ex room (omega arith) in
+      let ez′ : z ≡ onto (take to d ++ ((hd ++ place) ++ words)) d = ez ∙ onto-then (hd ++ place) words d y to (to + headerSize + box) ey′ room
+      (omega (arith, length-append hd place, length-bytes (placeWords m l q), length-place m l q)) in
+      ez′ ∙ ap (λ (s : List ℕ). onto (take to d ++ s) d)
+      (append-assoc hd place words ∙ ap₂ (λ (i j : ℕ). header 5 i ++ (place ++ wordsBytes (part t (at + 1) (2 * j)))) (el ∙ sym payload-length) en ∙ sym (payload-is e))
 
-  pub face-next : (to : ℕ) {size r : ℕ} → eqZ (word t at) (pos 1) ≡ true → size ≡ faceFieldSize n → r ≡ fieldLength size → to + r ≡ to + length (faceField n l f (faceRead n t at))
-  face-next to e es er = rw (payload-is e) (omega (arith, length-field 5 payload, payload-length))
+  pub piece-next : (to : ℕ) {size r : ℕ} → eqZ (word t at) (pos 1) ≡ true → size ≡ pieceFieldSize m → r ≡ fieldLength size → to + r ≡ to + length (pieceField m l q (pieceOf m t l q))
+  piece-next to e es er = rw (payload-is e) (omega (arith, length-field 5 payload, payload-length))
 
-  -- an absent face's field is nothing
-  pub face-skip : (d : List ℕ) (to : ℕ) → eqZ (word t at) (pos 1) ≡ false → to ≤ length d → d ≡ onto (take to d ++ faceField n l f (faceRead n t at)) d
-  face-skip d to e room = rw (read-absent n t at e) (onto-start to d room)
+  -- an absent piece's field is nothing
+  pub piece-skip : (d : List ℕ) (to : ℕ) → eqZ (word t at) (pos 1) ≡ false → to ≤ length d → d ≡ onto (take to d ++ pieceField m l q (pieceOf m t l q)) d
+  piece-skip d to e room = rw (piece-is, read-absent (n# m) t at e) (onto-start to d room)
 
-  pub skip-next : (to : ℕ) → eqZ (word t at) (pos 1) ≡ false → to ≡ to + length (faceField n l f (faceRead n t at))
-  skip-next to e = rw (read-absent n t at e) (omega arith)
+  pub skip-next : (to : ℕ) → eqZ (word t at) (pos 1) ≡ false → to ≡ to + length (pieceField m l q (pieceOf m t l q))
+  skip-next to e = rw (piece-is, read-absent (n# m) t at e) (omega arith)
 
--- ---- the loop that writes them
+-- ---- the loops that write them
 
--- the field of key q
-abbrev pub fieldOf : (n : ℕ) (t : List ℤ) (q : ℕ) → List ℕ
-fieldOf n t q = faceField n (q / (2 * n)) (q % (2 * n)) (faceRead n t (q * faceSize n))
+-- the file x after k of some lists of bytes, put behind a place and up to a position, was d
+pub record Written (g : ℕ → List ℕ) (d : List ℕ) (from k to : ℕ) (x : List ℕ) : Type 0 where
+  pub to-is : to ≡ from + length (cat k g)
+  pub file-is : x ≡ onto (take from d ++ cat k g) d
 
-fields-le : (n : ℕ) (t : List ℤ) (k : ℕ) → length (cat k (fieldOf n t)) ≤ k * (11 + 8 * n)
-unfolding cat
-fields-le n t zero = omega arith
-fields-le n t (suc k) = omega (arith, length-append (cat k (fieldOf n t)) (fieldOf n t k), fields-le n t k, field-length n (k / (2 * n)) (k % (2 * n)) (faceRead n t (k * faceSize n)))
+module _ (g : ℕ → List ℕ) (d : List ℕ) (from : ℕ) (room : from ≤ length d) where
+  pub written-none : {to : ℕ} → to ≡ from → Written g d from 0 to d
+  written-none e = record {
+    to-is = rw (cat-none g) (omega arith);
+    file-is = onto-start from d room ∙ ap (λ (s : List ℕ). onto (take from d ++ s) d) (sym (cat-none g));
+  }
 
--- the file x after k keys, whose fields end at a position, was d
-pub record Written (n : ℕ) (t : List ℤ) (d : List ℕ) (k to : ℕ) (x : List ℕ) : Type 0 where
-  pub to-is : to ≡ 7 + length (cat k (fieldOf n t))
-  pub file-is : x ≡ onto (take 7 d ++ cat k (fieldOf n t)) d
+  pub written-more : {k to next : ℕ} {x y : List ℕ} → Written g d from k to x → y ≡ onto (take to x ++ g k) x → next ≡ to + length (g k) → Written g d from (k + 1) next y
+  written-more {k} {to} {next} {x} {y} w ey en = record {
+    to-is = rw (cat-more k g) (omega (arith, en, w .to-is, length-append (cat k g) (g k)));
+    file-is = ey ∙ cat-turn g from k to d x (w .file-is) room (sym (w .to-is));
+  }
 
-pub written-none : (n : ℕ) (t : List ℤ) (d : List ℕ) {to : ℕ} → to ≡ facesFrom → 7 ≤ length d → Written n t d 0 to d
-written-none n t d e h = record {
-  to-is = rw (cat-none (fieldOf n t)) (omega arith);
-  file-is = onto-start 7 d h ∙ ap (λ (s : List ℕ). onto (take 7 d ++ s) d) (sym (cat-none (fieldOf n t)));
-}
+  pub length-written : {k to : ℕ} {x : List ℕ} → Written g d from k to x → to ≤ length d → length x ≡ length d
+  length-written {k} {to} {x} w h = rw (w .file-is) (length-onto (take from d ++ cat k g) d
+      (omega (arith, length-append (take from d) (cat k g), length-take-le from d room, w .to-is)))
 
-pub written-more : (n : ℕ) (t : List ℤ) (d : List ℕ) {k to at next : ℕ} {x y : List ℕ} → 7 ≤ length d → Written n t d k to x → at ≡ k * faceSize n
-    → y ≡ onto (take to x ++ faceField n (k / (2 * n)) (k % (2 * n)) (faceRead n t at)) x → next ≡ to + length (faceField n (k / (2 * n)) (k % (2 * n)) (faceRead n t at)) → Written n t d (k + 1) next y
-written-more n t d {k} {to} {at} {next} {x} {y} room w e ey en =
-    let ef : faceField n (k / (2 * n)) (k % (2 * n)) (faceRead n t at) ≡ fieldOf n t k = ap (λ (a : ℕ). faceField n (k / (2 * n)) (k % (2 * n)) (faceRead n t a)) e in
-    record {
-      to-is = rw (cat-more k (fieldOf n t)) (omega (arith, en, ap length ef, w .to-is, length-append (cat k (fieldOf n t)) (fieldOf n t k)));
-      file-is = ey ∙ ap (λ (s : List ℕ). onto (take to x ++ s) x) ef ∙ cat-turn (fieldOf n t) 7 k to d x (w .file-is) room (sym (w .to-is));
-    }
+-- the fields of a location
+abbrev pub fieldsOf : (m t : List ℤ) (l q : ℕ) → List ℕ
+fieldsOf m t l q = pieceField m l q (pieceOf m t l q)
 
-pub longest-least : (m : List ℤ) → 7 ≤ longestTableFile m
-unfolding longestTableFile
-longest-least m = omega arith
+module _ (m t : List ℤ) where
+  fields-le : (l q : ℕ) → length (cat q (fieldsOf m t l)) ≤ q * pieceBytes m
+  unfolding cat
+  fields-le l zero = omega arith
+  fields-le l (suc q) = omega (arith, length-append (cat q (fieldsOf m t l)) (fieldsOf m t l q), fields-le l q, field-length m l q (pieceOf m t l q))
 
-fields-keys : (m t : List ℤ) → cat (keys m) (fieldOf (n# m) t) ≡ faceFields m t
-unfolding faceFields faceOf
-fields-keys m t = sym (cat-keys (L# m) (2 * n# m) (λ l f. faceField (n# m) l f (faceOf m t l f)) (fieldOf (n# m) t)
-    (λ l f u v. rw (face-key m l f, key-location (2 * n# m) l f v, key-face (2 * n# m) l f v) refl))
+  locations-le : (l : ℕ) → length (cat l (locationFields m t)) ≤ piecesBefore m l * pieceBytes m
+  unfolding cat locationFields piecesBefore sumBelow
+  locations-le zero = omega arith
+  locations-le (suc l) = omega (arith, length-append (cat l (locationFields m t)) (locationFields m t l), locations-le l, fields-le l (pieces m l))
 
-module _ (m t : List ℤ) (d : List ℕ) (r : WriteReady m t d) {l n : ℕ} (el : l ≡ L# m) (en : n ≡ n# m) where
-  h : Head m
-  h = r .head
+module _ (m t : List ℤ) (d : List ℕ) {width before l to : ℕ} (r : LocationRoom m width before t l d to) where
+  -- there is room for one more
+  pub location-room : {q next : ℕ} {x : List ℕ} → q ≤ pieces m l → Written (fieldsOf m t l) d to q next x → (length x ≡ length d) × (next ≤ to + q * pieceBytes m)
+  location-room {q} {next} {x} u w =
+      let k : q * pieceBytes m ≤ pieces m l * pieceBytes m = mul-le-mul-right (pieceBytes m) u in
+      let b : next ≤ to + q * pieceBytes m = omega (arith, w .to-is, fields-le m t l q) in
+      (length-written (fieldsOf m t l) d to (omega (arith, r .room)) w (omega (arith, r .room)), b)
 
-  pub length-written : {k to : ℕ} {x : List ℕ} → k ≤ l * (2 * n) → Written n t d k to x → (length x ≡ length d) × (to ≤ 7 + k * (11 + 8 * n))
-  length-written {k} {to} {x} u w =
-      let e : keys m ≡ l * (2 * n) = rw (en, el) refl in
-      let q : k * (11 + 8 * n) ≤ keys m * (11 + 8 * n) = mul-le-mul-right (11 + 8 * n) (omega arith) in
-      let long : 7 + keys m * (11 + 8 * n) ≤ length d = rw en (omega (arith, longest-is m h, r .bytes)) in
-      let a : length (take 7 d ++ cat k (fieldOf n t)) ≤ length d =
-      omega (arith, length-append (take 7 d) (cat k (fieldOf n t)), length-take-le 7 d (omega (arith, longest-least m, r .bytes)), fields-le n t k) in
-      (rw (w .file-is) (length-onto (take 7 d ++ cat k (fieldOf n t)) d a), omega (arith, w .to-is, fields-le n t k))
-
-  pub face-room : {k to at : ℕ} {x : List ℕ} → k < l * (2 * n) → at ≡ k * faceSize n → Written n t d k to x → FaceRoom n t at (k / (2 * n)) (k % (2 * n)) x to
-  face-room {k} {to} {at} {x} u e w =
-      let lw : (length x ≡ length d) × (to ≤ 7 + k * (11 + 8 * n)) = length-written (omega arith) w in
-      let np : 0 < 2 * n = omega (arith, en, h .n-positive) in
-      let q : k * (11 + 8 * n) + (11 + 8 * n) ≤ l * (2 * n) * (11 + 8 * n) = row-within (11 + 8 * n) u in
-      let long : 7 + l * (2 * n) * (11 + 8 * n) ≤ length d = omega (arith, longest-again m h el en, r .bytes) in
+  pub piece-room : {q at next n : ℕ} {x : List ℕ} → q < pieces m l → n ≡ n# m → at ≡ (before + q) * faceSize n → Written (fieldsOf m t l) d to q next x → PieceRoom m width t at l q x next
+  unfolding pieceAt
+  piece-room {q} {at} {next} {n} {x} u en ea w =
+      let lw : (length x ≡ length d) × (next ≤ to + q * pieceBytes m) = location-room (omega arith) w in
+      let k : q * pieceBytes m + pieceBytes m ≤ pieces m l * pieceBytes m = row-within (pieceBytes m) u in
       record {
-        n-small = omega (arith, en, h .n-small);
-        there = omega (arith, row-inside m h el en u e, r .room);
-        l-small = omega (arith, div-lt-iff-lt-mul {k = 2 * n} {x = k} {y = l} np .1 u, el, h .L-small);
-        f-small = omega (arith, mod-lt k {m = 2 * n} np, en, h .n-small);
-        room = omega (arith, lw);
+        is-piece = record { whole = r .whole; width-is = r .width-is; location = r .location; piece = u };
+        at-is = place-is m l q en (r .before-is) ea;
+        there = r .there;
+        room = omega (arith, lw, r .room);
       }
 
-  pub written-all : {k to : ℕ} {x : List ℕ} → k ≤ l * (2 * n) → l * (2 * n) ≤ k → Written n t d k to x → (x ≡ onto (take 7 d ++ faceFields m t) d) × (to ≡ 7 + length (faceFields m t))
-  written-all {k} {to} {x} u v w =
-      let ek : k ≡ keys m = omega (arith, ap₂ (λ (a b : ℕ). a * (2 * b)) el en) in
-      let all : cat k (fieldOf n t) ≡ faceFields m t = ap₂ (λ (a b : ℕ). cat b (fieldOf a t)) en ek ∙ fields-keys m t in
-      (w .file-is ∙ ap (λ (s : List ℕ). onto (take 7 d ++ s) d) all, w .to-is ∙ ap (λ (s : List ℕ). 7 + length s) all)
+  pub location-written : {q next : ℕ} {x : List ℕ} → q ≡ pieces m l → Written (fieldsOf m t l) d to q next x → (x ≡ onto (take to d ++ locationFields m t l) d) × (next ≡ to + length (locationFields m t l))
+  unfolding locationFields
+  location-written e w = (w .file-is ∙ ap (λ (k : ℕ). onto (take to d ++ cat k (fieldsOf m t l)) d) e, w .to-is ∙ ap (λ (k : ℕ). to + length (cat k (fieldsOf m t l))) e)
+
+module _ (m t : List ℤ) (d : List ℕ) (r : WriteReady m t d) where
+  pub head-room : 7 ≤ length d
+  head-room = omega (arith, longest-least m, r .bytes)
+
+  pub pieces-room : {l to : ℕ} {x : List ℕ} → l ≤ L# m → Written (locationFields m t) d 7 l to x → (length x ≡ length d) × (to ≤ 7 + piecesBefore m l * pieceBytes m)
+  pieces-room {l} {to} {x} u w =
+      let b : to ≤ 7 + piecesBefore m l * pieceBytes m = omega (arith, w .to-is, locations-le m t l) in
+      let k : piecesBefore m l * pieceBytes m ≤ pieceCount m * pieceBytes m = mul-le-mul-right (pieceBytes m) (before-le m l u) in
+      (length-written (locationFields m t) d 7 head-room w (omega (arith, longest-is m, r .bytes)), b)
+
+  pub room-of-location : {l width before to : ℕ} {x : List ℕ} → l < L# m → width ≡ placeSize m → before ≡ piecesBefore m l → Written (locationFields m t) d 7 l to x → LocationRoom m width before t l x to
+  room-of-location {l} {width} {before} {to} {x} u ep eb w =
+      let lw : (length x ≡ length d) × (to ≤ 7 + piecesBefore m l * pieceBytes m) = pieces-room (omega arith) w in
+      let k : (piecesBefore m l + pieces m l) * pieceBytes m ≤ pieceCount m * pieceBytes m = mul-le-mul-right (pieceBytes m) (location-counted m l u) in
+      record {
+        whole = r .whole;
+        width-is = ep;
+        location = u;
+        before-is = eb;
+        there = r .room;
+        room = omega (arith, lw, longest-is m, r .bytes);
+      }
+
+  pub all-written : {l to : ℕ} {x : List ℕ} → l ≡ L# m → Written (locationFields m t) d 7 l to x → (x ≡ onto (take 7 d ++ pieceFields m t) d) × (to ≡ 7 + length (pieceFields m t))
+  unfolding pieceFields
+  all-written e w = (w .file-is ∙ ap (λ (k : ℕ). onto (take 7 d ++ cat k (locationFields m t)) d) e, w .to-is ∙ ap (λ (k : ℕ). 7 + length (cat k (locationFields m t))) e)
 
 -- ---- the whole file
 
@@ -278,23 +348,20 @@ module _ (m t : List ℤ) (d : List ℕ) (r : WriteReady m t d) {l n : ℕ} (el 
 pub file-put : (m t : List ℤ) (d x y z : List ℕ) {len : ℕ}
     → len ≡ payloadLength countFieldSize
     → x ≡ onto (take 0 d ++ header 6 len) d
-    → y ≡ onto (take 3 x ++ wordBytes (pos (presentFaces m t))) x
-    → z ≡ onto (take 7 y ++ faceFields m t) y
+    → y ≡ onto (take 3 x ++ wordBytes (pos (presentPieces m t))) x
+    → z ≡ onto (take 7 y ++ pieceFields m t) y
     → z ≡ onto (tableFile m t) d
 unfolding tableFile field wordBytes
 file-put m t d x y z el ex′ ey ez =
     let ex = rw el at ex′ in
-    let w : List ℕ = wordBytes (pos (presentFaces m t)) in
+    let w : List ℕ = wordBytes (pos (presentPieces m t)) in
     let ey′ : y ≡ onto (take 0 d ++ (header 6 4 ++ w)) d = ey ∙ onto-then (header 6 4) w d x 0 3 ex (omega arith) (omega arith) in
-    let ez′ : z ≡ onto (take 0 d ++ ((header 6 4 ++ w) ++ faceFields m t)) d = ez ∙ onto-then (header 6 4 ++ w) (faceFields m t) d y 0 7 ey′ (omega arith) (omega (arith, length-append (header 6 4) w, length-word (pos (presentFaces m t)))) in
+    let ez′ : z ≡ onto (take 0 d ++ ((header 6 4 ++ w) ++ pieceFields m t)) d = ez ∙ onto-then (header 6 4 ++ w) (pieceFields m t) d y 0 7 ey′ (omega arith) (omega (arith, length-append (header 6 4) w, length-word (pos (presentPieces m t)))) in
     ez′
 
-pub file-length : (m t : List ℤ) → 7 + length (faceFields m t) ≡ length (tableFile m t)
+pub file-length : (m t : List ℤ) → 7 + length (pieceFields m t) ≡ length (tableFile m t)
 unfolding tableFile
-file-length m t = omega (arith, length-append (field 6 (wordBytes (pos (presentFaces m t)))) (faceFields m t), length-field 6 (wordBytes (pos (presentFaces m t))), length-word (pos (presentFaces m t)))
-
-pub present-few : (m t : List ℤ) → Head m → presentFaces m t ≤ 768
-present-few m t h = omega (arith, counted-keys m t, counted-le (n# m) t (keys m), keys-few m h)
+file-length m t = omega (arith, length-append (field 6 (wordBytes (pos (presentPieces m t)))) (pieceFields m t), length-field 6 (wordBytes (pos (presentPieces m t))), length-word (pos (presentPieces m t)))
 
 -- ---- how the call ends
 
@@ -304,7 +371,7 @@ write-yes m t d e =
     let a : (roomQuestions m (length t) ≡ 0) × _ = then-both (roomQuestions m (length t)) _ e in
     let b : _ × (ask (leb (longestTableFile m) (length d)) 39 ≡ 0) = then-both (ask (tableOk m t) 32) (ask (leb (longestTableFile m) (length d)) 39) (a .1) in
     let r : (modelQuestions m ≡ 0) × (tableSize m ≤ length t) = room-yes m (length t) (a .0) in
-    record { head = head-ready m (r .0); room = r .1; bytes = leb→le (longestTableFile m) (length d) (ask-yes (leb (longestTableFile m) (length d)) 39 (omega arith) (b .1)) }
+    record { whole = whole m (r .0); room = r .1; bytes = leb→le (longestTableFile m) (length d) (ask-yes (leb (longestTableFile m) (length d)) 39 (omega arith) (b .1)) }
 
 module _ (m t : List ℤ) (d : List ℕ) where
   refused-by : (q : ℕ) → (q ≡ 0 → ⊥) → record { count = Refused q; file = d } ≡ writeBy q m t d

@@ -1,3 +1,4 @@
 pub mod TableFile
 pub mod TableRoom
 pub mod TableBack
+pub mod UncutFile

@@ -1,8 +1,9 @@
-// Reading and writing a table's file (document 01, "Files"). Outsiders call read_table and write_table. The other public
-// functions serve the host, on a model that has passed its questions.
+// Reading and writing a table's file (document 01, "Files", with pieces for faces: document 02, T-12). Outsiders call read_table
+// and write_table. The other public functions serve the host, on a model that has passed its questions.
 ghost use mathlib.Core.Path.{_≡_};
-ghost use Prim.Native.Nat.{_≤_};
-ghost use Rattle.table_files.specs.TableFile.{faceFieldSize, facesFrom, roomQuestions};
+ghost use Prim.Native.Nat.{_+_, _*_, _≤_};
+ghost use Rattle.records.specs.Whole.{Whole};
+ghost use Rattle.table_files.specs.TableFile.{placeSize, piecesFrom, roomQuestions};
 
 mod reading;
 mod writing;
@@ -13,22 +14,41 @@ pub use writing::bytes_question;
 pub use writing::put_table;
 pub use writing::write_table;
 
-// How many words the head field has, and a face's place: location, face number.
+// How many words the head field has.
 const COUNT_FIELD_SIZE: usize = 1;
 
+// How many words a piece's place has: location, face number; in a model with any cut also the piece.
 const PLACE_SIZE: usize = 2;
 
-// How many words a face's field has.
-fn face_field_size(n: usize) -> usize
-    requires { ⌜ n ≤ 6 ⌝ }
-    ensures { λ r. ⌜ r ≡ faceFieldSize n ⌝ }
+const CUT_PLACE_SIZE: usize = 3;
+
+// The width of a place in the fields of this model: how many words it has.
+fn place_size(model: &[i32]) -> usize
+    requires { ⌜ Whole (now model) ⌝ }
+    ensures { λ r. ⌜ r ≡ placeSize (now (model .entry)) ⌝ }
 {
-    PLACE_SIZE + 2 * n
+    let locations = records::locations(model);
+    let mut l: usize = 0;
+    while l < locations {
+        if tables::per_face(model, l) == 2 {
+            return CUT_PLACE_SIZE;
+        }
+        l = l + 1;
+    }
+    PLACE_SIZE
 }
 
-// Where the faces' fields begin.
-fn faces_from() -> usize
-    ensures { λ r. ⌜ r ≡ facesFrom ⌝ }
+// How many words a piece's field has: its place, and a box of n variables.
+fn field_size(width: usize, n: usize) -> usize
+    requires { ⌜ (width ≤ 3) × (n ≤ 6) ⌝ }
+    ensures { λ r. ⌜ r ≡ width + 2 * n ⌝ }
+{
+    width + 2 * n
+}
+
+// Where the pieces' fields begin.
+fn pieces_from() -> usize
+    ensures { λ r. ⌜ r ≡ piecesFrom ⌝ }
 {
     wire::field_place(0, COUNT_FIELD_SIZE, 1)
 }

@@ -1,8 +1,9 @@
 // Reading a table's file.
 use crate::COUNT_FIELD_SIZE;
-use crate::PLACE_SIZE;
-use crate::face_field_size;
-use crate::faces_from;
+use crate::CUT_PLACE_SIZE;
+use crate::field_size;
+use crate::pieces_from;
+use crate::place_size;
 use crate::room_questions;
 use plant::Count;
 ghost use mathlib.Core.Path.{_≡_};
@@ -16,18 +17,17 @@ ghost use Rattle.integers.specs.Words.{within};
 ghost use Rattle.wire.specs.Bytes.{wordSize, wordAt, wordsAt};
 ghost use Rattle.wire.specs.Fields.{payloadLength};
 ghost use Rattle.plant.specs.Ask.{first};
-ghost use Rattle.plant.specs.Model.{n#};
 ghost use Rattle.plant.specs.Tables.{faceSize, tableSize};
-ghost use Rattle.records.specs.Whole.{Head};
+ghost use Rattle.records.specs.Whole.{Whole};
 ghost use Rattle.passes.specs.Ready.{TableReady};
-ghost use Rattle.table_files.specs.TableFile.{placeSize, faceFieldSize, countQuestion, faceKey, placeOk, faceQuestions, count#, fieldsQuestions, fileTable, readFaces, readTableCall};
-ghost use Rattle.table_files.specs.TableRoom.{CountAt, KeyAt};
+ghost use Rattle.table_files.specs.TableFile.{pieceFieldSize, countQuestion, pieceKey, placeOk, pieceQuestions, count#, fieldsQuestions, fileTable, readFaces, readTableCall};
+ghost use Rattle.table_files.specs.TableRoom.{FieldsReady, CountAt, indexWord, IndexAt, KeyAt};
 
 // ---- the questions of a file
 
 // The word at a position is a number from 0 to a small one.
 fn number_within(file: &[u8], at: usize, most: usize) -> bool
-    requires { ⌜ (at + wordSize ≤ length (now file)) × (most ≤ 768) ⌝ }
+    requires { ⌜ (at + wordSize ≤ length (now file)) × (most ≤ 1536) ⌝ }
     ensures { λ r. ⌜ r ≡ within (pos 0) (pos most) (wordAt (now (file .entry)) at) ⌝ }
 {
     integers::within(wire::word_at(file, at) as i64, 0, most as i64)
@@ -41,16 +41,16 @@ fn number_at(file: &[u8], at: usize) -> usize
     integers::natural(wire::word_at(file, at))
 }
 
-// Head field whole, tag 6, length 4, count 0 to 2nL?
+// Head field whole, tag 6, length 4, count 0 to the number of pieces?
 fn count_question(model: &[i32], file: &[u8]) -> u32
-    requires { ⌜ Head (now model) ⌝ }
+    requires { ⌜ Whole (now model) ⌝ }
     ensures { λ r. ⌜ r ≡ countQuestion (now (model .entry)) (now (file .entry)) ⌝ }
 {
     let first = wire::next_field(file, 0);
     if !wire::is_field(first, 6, wire::payload_length(COUNT_FIELD_SIZE)) {
         return 35;
     }
-    let most = 2 * records::variables(model) * records::locations(model);
+    let most = tables::piece_count(model);
     model::ask(number_within(file, wire::HEADER_SIZE, most), 35)
 }
 
@@ -62,38 +62,80 @@ fn count_of(file: &[u8]) -> usize
     number_at(file, wire::HEADER_SIZE)
 }
 
-// Location × 2n + face number of the field whose payload starts at a position.
-fn key_at(file: &[u8], start: usize, n: usize) -> usize
-    requires { ⌜ KeyAt (now file) start n ⌝ }
-    ensures { λ r. ⌜ r ≡ faceKey n (wordsAt (now (file .entry)) start (faceFieldSize n)) ⌝ }
+// ---- the place of the field whose payload starts at a position, by the width of places
+
+// Which piece of its face it names, by the word behind the face number, is a number from 0 to a small one; without that word it
+// is 0.
+fn index_within(file: &[u8], start: usize, width: usize, most: usize) -> bool
+    requires { ⌜ (start + payloadLength width ≤ length (now file)) × (most ≤ 1536) ⌝ }
+    ensures { λ r. ⌜ r ≡ within (pos 0) (pos most) (indexWord (now (file .entry)) start width) ⌝ }
 {
-    number_at(file, start) * (2 * n) + number_at(file, start + wire::WORD_SIZE)
+    if width == CUT_PLACE_SIZE {
+        number_within(file, start + 2 * wire::WORD_SIZE, most)
+    } else {
+        true
+    }
 }
 
-// Its location and face exist, and its key is at least the least that is due.
-fn place_ok(model: &[i32], file: &[u8], start: usize, least: usize) -> bool
-    requires { ⌜ Head (now model) × (start + payloadLength placeSize ≤ length (now file)) ⌝ }
-    ensures { λ r. ⌜ r ≡ placeOk (now (model .entry)) (wordsAt (now (file .entry)) start (faceFieldSize (n# (now (model .entry))))) least ⌝ }
+// That number, 0 without the word.
+fn index_at(file: &[u8], start: usize, width: usize) -> usize
+    requires { ⌜ IndexAt (now file) start width ⌝ }
+    ensures { λ r. ⌜ r ≡ natAbs (indexWord (now (file .entry)) start width) ⌝ }
 {
-    let n = records::variables(model);
+    if width == CUT_PLACE_SIZE {
+        number_at(file, start + 2 * wire::WORD_SIZE)
+    } else {
+        0
+    }
+}
+
+// How many pieces of the table stand before the one that it names.
+fn key_at(model: &[i32], places: &[usize], width: usize, file: &[u8], start: usize) -> usize
+    requires { ⌜ KeyAt (now model) (now places) (now file) start width ⌝ }
+    ensures { λ r. ⌜ r ≡ pieceKey (now (model .entry)) (wordsAt (now (file .entry)) start (pieceFieldSize (now (model .entry)))) ⌝ }
+{
+    let l = number_at(file, start);
+    let f = number_at(file, start + wire::WORD_SIZE);
+    let k = index_at(file, start, width);
+    places[l] + (f * tables::per_face(model, l) + k)
+}
+
+// Its location, face and piece exist, and its key is at least the least that is due.
+fn place_ok(
+    model: &[i32],
+    places: &[usize],
+    width: usize,
+    file: &[u8],
+    start: usize,
+    least: usize,
+) -> bool
+    requires { ⌜ FieldsReady (now model) (now places) width × (start + payloadLength width ≤ length (now file)) ⌝ }
+    ensures { λ r. ⌜ r ≡ placeOk (now (model .entry)) (wordsAt (now (file .entry)) start (pieceFieldSize (now (model .entry)))) least ⌝ }
+{
     if !number_within(file, start, records::locations(model) - 1) {
         return false;
     }
-    if !number_within(file, start + wire::WORD_SIZE, 2 * n - 1) {
+    let faces = 2 * records::variables(model);
+    if !number_within(file, start + wire::WORD_SIZE, faces - 1) {
         return false;
     }
-    least <= key_at(file, start, n)
+    let per = tables::per_face(model, number_at(file, start));
+    if !index_within(file, start, width, per - 1) {
+        return false;
+    }
+    least <= key_at(model, places, width, file, start)
 }
 
-// Of each field in turn: whole, tag 5, due length? 36. Location and face exist, after the one before? 37
-fn faces_questions(model: &[i32], file: &[u8], count: usize) -> u32
-    requires { ⌜ Head (now model) ⌝ }
-    ensures { λ r. ⌜ r ≡ first count (faceQuestions (now (model .entry)) (now (file .entry))) ⌝ }
+// ---- the fields
+
+// Of each in turn: whole, tag 5, due length? 36. Location, face and piece exist, after the one before? 37
+fn pieces_questions(model: &[i32], places: &[usize], width: usize, file: &[u8], count: usize) -> u32
+    requires { ⌜ FieldsReady (now model) (now places) width ⌝ }
+    ensures { λ r. ⌜ r ≡ first count (pieceQuestions (now (model .entry)) (now (file .entry))) ⌝ }
 {
-    let n = records::variables(model);
-    let len = wire::payload_length(face_field_size(n));
+    let len = wire::payload_length(field_size(width, records::variables(model)));
     let mut least: usize = 0;
-    let mut at = faces_from();
+    let mut at = pieces_from();
     let mut i: usize = 0;
     while i < count {
         let field = wire::next_field(file, at);
@@ -103,10 +145,10 @@ fn faces_questions(model: &[i32], file: &[u8], count: usize) -> u32
         let wire::Field::Whole { start, next, .. } = field else {
             return 36;
         };
-        if !place_ok(model, file, start, least) {
+        if !place_ok(model, places, width, file, start, least) {
             return 37;
         }
-        least = key_at(file, start, n) + 1;
+        least = key_at(model, places, width, file, start) + 1;
         at = next;
         i = i + 1;
     }
@@ -114,8 +156,8 @@ fn faces_questions(model: &[i32], file: &[u8], count: usize) -> u32
 }
 
 // 35 to 38.
-fn fields_questions(model: &[i32], file: &[u8]) -> u32
-    requires { ⌜ Head (now model) ⌝ }
+fn fields_questions(model: &[i32], places: &[usize], width: usize, file: &[u8]) -> u32
+    requires { ⌜ FieldsReady (now model) (now places) width ⌝ }
     ensures { λ r. ⌜ r ≡ fieldsQuestions (now (model .entry)) (now (file .entry)) ⌝ }
 {
     let q = count_question(model, file);
@@ -123,45 +165,43 @@ fn fields_questions(model: &[i32], file: &[u8]) -> u32
         return q;
     }
     let count = count_of(file);
-    let size = face_field_size(records::variables(model));
-    let end = wire::field_place(faces_from(), size, count);
-    let faces = faces_questions(model, file, count);
-    model::or_else(faces, model::ask(file.len() == end, 38))
+    let size = field_size(width, records::variables(model));
+    let end = wire::field_place(pieces_from(), size, count);
+    let pieces = pieces_questions(model, places, width, file, count);
+    model::or_else(pieces, model::ask(file.len() == end, 38))
 }
 
 // ---- reading
 
-// The words of a present face: its box stands in the file from a position on.
-fn fill_face(file: &[u8], from: usize, n: usize, face: &mut [i32])
-    requires { ⌜ (from + payloadLength (2 * n) ≤ length (now file)) × (length (now face) ≡ faceSize n) × (n ≤ 6) ⌝ }
-    ensures { λ _. ⌜ now (face .exit) ≡ pos 1 ∷ wordsAt (now (file .entry)) from (2 * n) ⌝ }
+// The words of a present piece: its box stands in the file from a position on.
+fn fill_piece(file: &[u8], from: usize, n: usize, piece: &mut [i32])
+    requires { ⌜ (from + payloadLength (2 * n) ≤ length (now file)) × (length (now piece) ≡ faceSize n) × (n ≤ 6) ⌝ }
+    ensures { λ _. ⌜ now (piece .exit) ≡ pos 1 ∷ wordsAt (now (file .entry)) from (2 * n) ⌝ }
 {
-    face[0] = 1;
-    wire::copy_words(file, from, 2 * n, face, 1);
+    piece[0] = 1;
+    wire::copy_words(file, from, 2 * n, piece, 1);
 }
 
 // The table of a file that passes 35 to 38.
-fn fill(model: &[i32], file: &[u8], table: &mut [i32])
-    requires { ⌜ Head (now model) × (fieldsQuestions (now model) (now file) ≡ 0) × (length (now table) ≡ tableSize (now model)) ⌝ }
+fn fill(model: &[i32], places: &[usize], width: usize, file: &[u8], table: &mut [i32])
+    requires { ⌜ FieldsReady (now model) (now places) width × (fieldsQuestions (now model) (now file) ≡ 0) × (length (now table) ≡ tableSize (now model)) ⌝ }
     ensures { λ _. ⌜ now (table .exit) ≡ fileTable (now (model .entry)) (now (file .entry)) ⌝ }
 {
     integers::clear(table);
     let n = records::variables(model);
     let size = tables::face_size(n);
+    let box_from = wire::payload_length(width);
     let count = count_of(file);
-    let mut at = faces_from();
+    let mut at = pieces_from();
     let mut i: usize = 0;
     while i < count {
         let field = wire::next_field(file, at);
         let wire::Field::Whole { start, next, .. } = field else {
             return;
         };
-        let l = number_at(file, start);
-        let f = number_at(file, start + wire::WORD_SIZE);
-        let to = tables::face_at(model, l, f);
+        let to = key_at(model, places, width, file, start) * size;
         let end = to + size;
-        let from = start + wire::payload_length(PLACE_SIZE);
-        fill_face(file, from, n, &mut table[to..end]);
+        fill_piece(file, start + box_from, n, &mut table[to..end]);
         at = next;
         i = i + 1;
     }
@@ -172,14 +212,17 @@ pub fn read_faces(model: &[i32], file: &[u8], table: &mut [i32]) -> Count
     requires { ⌜ TableReady (now model) (now table) ⌝ }
     ensures { λ r. ⌜ record { count = r; words = now (table .exit) } ≡ readFaces (now (model .entry)) (now (file .entry)) (now (table .entry)) ⌝ }
 {
-    let q = fields_questions(model, file);
+    let width = place_size(model);
+    let mut places = [0usize; 65];
+    tables::places(model, &mut places);
+    let q = fields_questions(model, &places, width, file);
     if q != 0 {
         integers::clear(table);
         return Count::Refused(q);
     }
     let size = tables::table_size(model);
-    fill(model, file, &mut table[..size]);
-    if !checks::table_ok(model, &table[..size]) {
+    fill(model, &places, width, file, &mut table[..size]);
+    if !checks::table_ok(model, &places, &table[..size]) {
         integers::clear(table);
         return Count::Refused(32);
     }

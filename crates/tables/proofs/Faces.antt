@@ -8,17 +8,20 @@ use native.Mathlib.Nat.{mul-le-mul}
 use native.Mathlib.Numerals.{add-one}
 use native.Mathlib.Omega.{arith}
 use lib.IntN.{ℤ, pos}
+use lib.Signed.{mag, ltZ}
 use lib.ListN.{length, drop, take, set, getD-replicate}
 use lib.Seq.{getD-append-add, getD-drop, take-suc, take-all, length-take-le, lt-length-set, getD-set-same}
 use Rattle.integers.specs.Words.{word, eqZ, onto}
 use Rattle.integers.specs.Counted.{cat}
 use Rattle.integers.specs.Rounding.{maxZ, minZ}
+use Rattle.integers.proofs.Signed.{cond-case}
 use Rattle.integers.proofs.Buffers.{onto-set, onto-two, onto-all, cat-more}
 use Rattle.plant.specs.Box.{low, high, boxBy, boxAt, hull, Face, absent, present, faceWords, join}
-use Rattle.plant.specs.Model.{n#, L#}
-use Rattle.plant.specs.Tables.{wordsPerLocation, faceSize, tableSize, faceAt, faceRead}
-use Rattle.plant.proofs.Boxes.{low-boxBy, high-boxBy, length-boxBy, box-ext, low-boxAt, high-boxAt, length-boxAt, box-ends, length-hull}
+use Rattle.plant.specs.Tables.{wordsPerLocation, faceSize, tableSize, faceRead}
+use Rattle.plant.proofs.Boxes.{low-boxBy, high-boxBy, length-boxBy, box-ext, low-boxAt, high-boxAt, length-boxAt, box-ends, length-face, length-hull}
+use Rattle.plant.proofs.Tables as P
 use Rattle.records.specs.Whole.{Head}
+use Rattle.tables.specs.Room.{IsFace, joinedWith}
 
 -- ---- a buffer that is filled from the front
 
@@ -64,6 +67,15 @@ place-end n from d face e h k =
     ∙ ap (λ (s : List ℤ). pos 1 ∷ s) (sym (box-front n from h))
 
 -- ---- a present face is widened
+
+-- the smaller and the larger of two words are words
+pub min-small : (x y : ℤ) → mag x < 2147483648 → mag y < 2147483648 → mag (minZ x y) < 2147483648
+unfolding minZ
+min-small x y p q = cond-case (ltZ x y) x y (λ z. mag z < 2147483648) (λ _. p) (λ _. q)
+
+pub max-small : (x y : ℤ) → mag x < 2147483648 → mag y < 2147483648 → mag (maxZ x y) < 2147483648
+unfolding maxZ
+max-small x y p q = cond-case (ltZ x y) y x (λ z. mag z < 2147483648) (λ _. q) (λ _. p)
 
 pub widen-start : (a b d : List ℤ) → 0 < length d → word d 0 ≡ pos 1 → d ≡ onto (pos 1 ∷ hull 0 a b) d
 unfolding hull boxBy cat
@@ -139,43 +151,34 @@ pub join-words : (n : ℕ) (x g : Face) → faceWords n (join n (faceRead n (fac
 join-words n absent g = ap (λ (f : Face). faceWords n (join n f g)) (read-absent n)
 join-words n (present a) g = ap (λ (f : Face). faceWords n (join n f g)) (read-present n a) ∙ join-ends n a g
 
--- the same for a caller's loop
-pub joined : (n : ℕ) (x g : Face) {entry exit : List ℤ} → entry ≡ faceWords n x → exit ≡ faceWords n (join n (faceRead n entry 0) g) → exit ≡ faceWords n (join n x g)
-joined n x g e f = f ∙ ap (λ (s : List ℤ). faceWords n (join n (faceRead n s 0) g)) e ∙ join-words n x g
+-- the words of a face are those of a face
+pub is-face : (n : ℕ) (x : Face) {s : List ℤ} → s ≡ faceWords n x → IsFace n s
+is-face n absent e = rw e (ap (faceWords n) (read-absent n))
+is-face n (present a) e = rw e (ap (faceWords n) (read-present n a) ∙ same-words n (boxBy n (low a) (high a)) a (low-boxBy n (low a) (high a)) (high-boxBy n (low a) (high a)))
 
--- ---- where a face begins
+pub face-long : (n : ℕ) {s : List ℤ} → IsFace n s → length s ≡ faceSize n
+face-long n {s} e = ap length (sym e) ∙ length-face n (faceRead n s 0)
+
+-- and join as the face does
+pub joined-words : (n : ℕ) (x g : Face) {s : List ℤ} → s ≡ faceWords n x → joinedWith n s g ≡ faceWords n (join n x g)
+joined-words n x g e = rw e (join-words n x g)
+
+-- joined with nothing it stays
+pub join-absent : (n : ℕ) (x : Face) → join n x absent ≡ x
+unfolding join
+join-absent n absent = refl
+join-absent n (present a) = refl
+
+pub nothing-joined : (n : ℕ) (g : Face) {s : List ℤ} → IsFace n s → g ≡ absent → s ≡ joinedWith n s g
+nothing-joined n g {s} f e = sym (ap (joinedWith n s) e ∙ ap (faceWords n) (join-absent n (faceRead n s 0)) ∙ f)
+
+-- ---- how many words
 
 -- words per location grow with the number of variables
 pub words-grow : (n k : ℕ) → n ≤ k → wordsPerLocation n ≤ wordsPerLocation k
 unfolding wordsPerLocation
 words-grow n k h = let a : 2 * n ≤ 2 * k = omega arith in let b : faceSize n ≤ faceSize k = omega arith in mul-le-mul a b
 
--- within its location
-pub within-small : (n f : ℕ) → n ≤ 6 → f ≤ 12 → f * faceSize n ≤ 156
-within-small n f q h = let b : faceSize n ≤ 13 = omega arith in let g : f * faceSize n ≤ 12 * 13 = mul-le-mul h b in omega arith
-
-module _ (m : List ℤ) where
-  -- in the table: the faces of a location behind those of the locations before, and a face behind those before it
-  pub faces-begin : (l : ℕ) → l * wordsPerLocation (n# m) ≡ faceAt m l 0
-  unfolding faceAt
-  faces-begin l = omega arith
-
-  pub face-begins : (l f : ℕ) → faceAt m l 0 + f * faceSize (n# m) ≡ faceAt m l f
-  unfolding faceAt
-  face-begins l f = omega arith
-
-  -- the table ends where a location behind the last would begin
-  pub table-end : faceAt m (L# m) 0 ≡ tableSize m
-  unfolding faceAt tableSize
-  table-end = omega arith
-
-  module _ (h : Head m) where
-    pub faces-small : (l : ℕ) → l ≤ 64 → faceAt m l 0 ≤ 9984
-    unfolding wordsPerLocation
-    faces-small l k =
-        let a : l * wordsPerLocation (n# m) ≤ 64 * 156 = mul-le-mul k (words-grow (n# m) 6 (h .n-small)) in
-        omega (arith, faces-begin l)
-
-    -- the largest table: 64 locations of 6 variables
-    pub table-most : tableSize m ≤ 9984
-    table-most = omega (arith, table-end, faces-small (L# m) (h .L-small))
+-- the largest table: 64 locations of 6 variables, all cut
+pub table-most : (m : List ℤ) → Head m → tableSize m ≤ 19968
+table-most m h = P.table-most m (h .n-small) (h .L-small)

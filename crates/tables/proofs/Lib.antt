@@ -1,1 +1,3 @@
 pub mod Faces
+pub mod Sizes
+pub mod Cutting

@@ -130,7 +130,7 @@ pub fn field_length(w: usize) -> usize
 
 // Where field i of a run of such fields begins.
 pub fn field_place(from: usize, w: usize, i: usize) -> usize
-    requires { ⌜ (from ≤ 1000000) × (w ≤ 37) × (i ≤ 768) ⌝ }
+    requires { ⌜ (from ≤ 1000000) × (w ≤ 37) × (i ≤ 1536) ⌝ }
     ensures { λ r. ⌜ r ≡ fieldPlace from w i ⌝ }
 {
     from + i * field_length(w)

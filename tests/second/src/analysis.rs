@@ -39,7 +39,7 @@ pub fn analysis(model: &[i32], limit: u32, table: &mut [i32], work: &mut [i32]) 
 
 /// Questions 20 and 21.
 pub fn ask_buffers(plant: &Plant, table: &[i32], work: &[i32]) -> Result<(), Refusal> {
-    let size = plant.sizes.table_words();
+    let size = plant.table_words();
     if table.len() < size {
         return Err(20);
     }
@@ -66,7 +66,7 @@ fn search(
     work: &mut [i32],
     touched: fn(&Plant, &[i32]) -> bool,
 ) -> (Answer, u32) {
-    let size = plant.sizes.table_words();
+    let size = plant.table_words();
     let mut k = 0u32;
     let answer = {
         // The two buffers take turns; `in_work` tells where table k stands.

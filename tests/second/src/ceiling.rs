@@ -1,6 +1,6 @@
-//! The ceiling: over all faces, 1 plus the invariant's widths of the other variables.
+//! The ceiling: over all pieces that may be present, 1 plus their widths of the variables other than d.
 
-use crate::model::Plant;
+use crate::model::{Piece, Plant};
 use crate::Refusal;
 
 pub fn ceiling(model: &[i32]) -> Result<u64, Refusal> {
@@ -8,16 +8,22 @@ pub fn ceiling(model: &[i32]) -> Result<u64, Refusal> {
 }
 
 pub fn of_plant(plant: &Plant) -> u64 {
-    let n = plant.sizes.n;
     let mut sum = 0u64;
-    for l in 0..plant.sizes.locations {
-        let invariant = plant.location(l).invariant;
-        for face in 0..2 * n {
-            sum += 1;
-            for i in (0..n).filter(|&i| i != face / 2) {
-                sum += (invariant[2 * i + 1] as i64 - invariant[2 * i] as i64) as u64;
+    for location in 0..plant.sizes.locations {
+        for face in 0..plant.sizes.faces() {
+            for piece in 0..plant.pieces_of(location) {
+                sum += share(plant, Piece { location, face, piece });
             }
         }
     }
     sum
+}
+
+/// What a piece adds: nothing if it is always absent.
+fn share(plant: &Plant, piece: Piece) -> u64 {
+    let Some(widest) = plant.widest(piece) else {
+        return 0;
+    };
+    let others = (0..plant.sizes.n).filter(|&i| i != piece.face / 2);
+    1 + others.map(|i| (widest[2 * i + 1] as i64 - widest[2 * i] as i64) as u64).sum::<u64>()
 }

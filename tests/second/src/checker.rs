@@ -6,10 +6,10 @@ use crate::Refusal;
 
 pub fn checker(model: &[i32], list: &[i32]) -> Result<(), Refusal> {
     let plant = Plant::from_words(model)?;
-    if list.len() < plant.sizes.table_words() {
+    if list.len() < plant.table_words() {
         return Err(20);
     }
-    ask_table(&plant, &list[..plant.sizes.table_words()])
+    ask_table(&plant, &list[..plant.table_words()])
 }
 
 /// Questions 32, 33 and 34 of exactly the table's words.

@@ -4,13 +4,14 @@
 
 use std::fmt;
 
+use crate::analysis::{run_quick, Answer};
 use crate::coverage::{note, Counts};
+use crate::damage::{damage_bytes, damage_faces, damaged_cuts, damaged_table_file, edited_model_file};
 use crate::desk::Desk;
 use crate::exports::{Call, Input, Lent};
 use crate::files::{field, model_file, parse_table, table_file};
 use crate::generate::{
-    close, damage_bytes, damage_faces, damaged_table_file, edited_model_file, extreme_model, long_model, pass_budget,
-    random_limit, random_model, random_table,
+    close, extreme_model, helped_model, long_model, pass_budget, random_limit, random_model, random_table,
 };
 use crate::host;
 use crate::model::Plant;
@@ -18,7 +19,7 @@ use crate::random::Random;
 use crate::simulate::travel;
 
 /// Room for the longest table file.
-pub const MOST_ROOM: usize = 7 + 64 * 12 * 59;
+pub const MOST_ROOM: usize = 7 + 64 * 24 * 63;
 
 /// Bytes on both sides of a lent buffer that nobody may touch, unless the comparison is tight.
 const MARGIN: usize = 32;
@@ -28,6 +29,8 @@ const RUNS: u64 = 2;
 
 /// One model in so many has its levels and rates at both ends of what is allowed.
 const EXTREME_ONE_IN: u64 = 20;
+/// One model in so many is made to be safe by its cuts.
+const HELPED_ONE_IN: u64 = 10;
 /// One model in so many takes thousands of passes; none where the comparison is tight.
 const LONG_ONE_IN: u64 = 150;
 
@@ -76,7 +79,20 @@ pub(crate) fn hex(bytes: &[u8]) -> String {
 /// The table file at the beginning of the buffer of an answered decide call.
 pub fn written_table<'a>(plant: &Plant, buffer: &'a [u8]) -> &'a [u8] {
     let count = i32::from_be_bytes([buffer[3], buffer[4], buffer[5], buffer[6]]) as usize;
-    &buffer[..7 + count * (11 + 8 * plant.sizes.n)]
+    &buffer[..7 + count * (3 + 4 * plant.field_words())]
+}
+
+/// The same model without its cuts is answered unknown, within the passes that one may ask for.
+fn unknown_without_cuts(plant: &Plant) -> bool {
+    if !plant.any_cut() {
+        return false;
+    }
+    let mut words = plant.words().to_vec();
+    let from = plant.sizes.cut_at(0);
+    words[from..].chunks_exact_mut(2).for_each(|cut| cut.copy_from_slice(&[-1, 0]));
+    let whole = Plant::from_words(&words).expect("a model passes its questions without its cuts too");
+    let (mut table, mut work) = (vec![0; whole.table_words()], vec![0; whole.table_words()]);
+    run_quick(&whole, pass_budget(&whole), &mut table, &mut work).0 == Answer::Unknown
 }
 
 /// Bytes at some offset in a heap block that ends with them, to vary their address.
@@ -203,6 +219,8 @@ impl Comparison {
     pub fn random_case(&mut self, damaged: u64) -> Result<(), Difference> {
         let words = if self.random.chance(1, EXTREME_ONE_IN) {
             extreme_model(&mut self.random).words()
+        } else if self.random.chance(1, HELPED_ONE_IN) {
+            helped_model(&mut self.random).words()
         } else {
             random_model(&mut self.random).words()
         };
@@ -224,7 +242,7 @@ impl Comparison {
 
     fn model_case(&mut self, plant: &Plant, limit: u32, damaged: u64) -> Result<(), Difference> {
         let model = model_file(plant.words());
-        let room = plant.sizes.table_file_room();
+        let room = plant.table_file_room();
         self.counts.note_model(plant, limit);
         let length = match self.random.below(10) {
             0 => self.random.below(room),
@@ -238,11 +256,11 @@ impl Comparison {
             self.answer_case(plant, &model, code, written_table(plant, &buffer))?;
         }
 
-        let mut rest = vec![0; plant.sizes.table_words()];
-        close(plant, &mut rest, pass_budget(&plant.sizes));
+        let mut rest = vec![0; plant.table_words()];
+        close(plant, &mut rest, pass_budget(plant));
         let mut other = random_table(&mut self.random, plant);
         if self.random.chance(1, 2) {
-            close(plant, &mut other, pass_budget(&plant.sizes).min(50));
+            close(plant, &mut other, pass_budget(plant).min(50));
         }
         for (label, table) in [("the table at rest", &rest), ("a random table", &other)] {
             let checked = self.check(label, &model, &table_file(plant, table))?;
@@ -268,6 +286,7 @@ impl Comparison {
                 let travelled = travel(plant, &table, &mut self.random, RUNS);
                 self.counts.safe_runs.add(&travelled);
                 self.counts.accepted += 1;
+                self.counts.extreme("safe by its cuts, unknown without them", unknown_without_cuts(plant));
                 if checked != 100 || travelled.forbidden > 0 || travelled.unreached > 0 {
                     return Err(Difference {
                         text: format!("safe, but check gives {checked} and {travelled:?}\nmodel {}", hex(model)),
@@ -312,9 +331,9 @@ impl Comparison {
             let length = match random.below(8) {
                 0 => random.below(200),
                 1 => MOST_ROOM,
-                _ => plant.sizes.table_file_room(),
+                _ => plant.table_file_room(),
             };
-            let limit = random.below(pass_budget(&plant.sizes).min(30) as usize) as u32;
+            let limit = random.below(pass_budget(plant).min(30) as usize) as u32;
             self.decide("a damaged model", &damaged, length, limit)?;
         }
         Ok(())
@@ -341,7 +360,12 @@ impl Comparison {
 
     pub(crate) fn damaged_model(&mut self, plant: &Plant, model: &[u8]) -> Vec<u8> {
         let random = &mut self.random;
-        match random.below(20) {
+        match random.below(26) {
+            20.. => {
+                let (bytes, kind) = damaged_cuts(random, plant);
+                self.note_damage("model", kind);
+                bytes
+            }
             0..=11 => {
                 let bytes = edited_model_file(random, plant);
                 self.note_damage("model", "words at the edge of a question");

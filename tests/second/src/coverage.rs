@@ -4,18 +4,20 @@
 use std::collections::BTreeMap;
 
 use crate::ceiling;
+use crate::damage::{BYTE_DAMAGE, CUT_DAMAGE, FACES_DAMAGE, FIELD_DAMAGE, TABLE_DAMAGE};
 use crate::exports::Call;
-use crate::generate::{BYTE_DAMAGE, FACES_DAMAGE, FIELD_DAMAGE, TABLE_DAMAGE};
 use crate::lending::{DESK_CALLS, DESK_STARTS, LENGTH_KINDS};
-use crate::model::{ordered_inside, Location, Plant, LEVEL, MAX_FORBIDDEN, MAX_LOCATIONS, MAX_SWITCHES, RATE};
+use crate::model::{
+    ordered_inside, Cut, Location, Plant, Switch, LEVEL, MAX_FORBIDDEN, MAX_LOCATIONS, MAX_SWITCHES, RATE,
+};
 use crate::simulate::Travelled;
 
 /// The numbers that each call can give: refusals, then answers.
-pub const DECIDE_NUMBERS: [u32; 20] = [1, 2, 3, 4, 6, 7, 8, 11, 12, 13, 14, 15, 16, 17, 18, 19, 39, 100, 101, 102];
-pub const CHECK_NUMBERS: [u32; 24] =
-    [1, 2, 3, 4, 6, 7, 8, 11, 12, 13, 14, 15, 16, 17, 18, 19, 32, 33, 34, 35, 36, 37, 38, 100];
+pub const DECIDE_NUMBERS: [u32; 21] = [1, 2, 3, 4, 6, 7, 8, 11, 12, 13, 14, 15, 16, 17, 18, 19, 46, 39, 100, 101, 102];
+pub const CHECK_NUMBERS: [u32; 25] =
+    [1, 2, 3, 4, 6, 7, 8, 11, 12, 13, 14, 15, 16, 17, 18, 19, 46, 32, 33, 34, 35, 36, 37, 38, 100];
 
-pub const MODEL_KINDS: [&str; 15] = [
+pub const MODEL_KINDS: [&str; 23] = [
     "a wall of zero width",
     "a guard that sticks out",
     "a reset box that sticks out",
@@ -31,6 +33,14 @@ pub const MODEL_KINDS: [&str; 15] = [
     "64 forbidden boxes",
     "a level of 1,000,000",
     "a rate of 1,000",
+    "a cut at the lowest value that it can have",
+    "a cut at the highest value that it can have",
+    "some locations cut, some not",
+    "every location cut",
+    "a switch from the cut variable's own wall",
+    "a switch from a face in two pieces",
+    "a switch onto a face in two pieces",
+    "a start box on both sides of its location's cut",
 ];
 
 pub const LIMIT_KINDS: [&str; 5] = ["0", "1 to 3", "4 to the ceiling", "above the ceiling", "4,294,967,295"];
@@ -41,15 +51,15 @@ pub const OTHER_DAMAGE: [&str; 4] =
 
 /// Damage to model words.
 pub const WORDS_DAMAGE: [&str; 5] = [
-    "cut anywhere",
-    "cut at the head",
+    "ends anywhere",
+    "ends at the head",
     "random words",
     "edited, and words behind it",
     "words at the edge of a question",
 ];
 
 /// Extremes, and how often each must come up under the full counts.
-pub const EXTREMES: [(&str, u64); 9] = [
+pub const EXTREMES: [(&str, u64); 14] = [
     ("rates of -1,000 and 1,000 in one location", 300),
     ("a variable from -1,000,000 to 1,000,000", 300),
     ("such rates and such a variable in one location", 300),
@@ -59,6 +69,11 @@ pub const EXTREMES: [(&str, u64); 9] = [
     ("decide of more than 1,500 passes", 50),
     ("qii_analyse of more than 1,500 passes", 50),
     ("qii_desk of more than 1,500 passes", 50),
+    ("64 locations cut", 50),
+    ("safe by its cuts, unknown without them", 150),
+    ("a face with its first piece alone", 1_000),
+    ("a face with its second piece alone", 1_000),
+    ("a face with both its pieces", 1_000),
 ];
 
 /// Counts by kind.
@@ -70,8 +85,9 @@ pub struct Counts {
     pub fixed: u64,
     pub models: u64,
     pub damaged: u64,
-    /// Models by number of variables (index n).
+    /// Models by number of variables (index n), all and those with cuts.
     pub by_n: [u64; 7],
+    pub cut_by_n: [u64; 7],
     pub model_kinds: Tally,
     pub limits: Tally,
     pub damage: Tally,
@@ -106,6 +122,7 @@ impl Counts {
     pub fn note_model(&mut self, plant: &Plant, limit: u32) {
         self.models += 1;
         self.by_n[plant.sizes.n] += 1;
+        self.cut_by_n[plant.sizes.n] += plant.any_cut() as u64;
         for kind in model_kinds(plant) {
             note(&mut self.model_kinds, kind);
         }
@@ -129,6 +146,26 @@ impl Counts {
         self.extreme(EXTREMES[1].0, locations().any(|l| levels(&l)));
         self.extreme(EXTREMES[2].0, locations().any(|l| rates(&l) && levels(&l)));
         self.extreme(EXTREMES[3].0, locations().any(|l| wide_rates(&l)));
+        self.extreme("64 locations cut", locations().filter(|l| l.cut.is_some()).count() == MAX_LOCATIONS);
+    }
+
+    /// Counts what came up among the faces in two pieces of an answer's table.
+    pub fn note_pieces(&mut self, plant: &Plant, table: &[i32]) {
+        let mut seen = [false; 3];
+        for l in (0..plant.sizes.locations).filter(|&l| plant.cut(l).is_some()) {
+            for face in 0..plant.sizes.faces() {
+                let pieces = &table[plant.face_places(l, face)];
+                match (in_two_pieces(plant, l, face), pieces[0], pieces[plant.sizes.face_words()]) {
+                    (true, 1, 0) => seen[0] = true,
+                    (true, 0, 1) => seen[1] = true,
+                    (true, 1, 1) => seen[2] = true,
+                    _ => {}
+                }
+            }
+        }
+        self.extreme("a face with its first piece alone", seen[0]);
+        self.extreme("a face with its second piece alone", seen[1]);
+        self.extreme("a face with both its pieces", seen[2]);
     }
 
     /// Extremes that did not come up as often as they must under the full counts.
@@ -163,6 +200,7 @@ impl Counts {
         all_lengths().iter().for_each(|kind| expect(kind, self.lengths.contains_key(kind)));
         DESK_STARTS.iter().chain(&DESK_CALLS).for_each(|kind| expect(kind, self.desks.contains_key(*kind)));
         (1..=6).for_each(|n| expect(&format!("n {n}"), self.by_n[n] > 0));
+        (1..=6).for_each(|n| expect(&format!("n {n} with a cut"), self.cut_by_n[n] > 0));
         MODEL_KINDS.iter().for_each(|kind| expect(kind, self.model_kinds.contains_key(*kind)));
         LIMIT_KINDS.iter().for_each(|kind| expect(&format!("limit {kind}"), self.limits.contains_key(*kind)));
         all_damage().iter().for_each(|kind| expect(kind, self.damage.contains_key(kind)));
@@ -176,7 +214,7 @@ impl Counts {
 
 /// Every kind of damage, each with what is damaged.
 pub fn all_damage() -> Vec<String> {
-    let model = BYTE_DAMAGE.iter().chain(&OTHER_DAMAGE).map(|kind| format!("model: {kind}"));
+    let model = BYTE_DAMAGE.iter().chain(&CUT_DAMAGE).chain(&OTHER_DAMAGE).map(|kind| format!("model: {kind}"));
     let table = BYTE_DAMAGE.iter().chain(FACES_DAMAGE).chain(&FIELD_DAMAGE).map(|kind| format!("table: {kind}"));
     let model_words = WORDS_DAMAGE.iter().map(|kind| format!("model words: {kind}"));
     let table_words = TABLE_DAMAGE.iter().map(|kind| format!("table words: {kind}"));
@@ -192,6 +230,11 @@ pub fn all_lengths() -> Vec<String> {
         }
     }
     kinds
+}
+
+/// Is a face of location l kept as two pieces?
+fn in_two_pieces(plant: &Plant, l: usize, face: usize) -> bool {
+    plant.cut(l).is_some_and(|cut| cut.variable != face / 2)
 }
 
 fn limit_kind(plant: &Plant, limit: u32) -> &'static str {
@@ -211,7 +254,16 @@ fn model_kinds(plant: &Plant) -> Vec<&'static str> {
     let switches = || (0..sizes.switches).map(|s| plant.switch(s));
     let invariant = |l: usize| plant.location(l).invariant;
     let starts = locations().filter(|l| l.started).count();
-    let never_lands = |s: &crate::model::Switch| {
+    let cuts = locations().filter(|l| l.cut.is_some()).count();
+    let cut_at = |side: usize, by: i32| {
+        locations().any(|l| l.cut.is_some_and(|cut| cut.value == l.invariant[2 * cut.variable + side] + by))
+    };
+    let starts_on_both_sides = |l: Location| {
+        let range = |cut: Cut| &l.start[2 * cut.variable..][..2];
+        l.started && l.cut.is_some_and(|cut| range(cut)[0] < cut.value && cut.value < range(cut)[1])
+    };
+    let on_own_wall = |s: &Switch| plant.cut(s.source).is_some_and(|cut| cut.variable == s.d);
+    let never_lands = |s: &Switch| {
         let wall = s.guard[2 * s.d];
         s.mask >> s.d & 1 == 0 && (wall < s.reset[2 * s.d] || s.reset[2 * s.d + 1] < wall)
     };
@@ -231,6 +283,14 @@ fn model_kinds(plant: &Plant) -> Vec<&'static str> {
         sizes.forbidden == MAX_FORBIDDEN,
         locations().any(|l| l.invariant.iter().any(|level| level.abs() == LEVEL)),
         locations().any(|l| l.rates.iter().any(|rate| rate.abs() == RATE)),
+        cut_at(0, 1),
+        cut_at(1, -1),
+        0 < cuts && cuts < sizes.locations,
+        cuts == sizes.locations,
+        switches().any(|s| on_own_wall(&s)),
+        switches().any(|s| in_two_pieces(plant, s.source, 2 * s.d)),
+        switches().any(|s| in_two_pieces(plant, s.target, 2 * s.d)),
+        locations().any(starts_on_both_sides),
     ];
     MODEL_KINDS.into_iter().zip(is).filter(|(_, is)| *is).map(|(kind, _)| kind).collect()
 }

@@ -29,6 +29,8 @@ pub struct Draft {
     pub switches: Vec<SwitchDraft>,
     /// Location and box.
     pub forbidden: Vec<(usize, Vec<i32>)>,
+    /// Location, variable and value; at most one for each location.
+    pub cuts: Vec<(usize, usize, i32)>,
 }
 
 impl Draft {
@@ -58,18 +60,24 @@ impl Draft {
             words.push(*location as i32);
             words.extend(bounds);
         }
+        let first = words.len();
+        words.extend([-1, 0].repeat(self.locations.len()));
+        for &(location, variable, value) in &self.cuts {
+            words[first + 2 * location] = variable as i32;
+            words[first + 2 * location + 1] = value;
+        }
         words
     }
 }
 
-/// A grid of cells. `cuts[i]` are the rising values at which variable i is cut, so that it
-/// has one cell fewer than cuts. Variable 0 runs fastest in the numbers of the locations.
+/// A grid of cells. `walls[i]` are the rising values that variable i's cells end at, so that it
+/// has one cell fewer than walls. Variable 0 runs fastest in the numbers of the locations.
 /// A switch leads across each inner wall in every direction in which the rates can move;
 /// it needs its wall, resets nothing, and arrives anywhere in the target. No more than the
-/// allowed number of switches are made. No start and no forbidden box.
-pub fn grid(cuts: &[Vec<i32>], mut rates: impl FnMut(&[i32]) -> Vec<i32>) -> Draft {
-    let n = cuts.len();
-    let counts: Vec<usize> = cuts.iter().map(|values| values.len() - 1).collect();
+/// allowed number of switches are made. No start, no forbidden box and no cut.
+pub fn grid(walls: &[Vec<i32>], mut rates: impl FnMut(&[i32]) -> Vec<i32>) -> Draft {
+    let n = walls.len();
+    let counts: Vec<usize> = walls.iter().map(|values| values.len() - 1).collect();
     let cells: usize = counts.iter().product();
     let mut draft = Draft { n, ..Draft::default() };
     for cell in 0..cells {
@@ -78,8 +86,8 @@ pub fn grid(cuts: &[Vec<i32>], mut rates: impl FnMut(&[i32]) -> Vec<i32>) -> Dra
         for i in 0..n {
             let at = rest % counts[i];
             rest /= counts[i];
-            invariant.push(cuts[i][at]);
-            invariant.push(cuts[i][at + 1]);
+            invariant.push(walls[i][at]);
+            invariant.push(walls[i][at + 1]);
         }
         let rates = rates(&invariant);
         draft.locations.push(LocationDraft { invariant, rates, start: None });

@@ -13,6 +13,7 @@ pub fn plant_p() -> Draft {
         }],
         switches: vec![],
         forbidden: vec![(0, vec![9, 10, 0, 4])],
+        cuts: vec![],
     }
 }
 
@@ -29,6 +30,30 @@ pub fn plant_p_table() -> Vec<i32> {
 /// P's wider table, accepted too: face 0 with y 2..10, face 1 with y 10, face 3 with x 0..10.
 pub fn plant_p_wider() -> Vec<i32> {
     vec![1, 0, 0, 2, 10, 1, 10, 10, 10, 10, 0, 0, 0, 0, 0, 1, 0, 10, 10, 10]
+}
+
+/// P cut at x = 5 (document 02, T-12). The face on y = 10, x 2..8, comes in two pieces.
+pub fn plant_p_cut() -> Draft {
+    Draft { cuts: vec![(0, 0, 5)], ..plant_p() }
+}
+
+/// The answer's table of P cut at x = 5: of each face the first piece, then the second.
+pub fn plant_p_cut_table() -> Vec<i32> {
+    let mut table = vec![0; 40];
+    table[..5].copy_from_slice(&[1, 0, 0, 2, 5]);
+    table[30..].copy_from_slice(&[1, 2, 5, 10, 10, 1, 5, 8, 10, 10]);
+    table
+}
+
+/// The draft with every location cut in the middle of one variable, the next one from location to
+/// location.
+pub fn all_cut(mut draft: Draft) -> Draft {
+    for (l, location) in draft.locations.iter().enumerate() {
+        let variable = l % draft.n;
+        let (low, high) = (location.invariant[2 * variable], location.invariant[2 * variable + 1]);
+        draft.cuts.push((l, variable, low + (high - low) / 2));
+    }
+    draft
 }
 
 /// One location of n variables, all ranges 0..0, without a start. Words and file are whole for n 7
@@ -50,6 +75,7 @@ pub fn figure_1() -> Draft {
         }],
         switches: vec![],
         forbidden: vec![],
+        cuts: vec![],
     }
 }
 
@@ -65,8 +91,8 @@ pub fn divided_box(start: (i32, i32)) -> Draft {
     boxes_of(&[vec![0, 2, 4], vec![0, 2, 4], vec![0, 8]], start)
 }
 
-fn boxes_of(cuts: &[Vec<i32>], start: (i32, i32)) -> Draft {
-    let mut draft = grid(cuts, |_| vec![1; 6]);
+fn boxes_of(walls: &[Vec<i32>], start: (i32, i32)) -> Draft {
+    let mut draft = grid(walls, |_| vec![1; 6]);
     draft.locations[0].start = Some(vec![start.0, start.1, 0, 0, 0, 0]);
     draft
 }
@@ -100,9 +126,9 @@ fn root(value: i32, up: bool) -> i32 {
 /// Start: x1 40..45, x2 5..8. Forbidden: tank 2 at its rim, x2 from `rim` to 60, in any cell.
 pub fn two_tank(rim: i32) -> Draft {
     let (k1, k3) = (500, 20);
-    let cuts: Vec<i32> = (0..=6).map(|i| 10 * i).collect();
+    let walls: Vec<i32> = (0..=6).map(|i| 10 * i).collect();
     let flow = |h: i32, up: bool| root(10_000 * h.max(0), up);
-    let mut draft = grid(&[cuts.clone(), cuts], |cell| {
+    let mut draft = grid(&[walls.clone(), walls], |cell| {
         let (low_1, high_1, low_2, high_2) = (cell[0], cell[1], cell[2], cell[3]);
         let (least_head, most_head) =
             if high_2 <= k3 { (low_1, high_1) } else { (low_1 - high_2 + k3, high_1 - low_2 + k3) };
@@ -130,6 +156,65 @@ pub fn guarded_box(divided: bool) -> Draft {
         }
     }
     draft
+}
+
+/// Section 3.4's divided box from the two ends of its start, x = 2 and x = 0, y = t = 0: the cell of the
+/// start stands twice, as location 0 and location 4. Forbidden is t 0..1 on the far wall x = 4; runs arrive
+/// there at t = 2 and t = 4.
+///
+/// Both ends arrive on x = 2 of location 1, at y = t = 0 and at y = t = 2. One box for both is the report's
+/// F1, which leads to its F2, and the answer is unknown. With location 1 cut at y = 1 they stay two, and it
+/// is safe.
+pub fn box_ends(cut: bool) -> Draft {
+    let mut draft = divided_box((2, 2));
+    let mut other_end = draft.locations[0].clone();
+    other_end.start = Some(vec![0; 6]);
+    draft.locations.push(other_end);
+    for mut switch in draft.switches.clone().into_iter().filter(|switch| switch.source == 0) {
+        switch.source = 4;
+        draft.switches.push(switch);
+    }
+    draft.forbidden = vec![(1, vec![4, 4, 0, 4, 0, 1]), (3, vec![4, 4, 0, 4, 0, 1])];
+    if cut {
+        draft.cuts = vec![(1, 1, 1)];
+    }
+    draft
+}
+
+/// Three tanks: a measuring tank (variable 0) and two vats (1 and 2), all 0..10. In location 0 the first
+/// recipe waits for the measuring tank to fill, with little in vat 1 and much in vat 2; in location 1 the
+/// second, the other way round. In location 2 the measuring tank runs out into the vats, and each rises by
+/// up to 2. Forbidden there: both vats from 6 up, more than the drain takes.
+///
+/// One box for both recipes on the full measuring tank has much in both vats, and the answer is unknown;
+/// cut at 5 of vat 1, it is safe.
+pub fn three_tanks(cut: bool) -> Draft {
+    let location = |rates: [i32; 6], start: Option<[i32; 6]>| LocationDraft {
+        invariant: [0, 10].repeat(3),
+        rates: rates.to_vec(),
+        start: start.map(|start| start.to_vec()),
+    };
+    let pour = |source| SwitchDraft {
+        source,
+        target: 2,
+        d: 0,
+        source_side: 1,
+        target_side: 1,
+        mask: 0,
+        guard: vec![10, 10, 0, 10, 0, 10],
+        reset: vec![10, 10, 0, 10, 0, 10],
+    };
+    Draft {
+        n: 3,
+        locations: vec![
+            location([1, 1, 0, 0, 0, 0], Some([0, 0, 1, 2, 6, 7])),
+            location([1, 1, 0, 0, 0, 0], Some([0, 0, 6, 7, 1, 2])),
+            location([-5, -5, 0, 1, 0, 1], None),
+        ],
+        switches: vec![pour(0), pour(1)],
+        forbidden: vec![(2, vec![0, 10, 6, 10, 6, 10])],
+        cuts: if cut { vec![(2, 1, 5)] } else { vec![] },
+    }
 }
 
 /// A water-level monitor (Alur and others, source 000's reference 1). The level rises by 1
@@ -188,7 +273,14 @@ pub fn water_level(lag: i32) -> Draft {
             (2, vec![121, 150, 0, 0]),
             (3, vec![0, 9, 0, lag]),
         ],
+        cuts: vec![],
     }
+}
+
+/// The water-level monitor with cuts in two of its four locations: location 1, where off is called for,
+/// at clock 10, and location 2, where the pump is off, at level 100.
+pub fn water_level_cut() -> Draft {
+    Draft { cuts: vec![(1, 1, 10), (2, 0, 100)], ..water_level(20) }
 }
 
 /// A vat that is filled by one dose a stroke, up to 5,000: the stroke x runs from 0 to 1 and
@@ -213,6 +305,7 @@ pub fn dosing(forbidden: i32) -> Draft {
             reset: vec![0, 0, 0, 5_000],
         }],
         forbidden: vec![(0, vec![0, 1, forbidden, 5_000])],
+        cuts: vec![],
     }
 }
 
@@ -227,9 +320,9 @@ pub fn large_grid(n: usize, width: i32) -> Draft {
         6 => 2,
         _ => panic!("64 is no whole power for n = {n}"),
     };
-    let cuts: Vec<Vec<i32>> = vec![(0..=per_variable).map(|i| i * width).collect(); n];
+    let walls: Vec<Vec<i32>> = vec![(0..=per_variable).map(|i| i * width).collect(); n];
     let mut turn = 0;
-    let mut draft = grid(&cuts, |_| {
+    let mut draft = grid(&walls, |_| {
         turn += 1;
         (0..n as i32)
             .flat_map(|i| {

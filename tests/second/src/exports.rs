@@ -68,7 +68,7 @@ impl Call {
 
     /// Every number that it can give.
     pub fn numbers(self) -> Vec<u32> {
-        let model = (2..=5).chain(11..=19);
+        let model = (2..=5).chain(11..=19).chain([46]);
         let more: &[u32] = match self {
             Call::ReadModel => &[1, 6, 7, 8, 100],
             Call::Ceiling => &[100],

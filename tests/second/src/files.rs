@@ -1,7 +1,7 @@
 //! Files: fields of a one-byte tag, a two-byte length, a payload; words of four bytes,
 //! highest byte first.
 
-use crate::model::{ask_records, Model, Plant, Sizes};
+use crate::model::{ask_records, Model, Piece, Plant, Sizes};
 use crate::tables::well_formed;
 use crate::Refusal;
 
@@ -11,6 +11,7 @@ pub const SWITCH: u8 = 3;
 pub const FORBIDDEN: u8 = 4;
 pub const FACE: u8 = 5;
 pub const TABLE_HEAD: u8 = 6;
+pub const CUT: u8 = 8;
 
 /// The bytes of one field.
 pub fn field(tag: u8, words: &[i32]) -> Vec<u8> {
@@ -30,6 +31,12 @@ pub fn model_file(words: &[i32]) -> Vec<u8> {
         switches: words[2] as usize,
         forbidden: words[3] as usize,
     };
+    file_of_words(&sizes, words)
+}
+
+/// The file of words with the fields that these sizes want, whatever the words are. A location has a
+/// field for its cut unless its two words are -1 and 0.
+pub fn file_of_words(sizes: &Sizes, words: &[i32]) -> Vec<u8> {
     let mut bytes = field(HEAD, &words[..4]);
     for l in 0..sizes.locations {
         bytes.extend(field(LOCATION, &words[sizes.location_at(l)..sizes.location_at(l + 1)]));
@@ -39,6 +46,12 @@ pub fn model_file(words: &[i32]) -> Vec<u8> {
     }
     for f in 0..sizes.forbidden {
         bytes.extend(field(FORBIDDEN, &words[sizes.forbidden_at(f)..sizes.forbidden_at(f + 1)]));
+    }
+    for l in 0..sizes.locations {
+        let cut = &words[sizes.cut_at(l)..sizes.cut_at(l + 1)];
+        if cut != [-1, 0] {
+            bytes.extend(field(CUT, &[l as i32, cut[0], cut[1]]));
+        }
     }
     bytes
 }
@@ -94,14 +107,14 @@ fn read_head(file: &[u8]) -> Result<(Sizes, Cursor<'_>), Refusal> {
     Ok((sizes, cursor))
 }
 
-/// A model file's words, held as long as they need to be: questions 1 to 4, 6 to 8, 11 to 19.
+/// A model file's words, held as long as they need to be: questions 1 to 4, 6 to 8, 11 to 19, 46.
 pub fn model_of_file(file: &[u8]) -> Result<Model, Refusal> {
     let (sizes, cursor) = read_head(file)?;
     read_records(cursor, sizes)
 }
 
 /// Reads a model file into the word buffer and gives how many words it has.
-/// Refused by 6 to 8 or 11 to 19: the whole buffer is zero. Refused by 1 to 5: unchanged.
+/// Refused by 6 to 8, 11 to 19 or 46: the whole buffer is zero. Refused by 1 to 5: unchanged.
 pub fn read_model(file: &[u8], buffer: &mut [i32]) -> Result<usize, Refusal> {
     let (sizes, cursor) = read_head(file)?;
     if buffer.len() < sizes.model_words() {
@@ -119,7 +132,7 @@ pub fn read_model(file: &[u8], buffer: &mut [i32]) -> Result<usize, Refusal> {
     }
 }
 
-/// Questions 6 to 8 and 11 to 19: the words of the head and of the records behind it.
+/// Questions 6 to 8, 11 to 19 and 46: the words of the head, of the records and of the cuts behind it.
 fn read_records(mut cursor: Cursor, sizes: Sizes) -> Result<Model, Refusal> {
     let mut words = Vec::with_capacity(sizes.model_words());
     words.extend([sizes.n, sizes.locations, sizes.switches, sizes.forbidden].map(|count| count as i32));
@@ -137,25 +150,49 @@ fn read_records(mut cursor: Cursor, sizes: Sizes) -> Result<Model, Refusal> {
             }
         }
     }
-    if !cursor.ended() {
-        return Err(8);
-    }
+    words.extend(read_cuts(cursor, &sizes)?);
     ask_records(&sizes, &words)?;
     Ok(Model { sizes, words })
 }
 
+/// Where the end of the file is expected there may be cuts. Another tag gets 8. A cut's field that is
+/// not whole, of another length, of a location that does not exist or does not come after the one
+/// before, or of variable -1, gets 46.
+fn read_cuts(mut cursor: Cursor, sizes: &Sizes) -> Result<Vec<i32>, Refusal> {
+    let mut cuts = [-1, 0].repeat(sizes.locations);
+    let mut least = 0;
+    while !cursor.ended() {
+        if cursor.bytes[0] != CUT {
+            return Err(8);
+        }
+        let Next::Payload(payload) = cursor.next(CUT, 3) else {
+            return Err(46);
+        };
+        let cut: Vec<i32> = words_of(payload).collect();
+        if !(least..sizes.locations as i32).contains(&cut[0]) || cut[1] == -1 {
+            return Err(46);
+        }
+        cuts[2 * cut[0] as usize..][..2].copy_from_slice(&cut[1..]);
+        least = cut[0] + 1;
+    }
+    Ok(cuts)
+}
+
 /// The table file of a well-formed table.
 pub fn table_file(plant: &Plant, table: &[i32]) -> Vec<u8> {
-    let sizes = plant.sizes;
-    let faces = table.chunks_exact(sizes.face_words());
-    let count = faces.clone().filter(|words| words[0] == 1).count();
-    let mut bytes = Vec::with_capacity(7 + count * (11 + 8 * sizes.n));
+    let pieces = table.chunks_exact(plant.sizes.face_words());
+    let count = pieces.clone().filter(|words| words[0] == 1).count();
+    let payload = 4 * plant.field_words();
+    let mut bytes = Vec::with_capacity(7 + count * (3 + payload));
     bytes.extend([TABLE_HEAD, 0, 4]);
     bytes.extend((count as i32).to_be_bytes());
-    for (number, words) in faces.enumerate().filter(|(_, words)| words[0] == 1) {
-        bytes.extend([FACE, 0, (8 + 8 * sizes.n) as u8]);
-        bytes.extend(((number / sizes.faces()) as i32).to_be_bytes());
-        bytes.extend(((number % sizes.faces()) as i32).to_be_bytes());
+    for (piece, words) in plant.all_pieces().zip(pieces).filter(|(_, words)| words[0] == 1) {
+        bytes.extend([FACE, 0, payload as u8]);
+        bytes.extend((piece.location as i32).to_be_bytes());
+        bytes.extend((piece.face as i32).to_be_bytes());
+        if plant.any_cut() {
+            bytes.extend((piece.piece as i32).to_be_bytes());
+        }
         words[1..].iter().for_each(|word| bytes.extend(word.to_be_bytes()));
     }
     bytes
@@ -165,7 +202,7 @@ pub fn table_file(plant: &Plant, table: &[i32]) -> Vec<u8> {
 /// The rest of the buffer is unchanged; a refusal changes nothing.
 pub fn write_table(model: &[i32], list: &[i32], buffer: &mut [u8]) -> Result<usize, Refusal> {
     let plant = Plant::from_words(model)?;
-    let size = plant.sizes.table_words();
+    let size = plant.table_words();
     if list.len() < size {
         return Err(20);
     }
@@ -173,7 +210,7 @@ pub fn write_table(model: &[i32], list: &[i32], buffer: &mut [u8]) -> Result<usi
     if !well_formed(&plant, table) {
         return Err(32);
     }
-    if buffer.len() < plant.sizes.table_file_room() {
+    if buffer.len() < plant.table_file_room() {
         return Err(39);
     }
     let file = table_file(&plant, table);
@@ -185,7 +222,7 @@ pub fn write_table(model: &[i32], list: &[i32], buffer: &mut [u8]) -> Result<usi
 /// Refused by 32 or 35 to 38: the whole buffer is zero. Any other refusal: unchanged.
 pub fn read_table(model: &[i32], file: &[u8], buffer: &mut [i32]) -> Result<usize, Refusal> {
     let plant = Plant::from_words(model)?;
-    let size = plant.sizes.table_words();
+    let size = plant.table_words();
     if buffer.len() < size {
         return Err(20);
     }
@@ -209,24 +246,31 @@ pub fn parse_table(plant: &Plant, file: &[u8]) -> Result<Vec<i32>, Refusal> {
         return Err(35);
     };
     let count = words_of(payload).next().unwrap();
-    if count < 0 || count as usize > sizes.faces() * sizes.locations {
+    if count < 0 || count as usize > plant.pieces() {
         return Err(35);
     }
-    let mut table = vec![0; sizes.table_words()];
-    let mut before: Option<(i32, i32)> = None;
+    let mut table = vec![0; plant.table_words()];
+    let mut before: Option<Piece> = None;
     for _ in 0..count {
-        let Next::Payload(payload) = cursor.next(FACE, 2 + 2 * sizes.n) else {
+        let Next::Payload(payload) = cursor.next(FACE, plant.field_words()) else {
             return Err(36);
         };
         let mut record = words_of(payload);
         let mut next = || record.next().expect("a face's field has the words of its record");
         let (l, face) = (next(), next());
-        let exists = (0..sizes.locations as i32).contains(&l) && (0..sizes.faces() as i32).contains(&face);
-        if !exists || before.is_some_and(|earlier| (l, face) <= earlier) {
+        let number = if plant.any_cut() { next() } else { 0 };
+        let exists = (0..sizes.locations as i32).contains(&l)
+            && (0..sizes.faces() as i32).contains(&face)
+            && (0..plant.pieces_of(l as usize) as i32).contains(&number);
+        if !exists {
             return Err(37);
         }
-        before = Some((l, face));
-        let words = &mut table[sizes.face_at(l as usize, face as usize)..][..sizes.face_words()];
+        let piece = Piece { location: l as usize, face: face as usize, piece: number as usize };
+        if before.is_some_and(|earlier| piece <= earlier) {
+            return Err(37);
+        }
+        before = Some(piece);
+        let words = &mut table[plant.piece_places(piece)];
         words[0] = 1;
         words[1..].iter_mut().for_each(|bound| *bound = next());
     }

@@ -1,11 +1,10 @@
 //! The comparison's fixed cases: the documents', source 000's examples, the sample models, and
-//! sweeps over every cut, every bit and every word of small files. Those of the calls beside decide
-//! and check stand in `fixed_calls`.
+//! sweeps over every length, every bit and every word of small files. Those of the calls beside decide
+//! and check stand in `fixed_calls`, those of locations that are cut in `fixed_cuts`.
 
 use crate::compare::{hex, written_table, Comparison, Difference, MOST_ROOM};
 use crate::examples;
-use crate::files::{field, model_file, model_of_file, table_file};
-use crate::generate::byte_of_word;
+use crate::files::{field, file_of_words, model_file, model_of_file, table_file};
 use crate::model::{Plant, LEVEL, RATE};
 use crate::samples;
 
@@ -41,7 +40,7 @@ pub(crate) const EDGES: [i32; 25] = [
     i32::MAX,
 ];
 
-fn answer(code: u64, k: u64) -> u64 {
+pub(crate) fn answer(code: u64, k: u64) -> u64 {
     code << 32 | k
 }
 
@@ -52,7 +51,7 @@ fn expect(label: &str, wanted: u64, found: u64) -> Result<(), Difference> {
     Err(Difference { text: format!("{label}: the document wants {wanted:#x}, both give {found:#x}") })
 }
 
-fn p_file() -> Vec<u8> {
+pub(crate) fn p_file() -> Vec<u8> {
     model_file(&examples::plant_p().words())
 }
 
@@ -61,6 +60,21 @@ fn p_table_file() -> Vec<u8> {
     let mut table = field(6, &[2]);
     table.extend(field(5, &[0, 0, 0, 0, 2, 5]));
     table.extend(field(5, &[0, 3, 2, 8, 10, 10]));
+    table
+}
+
+/// P cut at x = 5, and the table file of its answer, field by field.
+pub(crate) fn cut_p_file() -> Vec<u8> {
+    let mut model = p_file();
+    model.extend(field(8, &[0, 0, 5]));
+    model
+}
+
+pub(crate) fn cut_p_table_file() -> Vec<u8> {
+    let mut table = field(6, &[3]);
+    table.extend(field(5, &[0, 0, 0, 0, 0, 2, 5]));
+    table.extend(field(5, &[0, 3, 0, 2, 5, 10, 10]));
+    table.extend(field(5, &[0, 3, 1, 5, 8, 10, 10]));
     table
 }
 
@@ -89,14 +103,15 @@ impl Comparison {
         self.largest_model()?;
         self.source_000()?;
         self.sample_models()?;
-        self.cuts_and_bits()?;
+        self.lengths_and_bits()?;
         self.words_of_a_model()?;
         self.words_of_a_table()?;
-        self.fixed_calls()
+        self.fixed_calls()?;
+        self.fixed_cuts()
     }
 
     /// A decide call whose number the document gives.
-    fn decide_gives(
+    pub(crate) fn decide_gives(
         &mut self,
         label: &str,
         model: &[u8],
@@ -111,7 +126,13 @@ impl Comparison {
     }
 
     /// A check call whose number the document gives.
-    fn check_gives(&mut self, label: &str, model: &[u8], table: &[u8], wanted: u64) -> Result<(), Difference> {
+    pub(crate) fn check_gives(
+        &mut self,
+        label: &str,
+        model: &[u8],
+        table: &[u8],
+        wanted: u64,
+    ) -> Result<(), Difference> {
         let number = self.check(label, model, table)?;
         expect(label, wanted, number)?;
         self.counts.fixed += 1;
@@ -170,24 +191,29 @@ impl Comparison {
         self.check_gives("an empty model file", &[], &table, 1)
     }
 
-    /// The largest model there is, whole, cut by one byte, and with bytes behind it.
+    /// The largest models there are, with and without cuts: whole, short of one byte, and with bytes
+    /// behind them.
     fn largest_model(&mut self) -> Result<(), Difference> {
-        let largest = model_file(&examples::large_grid(6, 3).words());
-        let mut longer = largest.clone();
-        longer.push(4);
-        let mut much_longer = largest.clone();
-        much_longer.resize(200_000, 0);
-        let cut = &largest[..largest.len() - 1];
-        let no_faces = field(6, &[0]);
-        self.decide_gives("the largest model", &largest, MOST_ROOM, 3, answer(102, 3))?;
-        self.check_gives("the largest model", &largest, &no_faces, 33)?;
-        for (label, model, number) in [
-            ("the largest model, cut by one byte", cut, 7),
-            ("the largest model and one byte", &longer, 8),
-            ("the largest model and many bytes", &much_longer, 8),
-        ] {
-            self.decide_gives(label, model, MOST_ROOM, 3, answer(number, 0))?;
-            self.check_gives(label, model, &no_faces, number)?;
+        let whole = examples::large_grid(6, 3);
+        let cut = examples::all_cut(whole.clone());
+        for (draft, short_of_one) in [(whole, 7), (cut, 46)] {
+            let largest = model_file(&draft.words());
+            let mut longer = largest.clone();
+            longer.push(4);
+            let mut much_longer = largest.clone();
+            much_longer.resize(200_000, 0);
+            let shorter = &largest[..largest.len() - 1];
+            let no_faces = field(6, &[0]);
+            self.decide_gives("the largest model", &largest, MOST_ROOM, 3, answer(102, 3))?;
+            self.check_gives("the largest model", &largest, &no_faces, 33)?;
+            for (label, model, number) in [
+                ("the largest model, short of one byte", shorter, short_of_one),
+                ("the largest model and one byte", &longer, 8),
+                ("the largest model and many bytes", &much_longer, 8),
+            ] {
+                self.decide_gives(label, model, MOST_ROOM, 3, answer(number, 0))?;
+                self.check_gives(label, model, &no_faces, number)?;
+            }
         }
         Ok(())
     }
@@ -205,6 +231,9 @@ impl Comparison {
             ("64 locations, n 2", examples::large_grid(2, 6)),
             ("64 locations, n 3", examples::large_grid(3, 4)),
             ("64 locations, n 6", examples::large_grid(6, 3)),
+            ("64 locations cut, n 2", examples::all_cut(examples::large_grid(2, 6))),
+            ("64 locations cut, n 3", examples::all_cut(examples::large_grid(3, 4))),
+            ("64 locations cut, n 6", examples::all_cut(examples::large_grid(6, 3))),
         ] {
             let words = draft.words();
             let plant = Plant::from_words(&words).expect("an example passes its questions");
@@ -238,65 +267,68 @@ impl Comparison {
         Ok(())
     }
 
-    /// Every cut of P's file and of its table file, and every bit of both flipped.
-    fn cuts_and_bits(&mut self) -> Result<(), Difference> {
-        let (p, table) = (p_file(), p_table_file());
-        for length in 0..p.len() {
-            self.decide("P cut short", &p[..length], P_ROOM, 9)?;
-            self.check("P cut short", &p[..length], &table)?;
-            self.counts.fixed += 2;
-        }
-        for length in 0..table.len() {
-            self.check("P's table cut short", &p, &table[..length])?;
-            self.counts.fixed += 1;
-        }
-        for bit in 0..8 * p.len() {
-            let mut flipped = p.clone();
-            flipped[bit / 8] ^= 1 << (bit % 8);
-            self.decide("P with a bit flipped", &flipped, MOST_ROOM, 9)?;
-            self.check("P with a bit flipped", &flipped, &table)?;
-            self.counts.fixed += 2;
-        }
-        for bit in 0..8 * table.len() {
-            let mut flipped = table.clone();
-            flipped[bit / 8] ^= 1 << (bit % 8);
-            self.check("P's table with a bit flipped", &p, &flipped)?;
-            self.counts.fixed += 1;
-        }
-        Ok(())
-    }
-
-    /// Every word of the water-level model at every edge.
-    fn words_of_a_model(&mut self) -> Result<(), Difference> {
-        let words = examples::water_level(20).words();
-        let plant = Plant::from_words(&words).expect("an example passes its questions");
-        let model = model_file(&words);
-        let (_, buffer) = self.decide("the water level", &model, MOST_ROOM, 1_000)?;
-        let table = written_table(&plant, &buffer).to_vec();
-        for index in 0..words.len() {
-            for edge in EDGES {
-                let mut changed = model.clone();
-                let place = byte_of_word(&plant.sizes, index);
-                changed[place..place + 4].copy_from_slice(&edge.to_be_bytes());
-                self.decide("the water level with another word", &changed, MOST_ROOM, 20)?;
-                self.check("the water level with another word", &changed, &table)?;
+    /// P's file and its table file at every length, and every bit of both flipped; the same of P cut.
+    fn lengths_and_bits(&mut self) -> Result<(), Difference> {
+        for (p, table) in [(p_file(), p_table_file()), (cut_p_file(), cut_p_table_file())] {
+            for length in 0..p.len() {
+                self.decide("P's file ends early", &p[..length], MOST_ROOM, 9)?;
+                self.check("P's file ends early", &p[..length], &table)?;
                 self.counts.fixed += 2;
+            }
+            for length in 0..table.len() {
+                self.check("P's table ends early", &p, &table[..length])?;
+                self.counts.fixed += 1;
+            }
+            for bit in 0..8 * p.len() {
+                let mut flipped = p.clone();
+                flipped[bit / 8] ^= 1 << (bit % 8);
+                self.decide("P with a bit flipped", &flipped, MOST_ROOM, 9)?;
+                self.check("P with a bit flipped", &flipped, &table)?;
+                self.counts.fixed += 2;
+            }
+            for bit in 0..8 * table.len() {
+                let mut flipped = table.clone();
+                flipped[bit / 8] ^= 1 << (bit % 8);
+                self.check("P's table with a bit flipped", &p, &flipped)?;
+                self.counts.fixed += 1;
             }
         }
         Ok(())
     }
 
-    /// Every word of P's table file at every edge.
+    /// Every word of the water-level model at every edge, without cuts and with cuts in two of its four
+    /// locations.
+    fn words_of_a_model(&mut self) -> Result<(), Difference> {
+        for draft in [examples::water_level(20), examples::water_level_cut()] {
+            let words = draft.words();
+            let plant = Plant::from_words(&words).expect("an example passes its questions");
+            let (_, buffer) = self.decide("the water level", &model_file(&words), MOST_ROOM, 1_000)?;
+            let table = written_table(&plant, &buffer).to_vec();
+            for index in 0..words.len() {
+                for edge in EDGES {
+                    let mut changed = words.clone();
+                    changed[index] = edge;
+                    let changed = file_of_words(&plant.sizes, &changed);
+                    self.decide("the water level with another word", &changed, MOST_ROOM, 20)?;
+                    self.check("the water level with another word", &changed, &table)?;
+                    self.counts.fixed += 2;
+                }
+            }
+        }
+        Ok(())
+    }
+
+    /// Every word of P's table file at every edge, and of that of P cut.
     fn words_of_a_table(&mut self) -> Result<(), Difference> {
-        let (p, table) = (p_file(), p_table_file());
-        let head = [3];
-        let faces = (0..2).flat_map(|face| (0..6).map(move |word| 7 + face * 27 + 3 + 4 * word));
-        for place in head.into_iter().chain(faces) {
-            for edge in EDGES {
-                let mut changed = table.clone();
-                changed[place..place + 4].copy_from_slice(&edge.to_be_bytes());
-                self.check("P's table with another word", &p, &changed)?;
-                self.counts.fixed += 1;
+        for (p, table, faces, words) in [(p_file(), p_table_file(), 2, 6), (cut_p_file(), cut_p_table_file(), 3, 7)] {
+            let places = (0..faces).flat_map(|face| (0..words).map(move |word| 10 + face * (3 + 4 * words) + 4 * word));
+            for place in std::iter::once(3).chain(places) {
+                for edge in EDGES {
+                    let mut changed = table.clone();
+                    changed[place..place + 4].copy_from_slice(&edge.to_be_bytes());
+                    self.check("P's table with another word", &p, &changed)?;
+                    self.counts.fixed += 1;
+                }
             }
         }
         Ok(())

@@ -1,5 +1,5 @@
 //! The fixed cases of the C calls beside decide and check: the documents' numbers, and sweeps over
-//! every length, every cut, every bit and every word of small inputs.
+//! every length, every bit and every word of small inputs.
 
 use crate::compare::{Comparison, Difference, MOST_ROOM};
 use crate::desk::Desk;
@@ -12,9 +12,9 @@ use crate::lending::{Left, Lengths};
 use crate::model::{words_per_location, Plant, LEVEL};
 
 /// Everything that a call can be handed for one model, all of the exact length.
-struct Whole {
-    model: Vec<i32>,
-    table: Vec<i32>,
+pub(crate) struct Whole {
+    pub(crate) model: Vec<i32>,
+    pub(crate) table: Vec<i32>,
     model_file: Vec<u8>,
     table_file: Vec<u8>,
     lengths: Lengths,
@@ -23,14 +23,14 @@ struct Whole {
 }
 
 impl Whole {
-    fn new(draft: &Draft, table: Vec<i32>) -> Whole {
+    pub(crate) fn new(draft: &Draft, table: Vec<i32>) -> Whole {
         let model = draft.words();
         let plant = Plant::from_words(&model).expect("an example passes its questions");
-        let size = plant.sizes.table_words();
+        let size = plant.table_words();
         Whole {
             model_file: model_file(&model),
             table_file: table_file(&plant, &table),
-            lengths: Lengths { words: size, work: size, file: plant.sizes.table_file_room() },
+            lengths: Lengths { words: size, work: size, file: plant.table_file_room() },
             model_words: model.len(),
             model,
             table,
@@ -41,12 +41,17 @@ impl Whole {
         Whole::new(&examples::plant_p(), examples::plant_p_table())
     }
 
-    fn input(&self, call: Call, limit: u32) -> Input<'_> {
+    /// P cut at x = 5.
+    pub(crate) fn cut_p() -> Whole {
+        Whole::new(&examples::plant_p_cut(), examples::plant_p_cut_table())
+    }
+
+    pub(crate) fn input(&self, call: Call, limit: u32) -> Input<'_> {
         let file = if call == Call::ReadModel { &self.model_file } else { &self.table_file };
         Input { model: &self.model, table: &self.table, file, limit }
     }
 
-    fn lengths(&self, call: Call) -> Lengths {
+    pub(crate) fn lengths(&self, call: Call) -> Lengths {
         Lengths { words: if call == Call::ReadModel { self.model_words } else { self.lengths.words }, ..self.lengths }
     }
 }
@@ -62,7 +67,7 @@ impl Comparison {
         self.every_length()?;
         self.every_word_of_a_model()?;
         self.every_word_of_a_table()?;
-        self.every_cut_and_bit()
+        self.every_end_and_bit()
     }
 
     fn fixed(
@@ -78,7 +83,7 @@ impl Comparison {
     }
 
     /// A call on a fresh desk whose number and value the document gives.
-    fn gives(
+    pub(crate) fn gives(
         &mut self,
         label: &str,
         call: Call,
@@ -101,7 +106,7 @@ impl Comparison {
         let p = Whole::p();
         let lengths = p.lengths(Call::Analyse);
         for (call, number, value) in [
-            (Call::ReadModel, 100, 22),
+            (Call::ReadModel, 100, 24),
             (Call::Ceiling, 100, 44),
             (Call::Check, 100, 0),
             (Call::Analyse, 100, 1),
@@ -147,7 +152,7 @@ impl Comparison {
         let location = LocationDraft { invariant: [-LEVEL, LEVEL].repeat(6), rates: vec![0; 12], start: None };
         let largest = Draft { n: 6, locations: vec![location; 64], ..Draft::default() }.words();
         let input = Input { model: &largest, ..none };
-        self.gives("the largest ceiling", Call::Ceiling, &input, &lengths, (100, 7_680_000_768))?;
+        self.gives("the largest ceiling without a cut", Call::Ceiling, &input, &lengths, (100, 7_680_000_768))?;
         Ok(())
     }
 
@@ -199,98 +204,98 @@ impl Comparison {
         Ok(())
     }
 
-    /// Every slice of every call, of every length up to three more than is due, on plant P.
+    /// Every slice of every call, of every length up to three more than is due, on plant P, cut and not.
     fn every_length(&mut self) -> Result<(), Difference> {
-        let p = Whole::p();
-        let more = [1, 0, -1];
-        let longer = |list: &[i32]| [list, &more[..]].concat();
-        let (model, table) = (longer(&p.model), longer(&p.table));
-        for call in Call::ALL {
-            let (whole, exact) = (p.input(call, LIMIT), p.lengths(call));
-            let file = [whole.file, &[0; 3]].concat();
-            for &slice in call.slices() {
-                let most = 3 + match slice {
-                    Slice::Model => whole.model.len(),
-                    Slice::Table => whole.table.len(),
-                    Slice::File => whole.file.len(),
-                    Slice::Words => exact.words,
-                    Slice::Work => exact.work,
-                    Slice::FileRoom => exact.file,
-                };
-                for length in 0..=most {
-                    let (mut input, mut lengths) = (whole, exact);
-                    match slice {
-                        Slice::Model => input.model = &model[..length],
-                        Slice::Table => input.table = &table[..length],
-                        Slice::File => input.file = &file[..length],
-                        Slice::Words => lengths.words = length,
-                        Slice::Work => lengths.work = length,
-                        Slice::FileRoom => lengths.file = length,
+        for p in [Whole::p(), Whole::cut_p()] {
+            let more = [1, 0, -1];
+            let longer = |list: &[i32]| [list, &more[..]].concat();
+            let (model, table) = (longer(&p.model), longer(&p.table));
+            for call in Call::ALL {
+                let (whole, exact) = (p.input(call, LIMIT), p.lengths(call));
+                let file = [whole.file, &[0; 3]].concat();
+                for &slice in call.slices() {
+                    let most = 3 + match slice {
+                        Slice::Model => whole.model.len(),
+                        Slice::Table => whole.table.len(),
+                        Slice::File => whole.file.len(),
+                        Slice::Words => exact.words,
+                        Slice::Work => exact.work,
+                        Slice::FileRoom => exact.file,
+                    };
+                    for length in 0..=most {
+                        let (mut input, mut lengths) = (whole, exact);
+                        match slice {
+                            Slice::Model => input.model = &model[..length],
+                            Slice::Table => input.table = &table[..length],
+                            Slice::File => input.file = &file[..length],
+                            Slice::Words => lengths.words = length,
+                            Slice::Work => lengths.work = length,
+                            Slice::FileRoom => lengths.file = length,
+                        }
+                        self.fixed("P, every length", call, &input, &lengths, Desk::default())?;
                     }
-                    self.fixed("P, every length", call, &input, &lengths, Desk::default())?;
                 }
             }
         }
         Ok(())
     }
 
-    /// Every word of the water-level model at every edge, in every call that takes model words.
+    /// Every word of the water-level model at every edge, in every call that takes model words; the same
+    /// with cuts in two of its locations.
     fn every_word_of_a_model(&mut self) -> Result<(), Difference> {
-        let draft = examples::water_level(20);
-        let words = draft.words();
-        let plant = Plant::from_words(&words).expect("an example passes its questions");
-        let mut table = vec![0; plant.sizes.table_words()];
-        crate::generate::close(&plant, &mut table, 1_000);
-        let whole = Whole::new(&draft, table);
-        for index in 0..words.len() {
-            for edge in EDGES {
-                let mut changed = words.clone();
-                changed[index] = edge;
-                for call in Call::ALL.into_iter().filter(|&call| call != Call::ReadModel) {
-                    let input = Input { model: &changed, ..whole.input(call, 20) };
-                    self.fixed(
-                        "the water level with another word",
-                        call,
-                        &input,
-                        &whole.lengths(call),
-                        Desk::default(),
-                    )?;
+        let label = "the water level with another word";
+        for draft in [examples::water_level(20), examples::water_level_cut()] {
+            let words = draft.words();
+            let plant = Plant::from_words(&words).expect("an example passes its questions");
+            let mut table = vec![0; plant.table_words()];
+            crate::generate::close(&plant, &mut table, 1_000);
+            let whole = Whole::new(&draft, table);
+            for index in 0..words.len() {
+                for edge in EDGES {
+                    let mut changed = words.clone();
+                    changed[index] = edge;
+                    for call in Call::ALL.into_iter().filter(|&call| call != Call::ReadModel) {
+                        let input = Input { model: &changed, ..whole.input(call, 20) };
+                        self.fixed(label, call, &input, &whole.lengths(call), Desk::default())?;
+                    }
                 }
             }
         }
         Ok(())
     }
 
-    /// Every word of P's table at every edge.
+    /// Every word of P's table at every edge, cut and not.
     fn every_word_of_a_table(&mut self) -> Result<(), Difference> {
-        let p = Whole::p();
-        for index in 0..p.table.len() {
-            for edge in EDGES {
-                let mut changed = p.table.clone();
-                changed[index] = edge;
-                for call in [Call::Check, Call::WriteTable] {
-                    let input = Input { table: &changed, ..p.input(call, 0) };
-                    self.fixed("P's table with another word", call, &input, &p.lengths(call), Desk::default())?;
+        for p in [Whole::p(), Whole::cut_p()] {
+            for index in 0..p.table.len() {
+                for edge in EDGES {
+                    let mut changed = p.table.clone();
+                    changed[index] = edge;
+                    for call in [Call::Check, Call::WriteTable] {
+                        let input = Input { table: &changed, ..p.input(call, 0) };
+                        self.fixed("P's table with another word", call, &input, &p.lengths(call), Desk::default())?;
+                    }
                 }
             }
         }
         Ok(())
     }
 
-    /// Every cut of P's file and of its table file, and every bit of both flipped.
-    fn every_cut_and_bit(&mut self) -> Result<(), Difference> {
-        let p = Whole::p();
-        for call in [Call::ReadModel, Call::ReadTable] {
-            let (whole, lengths) = (p.input(call, 0), p.lengths(call));
-            for length in 0..whole.file.len() {
-                let input = Input { file: &whole.file[..length], ..whole };
-                self.fixed("a file cut short", call, &input, &lengths, Desk::default())?;
-            }
-            for bit in 0..8 * whole.file.len() {
-                let mut flipped = whole.file.to_vec();
-                flipped[bit / 8] ^= 1 << (bit % 8);
-                let input = Input { file: &flipped, ..whole };
-                self.fixed("a file with a bit flipped", call, &input, &lengths, Desk::default())?;
+    /// P's file and its table file at every length, and every bit of both flipped; the same of P cut.
+    fn every_end_and_bit(&mut self) -> Result<(), Difference> {
+        for p in [Whole::p(), Whole::cut_p()] {
+            for call in [Call::ReadModel, Call::ReadTable] {
+                let (whole, lengths) = (p.input(call, 0), p.lengths(call));
+                for length in 0..whole.file.len() {
+                    let input = Input { file: &whole.file[..length], ..whole };
+                    self.fixed("a file that ends early", call, &input, &lengths, Desk::default())?;
+                }
+                for bit in 0..8 * whole.file.len() {
+                    let mut flipped = whole.file.to_vec();
+                    flipped[bit / 8] ^= 1 << (bit % 8);
+                    let input = Input { file: &flipped, ..whole };
+                    self.fixed("a file with a bit flipped", call, &input, &lengths, Desk::default())?;
+                }
             }
         }
         Ok(())

@@ -1,14 +1,13 @@
-//! Random models and damaged inputs.
+//! Random models and tables.
 //!
 //! Models are small most of the time, so that walls of zero width, landings and long
 //! chains of switches come up often; every n and the largest sizes come up too.
-//! Damage aims at the edge of every question.
 
 use crate::analysis::{run_quick, Answer};
 use crate::ceiling;
+use crate::delays::touches;
 use crate::draft::{grid, Draft, LocationDraft, SwitchDraft};
-use crate::files::{field, model_file, FACE, FORBIDDEN, HEAD, LOCATION, SWITCH, TABLE_HEAD};
-use crate::model::{Plant, Sizes, LEVEL, MAX_FORBIDDEN, MAX_LOCATIONS, MAX_SWITCHES, RATE};
+use crate::model::{Piece, Plant, LEVEL, MAX_FORBIDDEN, MAX_LOCATIONS, MAX_SWITCHES, RATE};
 use crate::random::Random;
 use crate::tables::pass;
 
@@ -19,7 +18,60 @@ pub fn random_model(random: &mut Random) -> Draft {
     let mut draft = if random.chance(1, 4) { random_grid(random) } else { random_free(random) };
     random_starts(random, &mut draft);
     random_forbidden(random, &mut draft);
+    random_cuts(random, &mut draft);
     draft
+}
+
+/// Passes that are made at most to find out whether a random model's cuts help it.
+const HELP_PASSES: u32 = 60;
+
+/// A random model with cuts and one forbidden box: one that a part would touch without the cuts and none
+/// touches with them, if such a box is found soon.
+pub fn helped_model(random: &mut Random) -> Draft {
+    let mut draft = Draft::default();
+    for _ in 0..20 {
+        draft = if random.chance(1, 3) { random_grid(random) } else { random_free(random) };
+        random_starts(random, &mut draft);
+        cut_locations(random, &mut draft, 1, 1);
+        if let Some(found) = helped_box(random, &draft) {
+            draft.forbidden = vec![found];
+            return draft;
+        }
+    }
+    random_forbidden(random, &mut draft);
+    draft
+}
+
+/// Location and box that the cuts keep from being touched.
+fn helped_box(random: &mut Random, draft: &Draft) -> Option<(usize, Vec<i32>)> {
+    if draft.cuts.is_empty() || draft.locations.len() > 12 {
+        return None;
+    }
+    let words = draft.words();
+    let whole_words = Draft { cuts: vec![], ..draft.clone() }.words();
+    let plant = Plant::from_words(&words).expect("a random model passes its questions");
+    let whole = Plant::from_words(&whole_words).expect("a random model passes its questions");
+    let (mut table, mut whole_table) = (vec![0; plant.table_words()], vec![0; whole.table_words()]);
+    if !close(&plant, &mut table, HELP_PASSES) || !close(&whole, &mut whole_table, HELP_PASSES) {
+        return None;
+    }
+    (0..40).find_map(|_| {
+        let l = random.below(draft.locations.len());
+        let bounds: Vec<i32> = draft.locations[l]
+            .invariant
+            .chunks_exact(2)
+            .flat_map(|r| if random.chance(1, 4) { [r[0], r[1]] } else { random_range(random, r[0], r[1]) })
+            .collect();
+        (!touched_in(&plant, &table, l, &bounds) && touched_in(&whole, &whole_table, l, &bounds)).then_some((l, bounds))
+    })
+}
+
+/// A part of location l touches the box.
+fn touched_in(plant: &Plant, table: &[i32], l: usize, bounds: &[i32]) -> bool {
+    let location = plant.location(l);
+    let hit = |part: &[i32]| touches(plant.sizes.n, part, location.rates, location.invariant, bounds);
+    let mut pieces = table[plant.location_places(l)].chunks_exact(plant.sizes.face_words());
+    (location.started && hit(location.start)) || pieces.any(|words| words[0] == 1 && hit(&words[1..]))
 }
 
 /// A random model whose levels and rates lie at both ends of what is allowed, or beside them.
@@ -54,6 +106,7 @@ pub fn extreme_model(random: &mut Random) -> Draft {
     }
     random_starts(random, &mut draft);
     random_forbidden(random, &mut draft);
+    random_cuts(random, &mut draft);
     draft
 }
 
@@ -96,6 +149,7 @@ pub fn long_model(random: &mut Random) -> Draft {
         1 => draft.forbidden.push((0, vec![0, stroke, high + 1, high + 2])),
         _ => {}
     }
+    random_cuts(random, &mut draft);
     draft
 }
 
@@ -141,7 +195,7 @@ fn random_rates(random: &mut Random, n: usize) -> Vec<i32> {
 }
 
 /// A range within low..high.
-fn random_range(random: &mut Random, low: i32, high: i32) -> [i32; 2] {
+pub(crate) fn random_range(random: &mut Random, low: i32, high: i32) -> [i32; 2] {
     let x = random.range(low as i64, high as i64) as i32;
     let y = random.range(low as i64, high as i64) as i32;
     [x.min(y), x.max(y)]
@@ -166,17 +220,17 @@ fn random_grid(random: &mut Random) -> Draft {
     let n = random_n(random);
     let width = random.pick(&[1, 2, 3, 5, 8, 50]);
     let mut room = if random.chance(1, 8) { MAX_LOCATIONS } else { 8 };
-    let mut cuts = Vec::new();
+    let mut walls = Vec::new();
     for _ in 0..n {
         let most = room.min(8).max(1);
         let cells = 1 + random.below(most);
         room /= cells;
         let low = random.range(-10, 10) as i32;
-        cuts.push((0..=cells as i32).map(|i| low + i * width).collect());
+        walls.push((0..=cells as i32).map(|i| low + i * width).collect());
     }
     let mut rates_of = random.clone();
     random.next();
-    grid(&cuts, |_| random_rates(&mut rates_of, n))
+    grid(&walls, |_| random_rates(&mut rates_of, n))
 }
 
 /// Locations and switches thrown together.
@@ -329,20 +383,77 @@ fn random_forbidden(random: &mut Random, draft: &mut Draft) {
     }
 }
 
+/// Cuts in no location, in one, in some or in all of those that can be cut.
+fn random_cuts(random: &mut Random, draft: &mut Draft) {
+    match random.below(8) {
+        0..=2 => {}
+        3 => {
+            let l = random.below(draft.locations.len());
+            draft.cuts = random_cut(random, draft, l).into_iter().collect();
+        }
+        4 | 5 => cut_locations(random, draft, 1, 2),
+        _ => cut_locations(random, draft, 1, 1),
+    }
+}
+
+/// Cuts in `part` of `whole` of the locations that can be cut.
+fn cut_locations(random: &mut Random, draft: &mut Draft, part: u64, whole: u64) {
+    for l in 0..draft.locations.len() {
+        if random.chance(part, whole) {
+            let cut = random_cut(random, draft, l);
+            draft.cuts.extend(cut);
+        }
+    }
+}
+
+/// A cut of a location, if one of its variables has a value strictly inside the invariant.
+fn random_cut(random: &mut Random, draft: &Draft, l: usize) -> Option<(usize, usize, i32)> {
+    let invariant = &draft.locations[l].invariant;
+    let wide: Vec<usize> = (0..draft.n).filter(|&i| invariant[2 * i] < invariant[2 * i + 1] - 1).collect();
+    if wide.is_empty() {
+        return None;
+    }
+    let i = random.pick(&wide);
+    let (least, most) = (invariant[2 * i] + 1, invariant[2 * i + 1] - 1);
+    let value = match random.below(8) {
+        0 => least,
+        1 => most,
+        2 => least + (most - least) / 2,
+        3 | 4 => near_a_box(random, draft, l, i).clamp(least, most),
+        _ => random.range(least as i64, most as i64) as i32,
+    };
+    Some((l, i, value))
+}
+
+/// An end of variable i in the location's start box or in a forbidden box of it, or beside it.
+fn near_a_box(random: &mut Random, draft: &Draft, l: usize, i: usize) -> i32 {
+    let forbidden = draft.forbidden.iter().filter(|(location, _)| *location == l).map(|(_, bounds)| bounds);
+    let ends: Vec<i32> = draft.locations[l]
+        .start
+        .iter()
+        .chain(forbidden)
+        .flat_map(|bounds| [bounds[2 * i], bounds[2 * i + 1]])
+        .collect();
+    if ends.is_empty() {
+        return 0;
+    }
+    random.pick(&ends) + random.range(-1, 1) as i32
+}
+
 /// Passes that one may ask for on a model of this size without a long wait.
-pub fn pass_budget(sizes: &Sizes) -> u32 {
-    (200_000 / sizes.table_words()).clamp(12, 1_500) as u32
+pub fn pass_budget(plant: &Plant) -> u32 {
+    (200_000 / plant.table_words()).clamp(12, 1_500) as u32
 }
 
 /// A pass limit: 0, small, near the number of passes needed, or large where that is quick.
 pub fn random_limit(random: &mut Random, plant: &Plant) -> u32 {
-    let budget = pass_budget(&plant.sizes);
+    let budget = pass_budget(plant);
     match random.below(6) {
         0 => 0,
         1 => random.below(4) as u32,
         2 => random.below(budget.min(40) as usize) as u32,
         _ => {
-            let mut table = vec![0; plant.sizes.table_words()];
+            let mut table = vec![0; plant.table_words()];
             let mut work = table.clone();
             let (answer, k) = run_quick(plant, budget, &mut table, &mut work);
             if answer == Answer::Unfinished {
@@ -358,34 +469,27 @@ pub fn random_limit(random: &mut Random, plant: &Plant) -> u32 {
 
 /// A random table that passes question 32.
 pub fn random_table(random: &mut Random, plant: &Plant) -> Vec<i32> {
-    let sizes = plant.sizes;
-    let mut table = vec![0; sizes.table_words()];
+    let mut table = vec![0; plant.table_words()];
     let (part, whole) = random.pick(&[(1, 1), (1, 2), (1, 4), (1, 16)]);
-    for l in 0..sizes.locations {
-        for face in 0..sizes.faces() {
-            if random.chance(part, whole) {
-                put_random_face(random, plant, &mut table, l, face);
-            }
+    for piece in plant.all_pieces() {
+        if random.chance(part, whole) {
+            put_random_piece(random, plant, &mut table, piece);
         }
     }
     table
 }
 
-fn put_random_face(random: &mut Random, plant: &Plant, table: &mut [i32], l: usize, face: usize) {
-    let sizes = plant.sizes;
-    let invariant = plant.location(l).invariant;
-    let words = &mut table[sizes.face_at(l, face)..][..sizes.face_words()];
+/// Puts a random box into a piece; none into one that is always absent.
+pub(crate) fn put_random_piece(random: &mut Random, plant: &Plant, table: &mut [i32], piece: Piece) {
+    let Some(widest) = plant.widest(piece) else {
+        return;
+    };
+    let words = &mut table[plant.piece_places(piece)];
     words[0] = 1;
-    for i in 0..sizes.n {
-        let range = if i == face / 2 {
-            [invariant[face], invariant[face]]
-        } else if random.chance(1, 2) {
-            [invariant[2 * i], invariant[2 * i + 1]]
-        } else {
-            random_range(random, invariant[2 * i], invariant[2 * i + 1])
-        };
-        words[1 + 2 * i] = range[0];
-        words[2 + 2 * i] = range[1];
+    for i in 0..plant.sizes.n {
+        let (low, high) = (widest[2 * i], widest[2 * i + 1]);
+        let range = if random.chance(1, 2) { [low, high] } else { random_range(random, low, high) };
+        words[1 + 2 * i..3 + 2 * i].copy_from_slice(&range);
     }
 }
 
@@ -399,425 +503,4 @@ pub fn close(plant: &Plant, table: &mut [i32], most: u32) -> bool {
         table.copy_from_slice(&next);
     }
     false
-}
-
-/// The kinds of change that `damage_table` makes.
-pub const TABLE_DAMAGE: [&str; 13] = [
-    "a face wider below",
-    "a face wider above",
-    "a face narrower below",
-    "a face narrower above",
-    "a face off its wall at one end",
-    "a face off its wall at both ends",
-    "a face taken away",
-    "another face",
-    "a face as wide as its wall",
-    "low and high exchanged",
-    "any word in a face",
-    "a flag that is neither 0 nor 1",
-    "an absent face that is not zero",
-];
-
-/// Those of them that a table file can say: it has no flags and no absent faces.
-pub const FACES_DAMAGE: &[&str] = TABLE_DAMAGE.split_at(11).0;
-
-/// One change to the words of a table; gives its kind.
-pub fn damage_table(random: &mut Random, plant: &Plant, table: &mut [i32]) -> &'static str {
-    let kind = random.below(TABLE_DAMAGE.len());
-    change_table(random, plant, table, kind)
-}
-
-/// One change to the faces of a table that a table file can say; gives its kind.
-pub fn damage_faces(random: &mut Random, plant: &Plant, table: &mut [i32]) -> &'static str {
-    let kind = random.below(FACES_DAMAGE.len());
-    change_table(random, plant, table, kind)
-}
-
-fn change_table(random: &mut Random, plant: &Plant, table: &mut [i32], kind: usize) -> &'static str {
-    let sizes = plant.sizes;
-    let l = random.below(sizes.locations);
-    let mut face = random.below(sizes.faces());
-    // A present face where one is found quickly.
-    for _ in 0..4 {
-        if table[sizes.face_at(l, face)] == 1 {
-            break;
-        }
-        face = random.below(sizes.faces());
-    }
-    let i = random.below(sizes.n);
-    let (low, high, wall) = (1 + 2 * i, 2 + 2 * i, 1 + 2 * (face / 2));
-    let invariant = plant.location(l).invariant;
-    let at = sizes.face_at(l, face);
-    let words = &mut table[at..at + sizes.face_words()];
-    let by = random.pick(&[1, 1, 1, 2, 5]);
-    match kind {
-        0 => words[low] = words[low].wrapping_sub(by),
-        1 => words[high] = words[high].wrapping_add(by),
-        2 => words[low] = words[low].wrapping_add(by),
-        3 => words[high] = words[high].wrapping_sub(by),
-        4 => words[1 + face] = words[1 + face].wrapping_add(by),
-        5 => words[wall..wall + 2].iter_mut().for_each(|end| *end = end.wrapping_add(by)),
-        6 => words.fill(0),
-        7 => put_random_face(random, plant, table, l, face),
-        8 => {
-            words[0] = 1;
-            words[1..].copy_from_slice(invariant);
-            words[wall..wall + 2].fill(invariant[face]);
-        }
-        9 => words[low..=high].reverse(),
-        10 => words[1 + random.below(2 * sizes.n)] = random_word(random),
-        11 => words[0] = random.pick(&[2, -1, i32::MAX, i32::MIN]),
-        _ => words[0] = 0,
-    }
-    TABLE_DAMAGE[kind]
-}
-
-// ---------------------------------------------------------------- damage to models
-
-/// A word at the edge of some question.
-pub fn random_word(random: &mut Random) -> i32 {
-    match random.below(3) {
-        0 => random.range(-3, 12) as i32,
-        1 => random.pick(&[
-            63,
-            64,
-            65,
-            127,
-            128,
-            129,
-            RATE,
-            -RATE,
-            RATE + 1,
-            -RATE - 1,
-            LEVEL,
-            -LEVEL,
-            LEVEL + 1,
-            -LEVEL - 1,
-            i32::MAX,
-            i32::MIN,
-        ]),
-        _ => random.next() as i32,
-    }
-}
-
-/// Where word number `index` of a model begins in its file.
-pub fn byte_of_word(sizes: &Sizes, index: usize) -> usize {
-    let mut fields = 1;
-    let mut add = |first: usize, count: usize, words: usize| {
-        if index >= first {
-            fields += ((index - first) / words + 1).min(count);
-        }
-    };
-    add(sizes.location_at(0), sizes.locations, sizes.location_words());
-    add(sizes.switch_at(0), sizes.switches, sizes.switch_words());
-    add(sizes.forbidden_at(0), sizes.forbidden, sizes.forbidden_words());
-    3 * fields + 4 * index
-}
-
-/// One change aimed at one of the questions 2 to 4 and 11 to 19, as places and new words.
-/// Not every change leads to a refusal.
-pub fn model_edit(random: &mut Random, plant: &Plant) -> Vec<(usize, i32)> {
-    let sizes = plant.sizes;
-    let n = sizes.n;
-    let words = plant.words();
-    let i = random.below(n);
-    let out = |random: &mut Random, edge: i32| {
-        let sign = random.pick(&[1, -1]);
-        sign * (edge + random.pick(&[0, 1, 1, 1, 1000]))
-    };
-    let kinds: &[usize] = match (sizes.switches > 0, sizes.forbidden > 0) {
-        (true, true) => &[0, 1, 1, 2, 2, 3, 4],
-        (true, false) => &[0, 1, 1, 2, 2, 2, 4],
-        (false, true) => &[0, 1, 1, 3, 4],
-        (false, false) => &[0, 1, 1, 4],
-    };
-    match random.pick(kinds) {
-        0 => match random.below(4) {
-            0 => vec![(0, random.pick(&[0, 7, -1, 6, 1, i32::MAX, i32::MIN]))],
-            1 => vec![(1, random.pick(&[0, 65, -1, 64, 1, i32::MAX, i32::MIN]))],
-            2 => vec![(2, random.pick(&[129, -1, 128, 0, i32::MAX, i32::MIN]))],
-            _ => vec![(3, random.pick(&[65, -1, 64, 0, i32::MAX, i32::MIN]))],
-        },
-        1 => {
-            let at = sizes.location_at(random.below(sizes.locations));
-            let (inv, rate) = (at + 2 * i, at + 2 * n + 2 * i);
-            let flag = at + 4 * n;
-            let start = flag + 1 + 2 * i;
-            match random.below(8) {
-                0 => vec![(inv, words[inv + 1].saturating_add(1))],
-                1 => vec![(inv + random.below(2), out(random, LEVEL))],
-                2 => vec![(rate, words[rate + 1].saturating_add(1))],
-                3 => vec![(rate + random.below(2), out(random, RATE))],
-                4 => vec![(flag, random.pick(&[2, -1, 1, 0, i32::MIN]))],
-                5 => vec![(start, words[inv].saturating_sub(1))],
-                6 => vec![(start + 1, words[inv + 1].saturating_add(1))],
-                _ => vec![(start, words[start + 1].saturating_add(1))],
-            }
-        }
-        2 => {
-            let s = random.below(sizes.switches);
-            let at = sizes.switch_at(s);
-            let switch = plant.switch(s);
-            let guard = at + 6 + 2 * i;
-            let reset = at + 6 + 2 * n + 2 * i;
-            let l = sizes.locations as i32;
-            match random.below(13) {
-                0 => vec![(at + random.below(2), random.pick(&[l, -1, l - 1, 0, i32::MAX]))],
-                1 => vec![(at + 2, random.pick(&[n as i32, -1, 0, i32::MIN]))],
-                2 => vec![(at + 3 + random.below(2), random.pick(&[2, -1, 0, 1]))],
-                3 => vec![(at + 5, random.pick(&[1 << n, -1, (1 << n) - 1, 0, i32::MIN]))],
-                4 => vec![(guard, words[guard + 1].saturating_add(1))],
-                5 => vec![(reset, words[reset + 1].saturating_add(1))],
-                6 => {
-                    let place = random.pick(&[guard, guard + 1, reset, reset + 1]);
-                    vec![(place, out(random, LEVEL))]
-                }
-                7 | 8 => {
-                    // Masked, and one end of the reset range moved.
-                    let mask = words[at + 5] | 1 << i;
-                    vec![(at + 5, mask), (reset + 1, words[reset].saturating_add(random.pick(&[0, 1])))]
-                }
-                9 => {
-                    // The guard of d off its wall, at one end or both.
-                    let place = at + 6 + 2 * switch.d;
-                    match random.below(3) {
-                        0 => vec![(place, words[place] - 1)],
-                        1 => vec![(place + 1, words[place + 1] + 1)],
-                        _ => vec![(place, words[place] + 1), (place + 1, words[place + 1] + 1)],
-                    }
-                }
-                10 => {
-                    // d reset beside the target's wall.
-                    let place = at + 6 + 2 * n + 2 * switch.d;
-                    let wall = words[place].clamp(-LEVEL + 1, LEVEL - 1) + random.pick(&[1, -1]);
-                    vec![(at + 5, words[at + 5] | 1 << switch.d), (place, wall), (place + 1, wall)]
-                }
-                11 => vec![(at + 4, 1 - words[at + 4])],
-                _ => vec![(at + 5, words[at + 5] ^ 1 << switch.d)],
-            }
-        }
-        3 => {
-            let at = sizes.forbidden_at(random.below(sizes.forbidden));
-            let bound = at + 1 + 2 * i;
-            match random.below(3) {
-                0 => vec![(at, random.pick(&[sizes.locations as i32, -1, 0, i32::MAX]))],
-                1 => vec![(bound, words[bound + 1].saturating_add(1))],
-                _ => vec![(bound + random.below(2), out(random, LEVEL))],
-            }
-        }
-        _ => vec![(random.below(words.len()), random_word(random))],
-    }
-}
-
-/// The model's words with one or two changes of `model_edit`.
-pub fn edited_words(random: &mut Random, plant: &Plant) -> Vec<i32> {
-    let mut words = plant.words().to_vec();
-    let edits = if random.chance(1, 5) { 2 } else { 1 };
-    for _ in 0..edits {
-        for (index, word) in model_edit(random, plant) {
-            words[index] = word;
-        }
-    }
-    words
-}
-
-/// The model file with such changes; its fields stay those of the model.
-pub fn edited_model_file(random: &mut Random, plant: &Plant) -> Vec<u8> {
-    let mut bytes = model_file(plant.words());
-    for (index, word) in edited_words(random, plant).into_iter().enumerate() {
-        let place = byte_of_word(&plant.sizes, index);
-        bytes[place..place + 4].copy_from_slice(&word.to_be_bytes());
-    }
-    bytes
-}
-
-/// Where the fields of a file begin, and where the last one ends (as far as it is whole).
-pub fn field_places(bytes: &[u8]) -> Vec<usize> {
-    let mut places = vec![0];
-    let mut at = 0;
-    while at + 3 <= bytes.len() {
-        at += 3 + u16::from_be_bytes([bytes[at + 1], bytes[at + 2]]) as usize;
-        if at > bytes.len() {
-            break;
-        }
-        places.push(at);
-    }
-    places
-}
-
-/// The kinds of change that `damage_bytes` makes.
-pub const BYTE_DAMAGE: [&str; 16] = [
-    "bits flipped",
-    "a byte appended",
-    "a byte replaced",
-    "cut anywhere",
-    "cut at a field's head",
-    "cut at a field's end",
-    "zeros appended",
-    "a field appended",
-    "a byte taken out",
-    "a byte put in",
-    "another tag",
-    "another length",
-    "a field taken out",
-    "a field doubled",
-    "two fields exchanged",
-    "a word more or fewer",
-];
-
-/// One change to the bytes of a file; gives its kind.
-pub fn damage_bytes(random: &mut Random, bytes: &mut Vec<u8>) -> &'static str {
-    let places = field_places(bytes);
-    let fields = places.len() - 1;
-    if bytes.is_empty() || fields == 0 {
-        bytes.push(random.next() as u8);
-        return BYTE_DAMAGE[1];
-    }
-    let chosen = random.below(fields);
-    let (from, to) = (places[chosen], places[chosen + 1]);
-    let any = random.below(bytes.len());
-    let kind = random.below(BYTE_DAMAGE.len());
-    match kind {
-        0 => {
-            for _ in 0..1 + random.below(3) {
-                let place = random.below(bytes.len());
-                bytes[place] ^= 1 << random.below(8);
-            }
-        }
-        1 => bytes.push(random.next() as u8),
-        2 => bytes[any] = random.next() as u8,
-        3 => bytes.truncate(any),
-        4 => bytes.truncate(from + random.below(4)),
-        5 => bytes.truncate(to - 1 - random.below(3)),
-        6 => bytes.extend(vec![0; 1 + random.below(4)]),
-        7 => {
-            let again = bytes[from..to].to_vec();
-            bytes.extend(again);
-        }
-        8 => {
-            bytes.remove(any);
-        }
-        9 => bytes.insert(any, random.next() as u8),
-        10 => bytes[from] = random.pick(&[0, HEAD, LOCATION, SWITCH, FORBIDDEN, FACE, TABLE_HEAD, 9, 255]),
-        11 => {
-            let length = u16::from_be_bytes([bytes[from + 1], bytes[from + 2]]);
-            let change = random.pick(&[1u16, 4, 65535, 65532, 256]);
-            bytes[from + 1..from + 3].copy_from_slice(&length.wrapping_add(change).to_be_bytes());
-        }
-        12 => {
-            bytes.drain(from..to);
-        }
-        13 => {
-            let again = bytes[from..to].to_vec();
-            bytes.splice(to..to, again);
-        }
-        14 => {
-            let other = random.below(fields);
-            let (a, b) = (chosen.min(other), chosen.max(other));
-            if a != b {
-                let mut changed = bytes[..places[a]].to_vec();
-                changed.extend(&bytes[places[b]..places[b + 1]]);
-                changed.extend(&bytes[places[a + 1]..places[b]]);
-                changed.extend(&bytes[places[a]..places[a + 1]]);
-                changed.extend(&bytes[places[b + 1]..]);
-                *bytes = changed;
-            }
-        }
-        _ => {
-            // A length that is right for its words.
-            if random.chance(1, 2) {
-                bytes.splice(to..to, [0; 4]);
-                let length = (to - from - 3 + 4) as u16;
-                bytes[from + 1..from + 3].copy_from_slice(&length.to_be_bytes());
-            } else if to - from >= 7 {
-                bytes.drain(to - 4..to);
-                let length = (to - from - 3 - 4) as u16;
-                bytes[from + 1..from + 3].copy_from_slice(&length.to_be_bytes());
-            }
-        }
-    }
-    BYTE_DAMAGE[kind]
-}
-
-/// The kinds of change to the fields of a table file that `damaged_table_file` makes.
-pub const FIELD_DAMAGE: [&str; 6] = [
-    "another count of faces",
-    "a location that does not exist",
-    "a face that does not exist",
-    "a face twice",
-    "faces in another order",
-    "a face left out, and counted so",
-];
-
-/// A table file with one change, in its words, its fields or its bytes; gives the kind too.
-pub fn damaged_table_file(random: &mut Random, plant: &Plant, table: &[i32]) -> (Vec<u8>, &'static str) {
-    let kind = random.below(10);
-    if kind < 4 {
-        let mut table = table.to_vec();
-        let label = damage_faces(random, plant, &mut table);
-        return (joined_fields(&face_records(plant, &table), None), label);
-    }
-    let mut records = face_records(plant, table);
-    if kind < 7 {
-        let (count, label) = damage_fields(random, plant, &mut records);
-        return (joined_fields(&records, count), label);
-    }
-    let mut bytes = joined_fields(&records, None);
-    let label = damage_bytes(random, &mut bytes);
-    (bytes, label)
-}
-
-/// The records of the faces whose flag is not 0.
-fn face_records(plant: &Plant, table: &[i32]) -> Vec<Vec<i32>> {
-    let sizes = plant.sizes;
-    let mut records = Vec::new();
-    for l in 0..sizes.locations {
-        for face in 0..sizes.faces() {
-            let words = &table[sizes.face_at(l, face)..][..sizes.face_words()];
-            if words[0] != 0 {
-                let mut record = vec![l as i32, face as i32];
-                record.extend(&words[1..]);
-                records.push(record);
-            }
-        }
-    }
-    records
-}
-
-/// The table file of these records, with another count at its head if there is one.
-fn joined_fields(records: &[Vec<i32>], count: Option<i32>) -> Vec<u8> {
-    let mut bytes = field(TABLE_HEAD, &[count.unwrap_or(records.len() as i32)]);
-    for record in records {
-        bytes.extend(field(FACE, record));
-    }
-    bytes
-}
-
-/// One change to the records of a table file, or another count; gives that count and the kind.
-fn damage_fields(random: &mut Random, plant: &Plant, records: &mut Vec<Vec<i32>>) -> (Option<i32>, &'static str) {
-    let sizes = plant.sizes;
-    let kind = if records.is_empty() { 0 } else { random.below(FIELD_DAMAGE.len()) };
-    let chosen = random.below(records.len().max(1));
-    let mut count = None;
-    match kind {
-        0 => {
-            let right = records.len() as i32;
-            let most = (sizes.faces() * sizes.locations) as i32;
-            count = Some(random.pick(&[right + 1, right - 1, -1, most, most + 1, 0, i32::MIN, i32::MAX]));
-        }
-        1 => records[chosen][0] = random.pick(&[-1, sizes.locations as i32, i32::MAX]),
-        2 => records[chosen][1] = random.pick(&[-1, sizes.faces() as i32, i32::MIN]),
-        3 => {
-            let again = records[chosen].clone();
-            records.insert(chosen, again);
-        }
-        4 => {
-            let other = random.below(records.len());
-            records.swap(chosen, other);
-        }
-        _ => {
-            records.remove(chosen);
-        }
-    }
-    (count, FIELD_DAMAGE[kind])
 }

@@ -7,7 +7,7 @@ use crate::model::{Plant, MAX_FORBIDDEN, MAX_LOCATIONS, MAX_SWITCHES};
 use crate::Refusal;
 
 /// Words of the largest model: the host's own buffer is always long enough.
-pub const MOST_MODEL_WORDS: usize = 4 + MAX_LOCATIONS * 37 + MAX_SWITCHES * 30 + MAX_FORBIDDEN * 13;
+pub const MOST_MODEL_WORDS: usize = 4 + MAX_LOCATIONS * (37 + 2) + MAX_SWITCHES * 30 + MAX_FORBIDDEN * 13;
 
 type Run = fn(&Plant, u32, &mut [i32], &mut [i32]) -> (Answer, u32);
 type Ask = fn(&Plant, &[i32]) -> Result<(), Refusal>;
@@ -33,10 +33,10 @@ fn decided(model: &[u8], buffer: &mut [u8], limit: u32, run: Run) -> u64 {
 fn try_decide(model: &[u8], buffer: &mut [u8], limit: u32, run: Run) -> Result<(Answer, u32), Refusal> {
     let model = model_of_file(model)?;
     let plant = model.plant();
-    if buffer.len() < plant.sizes.table_file_room() {
+    if buffer.len() < plant.table_file_room() {
         return Err(39);
     }
-    let mut table = vec![0; plant.sizes.table_words()];
+    let mut table = vec![0; plant.table_words()];
     let mut work = table.clone();
     let answer = run(&plant, limit, &mut table, &mut work);
     let file = table_file(&plant, &table);

@@ -5,10 +5,11 @@ use std::cmp::Ordering;
 
 use crate::compare::{hex, Comparison, Difference};
 use crate::coverage::note;
+use crate::damage::{damage_table, edited_words};
 use crate::desk::Desk;
 use crate::exports::{answer, Call, Input, Lent, Slice};
 use crate::files::{model_file, table_file};
-use crate::generate::{damage_table, edited_words, pass_budget, random_limit};
+use crate::generate::{pass_budget, random_limit};
 use crate::model::Plant;
 use crate::random::Random;
 
@@ -60,8 +61,7 @@ struct Due {
 
 impl Due {
     fn new(plant: &Plant, file: usize) -> Due {
-        let sizes = plant.sizes;
-        Due { model: sizes.model_words(), table: sizes.table_words(), file, room: sizes.table_file_room() }
+        Due { model: plant.words().len(), table: plant.table_words(), file, room: plant.table_file_room() }
     }
 
     fn of(&self, call: Call, slice: Slice) -> usize {
@@ -99,7 +99,7 @@ fn random_length(random: &mut Random, due: usize) -> usize {
     }
 }
 
-/// The list cut, or followed by words that are not part of it.
+/// The list's beginning, or the list followed by words that are not part of it.
 fn of_length(random: &mut Random, list: &[i32], length: usize) -> Vec<i32> {
     let mut list = list[..list.len().min(length)].to_vec();
     list.extend((list.len()..length).map(|_| random.next() as i32));
@@ -315,13 +315,12 @@ impl Comparison {
     /// desk, the table checked, written, and read again; each on what the call before it left.
     fn program_case(&mut self, plant: &Plant, file: &[u8], limit: u32) -> Result<(), Difference> {
         let label = "as a program";
-        let sizes = plant.sizes;
-        let size = sizes.table_words();
+        let size = plant.table_words();
         let none = Input { model: &[], table: &[], file: &[], limit };
         let fresh = Desk::default();
         let words_only = |words: usize| Lengths { words, ..Lengths::default() };
         let read =
-            self.call(label, Call::ReadModel, &Input { file, ..none }, &words_only(sizes.model_words()), fresh)?;
+            self.call(label, Call::ReadModel, &Input { file, ..none }, &words_only(plant.words().len()), fresh)?;
         let with_model = Input { model: &read.words, ..none };
         let ceiling = self.call(label, Call::Ceiling, &with_model, &Lengths::default(), fresh)?.value;
         self.counts.extreme("a ceiling above 4,294,967,295", ceiling > u32::MAX as u64);
@@ -329,6 +328,9 @@ impl Comparison {
         let found = self.call(label, Call::Analyse, &with_model, &buffers, fresh)?;
         self.counts.extreme("qii_analyse of more than 1,500 passes", found.value > 1_500);
         self.counts.extreme("a face from -1,000,000 to 1,000,000", spans_all_levels(plant, &found.words));
+        if found.number >= 100 {
+            self.counts.note_pieces(plant, &found.words);
+        }
         self.standing_desk(&with_model, &buffers)?;
         let with_table = Input { table: &found.words, ..with_model };
         let checked = self.call(label, Call::Check, &with_table, &Lengths::default(), fresh)?.number;
@@ -340,7 +342,7 @@ impl Comparison {
                 ),
             });
         }
-        let room = Lengths { file: sizes.table_file_room(), ..Lengths::default() };
+        let room = Lengths { file: plant.table_file_room(), ..Lengths::default() };
         let written = self.call(label, Call::WriteTable, &with_table, &room, fresh)?;
         let with_file = Input { file: &written.file[..written.value as usize], ..with_model };
         let again = self.call(label, Call::ReadTable, &with_file, &words_only(size), fresh)?;
@@ -392,23 +394,23 @@ impl Comparison {
         let mut length = |due: usize| if exact { due } else { random_length(random, due) };
         let lengths =
             Lengths { words: length(due.of(call, Slice::Words)), work: length(due.table), file: length(due.room) };
-        let limit = self.random.below(pass_budget(&plant.sizes).min(30) as usize) as u32;
+        let limit = self.random.below(pass_budget(plant).min(30) as usize) as u32;
         let input = Input { model: &words, table: &list, file: &file, limit };
         self.sized_call("a damaged input", call, &input, &lengths, &due)?;
         Ok(())
     }
 
-    /// Model words, edited, cut or thrown together.
+    /// Model words, edited, shortened or thrown together.
     fn damaged_words(&mut self, plant: &Plant) -> Vec<i32> {
         let random = &mut self.random;
         let (words, kind) = match random.below(12) {
             0 => {
                 let length = random.below(plant.words().len());
-                (of_length(random, plant.words(), length), "cut anywhere")
+                (of_length(random, plant.words(), length), "ends anywhere")
             }
             1 => {
                 let length = random.below(6);
-                (of_length(random, plant.words(), length), "cut at the head")
+                (of_length(random, plant.words(), length), "ends at the head")
             }
             2 => ((0..random.below(30)).map(|_| random.range(-1, 3) as i32).collect(), "random words"),
             3 => {
@@ -518,7 +520,7 @@ fn first_desk(random: &mut Random) -> (Desk, &'static str) {
 fn desk_limit(random: &mut Random, plant: &Plant, desk: Desk) -> u32 {
     let rest = u32::MAX - desk.passes;
     let edge = random.pick(&[rest, rest.saturating_add(1), rest.saturating_sub(1)]);
-    if edge <= pass_budget(&plant.sizes) && random.chance(2, 3) {
+    if edge <= pass_budget(plant) && random.chance(2, 3) {
         return edge;
     }
     random_limit(random, plant)

@@ -3,7 +3,7 @@
 //! Written from documents 01 and 02 and their readings alone, to be compared with the
 //! program under test. It uses the standard library only.
 //!
-//! * `model`     – sizes and places, model words, questions 2 to 5 and 11 to 19
+//! * `model`     – sizes and places, model words, questions 2 to 5, 11 to 19 and 46; pieces of faces
 //! * `fraction`  – exact fractions
 //! * `delays`    – delays to a wall; touching by one delay for all variables
 //! * `steps`     – wall step, switch step, join
@@ -13,11 +13,11 @@
 //! * `draft`     – a model in the making, and grids of cells
 //! * `plain`     – a slow, literal pass and touching, to check the quick ones
 //! * `simulate`  – random runs, from the section "Runs" alone
-//! * `generate`  – random models and damaged inputs; `random` is its number source
+//! * `generate`  – random models and tables, `damage` damaged inputs; `random` is their number source
 //! * `examples`  – document 01's plant P, source 000's examples and more; `samples` names those in `models`
 //! * `exports`   – the C calls beside decide and check: number, value, lent memory
 //! * `compare`   – compares two implementations of the C calls, `lending` those of `exports`;
-//!   `fixed` and `fixed_calls` have the fixed cases, `coverage` counts what came up
+//!   `fixed`, `fixed_calls` and `fixed_cuts` have the fixed cases, `coverage` counts what came up
 //! * `host_ffi`  – the C calls of libhost.a (feature `host`), or a stand-in
 
 pub mod analysis;
@@ -26,6 +26,7 @@ pub mod ceiling;
 pub mod checker;
 pub mod compare;
 pub mod coverage;
+pub mod damage;
 pub mod delays;
 pub mod desk;
 pub mod draft;
@@ -34,6 +35,7 @@ pub mod exports;
 pub mod files;
 pub mod fixed;
 pub mod fixed_calls;
+pub mod fixed_cuts;
 pub mod fraction;
 pub mod generate;
 pub mod host;

@@ -13,24 +13,24 @@ pub fn listing(file: &[u8]) -> String {
         Err(refusal) => return format!("refused {refusal}\n"),
     };
     let plant = model.plant();
-    let sizes = plant.sizes;
-    let mut table = vec![0; sizes.table_words()];
+    let mut table = vec![0; plant.table_words()];
     let mut work = table.clone();
     let (answer, k) = run(&plant, LIMIT, &mut table, &mut work);
-    let mut faces = 0;
+    let mut present = 0;
     let mut lines = String::new();
-    for l in 0..sizes.locations {
-        for face in 0..sizes.faces() {
-            let words = &table[sizes.face_at(l, face)..][..sizes.face_words()];
-            if words[0] == 1 {
-                faces += 1;
-                lines += &format!("{l} {face}");
-                for bound in &words[1..] {
-                    lines += &format!(" {bound}");
-                }
-                lines += "\n";
+    for piece in plant.all_pieces() {
+        let words = &table[plant.piece_places(piece)];
+        if words[0] == 1 {
+            present += 1;
+            lines += &format!("{} {}", piece.location, piece.face);
+            if plant.any_cut() {
+                lines += &format!(" {}", piece.piece);
             }
+            for bound in &words[1..] {
+                lines += &format!(" {bound}");
+            }
+            lines += "\n";
         }
     }
-    format!("{} {k} {faces}\n{lines}", answer.word())
+    format!("{} {k} {present}\n{lines}", answer.word())
 }

@@ -1,5 +1,7 @@
 //! The plant model as a list of signed 32-bit words, and the questions asked of it.
 
+use std::ops::Range;
+
 use crate::Refusal;
 
 /// Levels lie in -LEVEL..LEVEL.
@@ -13,7 +15,7 @@ pub const MAX_FORBIDDEN: usize = 64;
 /// Room for the bounds of one box of the largest n.
 pub const MAX_BOX: usize = 2 * MAX_VARIABLES;
 
-/// Table words of one location (document 02, T-04).
+/// Table words of one location without a cut (document 02, T-04).
 pub fn words_per_location(n: usize) -> usize {
     2 * n * (1 + 2 * n)
 }
@@ -63,30 +65,38 @@ impl Sizes {
     pub fn forbidden_at(&self, f: usize) -> usize {
         self.switch_at(self.switches) + f * self.forbidden_words()
     }
+    /// Place of the variable of location l's cut; the value comes behind it.
+    pub fn cut_at(&self, l: usize) -> usize {
+        self.forbidden_at(self.forbidden) + 2 * l
+    }
     /// Words of the whole model.
     pub fn model_words(&self) -> usize {
-        self.forbidden_at(self.forbidden)
+        self.cut_at(self.locations)
     }
     /// Faces of one location.
     pub fn faces(&self) -> usize {
         2 * self.n
     }
-    /// Words of one face: the flag, then a low and a high for each variable.
+    /// Words of one face, or of one piece of it: the flag, then a low and a high for each variable.
     pub fn face_words(&self) -> usize {
         1 + 2 * self.n
     }
-    /// Words of a whole table.
-    pub fn table_words(&self) -> usize {
-        self.locations * words_per_location(self.n)
-    }
-    /// Place of the flag of a face in a table.
-    pub fn face_at(&self, l: usize, face: usize) -> usize {
-        l * words_per_location(self.n) + face * self.face_words()
-    }
-    /// Bytes that a table file can need at most (question 39).
-    pub fn table_file_room(&self) -> usize {
-        7 + self.locations * 2 * self.n * (11 + 8 * self.n)
-    }
+}
+
+/// A location's cut (document 02, T-12): each of its faces with another wall variable is kept as two
+/// pieces, up to the value and from the value. Its other faces have a second piece that is absent.
+#[derive(Clone, Copy, Debug, PartialEq, Eq)]
+pub struct Cut {
+    pub variable: usize,
+    pub value: i32,
+}
+
+/// A piece of a location's face: the first (0) is all there is where no cut is.
+#[derive(Clone, Copy, Debug, PartialEq, Eq, PartialOrd, Ord)]
+pub struct Piece {
+    pub location: usize,
+    pub face: usize,
+    pub piece: usize,
 }
 
 /// A model that has passed its questions, over its own words only.
@@ -94,6 +104,10 @@ impl Sizes {
 pub struct Plant<'a> {
     pub sizes: Sizes,
     words: &'a [i32],
+    /// The words of the cuts, at the end of all words.
+    cuts: &'a [i32],
+    /// How many pieces stand before each location in a table, and how many there are.
+    before: [u16; MAX_LOCATIONS + 1],
 }
 
 #[derive(Clone, Copy, Debug)]
@@ -102,6 +116,7 @@ pub struct Location<'a> {
     pub rates: &'a [i32],
     pub started: bool,
     pub start: &'a [i32],
+    pub cut: Option<Cut>,
 }
 
 #[derive(Clone, Copy, Debug)]
@@ -130,12 +145,22 @@ pub struct Model {
 
 impl Model {
     pub fn plant(&self) -> Plant<'_> {
-        Plant { sizes: self.sizes, words: &self.words }
+        Plant::new(self.sizes, &self.words)
     }
 }
 
 impl<'a> Plant<'a> {
-    /// All questions of a model given as words: 5 under four words, then 2 to 5, 11 to 19.
+    /// Words that have passed all questions, with their sizes.
+    fn new(sizes: Sizes, words: &'a [i32]) -> Plant<'a> {
+        let mut plant = Plant { sizes, words, cuts: &words[sizes.cut_at(0)..], before: [0; MAX_LOCATIONS + 1] };
+        for l in 0..sizes.locations {
+            let pieces = sizes.faces() * if plant.cut(l).is_some() { 2 } else { 1 };
+            plant.before[l + 1] = plant.before[l] + pieces as u16;
+        }
+        plant
+    }
+
+    /// All questions of a model given as words: 5 under four words, then 2 to 5, 11 to 19, 46.
     pub fn from_words(list: &'a [i32]) -> Result<Plant<'a>, Refusal> {
         if list.len() < 4 {
             return Err(5);
@@ -146,7 +171,7 @@ impl<'a> Plant<'a> {
         }
         let words = &list[..sizes.model_words()];
         ask_records(&sizes, words)?;
-        Ok(Plant { sizes, words })
+        Ok(Plant::new(sizes, words))
     }
 
     /// The model's own words.
@@ -154,6 +179,7 @@ impl<'a> Plant<'a> {
         self.words
     }
 
+    #[inline]
     pub fn location(&self, l: usize) -> Location<'a> {
         let two_n = 2 * self.sizes.n;
         let record = &self.words[self.sizes.location_at(l)..][..self.sizes.location_words()];
@@ -162,7 +188,92 @@ impl<'a> Plant<'a> {
             rates: &record[two_n..2 * two_n],
             started: record[2 * two_n] == 1,
             start: &record[2 * two_n + 1..],
+            cut: self.cut(l),
         }
+    }
+
+    #[inline]
+    pub fn cut(&self, l: usize) -> Option<Cut> {
+        let (variable, value) = (self.cuts[2 * l], self.cuts[2 * l + 1]);
+        (variable != -1).then_some(Cut { variable: variable as usize, value })
+    }
+
+    /// Is any location cut? Then the fields of a table file and the lines of a listing name the piece.
+    pub fn any_cut(&self) -> bool {
+        self.pieces() > self.sizes.locations * self.sizes.faces()
+    }
+
+    /// Pieces of each face of location l.
+    pub fn pieces_of(&self, l: usize) -> usize {
+        1 + ((self.before[l + 1] - self.before[l]) as usize > self.sizes.faces()) as usize
+    }
+
+    /// Pieces of the whole table.
+    pub fn pieces(&self) -> usize {
+        self.before[self.sizes.locations] as usize
+    }
+
+    /// All pieces in the table's order: by location, then face, then piece.
+    pub fn all_pieces(&self) -> impl Iterator<Item = Piece> + '_ {
+        (0..self.sizes.locations).flat_map(move |location| {
+            (0..self.sizes.faces())
+                .flat_map(move |face| (0..self.pieces_of(location)).map(move |piece| Piece { location, face, piece }))
+        })
+    }
+
+    /// Words of a whole table.
+    pub fn table_words(&self) -> usize {
+        self.pieces() * self.sizes.face_words()
+    }
+
+    /// Where the words of all pieces of location l stand in a table.
+    #[inline]
+    pub fn location_places(&self, l: usize) -> Range<usize> {
+        self.before[l] as usize * self.sizes.face_words()..self.before[l + 1] as usize * self.sizes.face_words()
+    }
+
+    /// Where the words of all pieces of a face stand in a table.
+    #[inline]
+    pub fn face_places(&self, l: usize, face: usize) -> Range<usize> {
+        let words = self.pieces_of(l) * self.sizes.face_words();
+        let from = self.location_places(l).start + face * words;
+        from..from + words
+    }
+
+    /// Where the words of one piece stand in a table.
+    pub fn piece_places(&self, piece: Piece) -> Range<usize> {
+        let words = self.sizes.face_words();
+        let from = self.face_places(piece.location, piece.face).start + piece.piece * words;
+        from..from + words
+    }
+
+    /// The widest box of a piece: its location's invariant, on its wall, on its side of the value. None if
+    /// the piece is always absent: the second one on a wall of the cut variable.
+    pub fn widest(&self, piece: Piece) -> Option<[i32; MAX_BOX]> {
+        let location = self.location(piece.location);
+        let mut bounds = [0; MAX_BOX];
+        bounds[..2 * self.sizes.n].copy_from_slice(location.invariant);
+        if let Some(cut) = location.cut {
+            match (cut.variable == piece.face / 2, piece.piece) {
+                (true, 0) => {}
+                (true, _) => return None,
+                (false, 0) => bounds[2 * cut.variable + 1] = cut.value,
+                (false, _) => bounds[2 * cut.variable] = cut.value,
+            }
+        }
+        let d = piece.face / 2;
+        bounds[2 * d..2 * d + 2].fill(location.invariant[piece.face]);
+        Some(bounds)
+    }
+
+    /// Words of a piece's field in a table file: location, face, with any cut the piece, and the box.
+    pub fn field_words(&self) -> usize {
+        2 + self.any_cut() as usize + 2 * self.sizes.n
+    }
+
+    /// Bytes that a table file can need at most (question 39).
+    pub fn table_file_room(&self) -> usize {
+        7 + self.pieces() * (3 + 4 * self.field_words())
     }
 
     pub fn switch(&self, s: usize) -> Switch<'a> {
@@ -196,7 +307,8 @@ pub fn ordered_inside(bounds: &[i32], outer: &[i32]) -> bool {
     bounds.chunks_exact(2).zip(outer.chunks_exact(2)).all(|(r, o)| o[0] <= r[0] && r[0] <= r[1] && r[1] <= o[1])
 }
 
-/// Questions 11 to 19, record by record. `words` are the model's words, of the right length.
+/// Questions 11 to 19, record by record, then 46, cut by cut. `words` are the model's words, of the
+/// right length.
 pub fn ask_records(sizes: &Sizes, words: &[i32]) -> Result<(), Refusal> {
     let n = sizes.n;
     let two_n = 2 * n;
@@ -266,6 +378,18 @@ pub fn ask_records(sizes: &Sizes, words: &[i32]) -> Result<(), Refusal> {
         let location_exists = 0 <= record[0] && (record[0] as usize) < sizes.locations;
         if !location_exists || !ordered_in_range(&record[1..], -LEVEL, LEVEL) {
             return Err(19);
+        }
+    }
+
+    for l in 0..sizes.locations {
+        let (variable, value) = (words[sizes.cut_at(l)], words[sizes.cut_at(l) + 1]);
+        let uncut = variable == -1 && value == 0;
+        let strictly_inside = || {
+            let range = &invariant_of(l)[2 * variable as usize..][..2];
+            range[0] < value && value < range[1]
+        };
+        if !uncut && !((0..n as i32).contains(&variable) && strictly_inside()) {
+            return Err(46);
         }
     }
     Ok(())

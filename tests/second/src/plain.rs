@@ -8,7 +8,7 @@ use crate::model::Plant;
 
 /// A low and a high for each variable.
 pub type Ranges = Vec<(i64, i64)>;
-/// One entry for each location and face; None is an absent face.
+/// One entry for each location and piece; None is an absent piece.
 pub type Faces = Vec<Vec<Option<Ranges>>>;
 
 /// num/den with den > 0.
@@ -18,19 +18,36 @@ fn ranges(bounds: &[i32]) -> Ranges {
     bounds.chunks_exact(2).map(|r| (r[0] as i64, r[1] as i64)).collect()
 }
 
+/// The pieces of a location in the table's order: the face of each, and the box that it keeps to, which is
+/// None for one that is always absent.
+pub fn pieces(plant: &Plant, l: usize) -> Vec<(usize, Option<Ranges>)> {
+    let location = plant.location(l);
+    let mut pieces = Vec::new();
+    for face in 0..2 * plant.sizes.n {
+        let whole = ranges(location.invariant);
+        match location.cut {
+            None => pieces.push((face, Some(whole))),
+            Some(cut) if cut.variable == face / 2 => pieces.extend([(face, Some(whole)), (face, None)]),
+            Some(cut) => {
+                let (mut first, mut second) = (whole.clone(), whole);
+                first[cut.variable].1 = cut.value as i64;
+                second[cut.variable].0 = cut.value as i64;
+                pieces.extend([(face, Some(first)), (face, Some(second))]);
+            }
+        }
+    }
+    pieces
+}
+
 /// The table's words as faces.
 pub fn from_words(plant: &Plant, table: &[i32]) -> Faces {
-    let sizes = plant.sizes;
-    (0..sizes.locations)
-        .map(|l| {
-            (0..2 * sizes.n)
-                .map(|face| {
-                    let place = (l * 2 * sizes.n + face) * (1 + 2 * sizes.n);
-                    (table[place] == 1).then(|| ranges(&table[place + 1..][..2 * sizes.n]))
-                })
-                .collect()
-        })
-        .collect()
+    let mut words = table.chunks_exact(1 + 2 * plant.sizes.n);
+    let mut next = || words.next().expect("the table has the words of all pieces");
+    let mut piece = || {
+        let words = next();
+        (words[0] == 1).then(|| ranges(&words[1..]))
+    };
+    (0..plant.sizes.locations).map(|l| pieces(plant, l).iter().map(|_| piece()).collect()).collect()
 }
 
 /// The faces as the table's words.
@@ -137,7 +154,7 @@ fn cut(x: &Ranges, y: &Ranges) -> Option<Ranges> {
     both.iter().all(|r| r.0 <= r.1).then_some(both)
 }
 
-/// The parts of location l: the start box under flag 1 and the present faces.
+/// The parts of location l: the start box under flag 1 and the present pieces.
 pub fn parts(plant: &Plant, faces: &Faces, l: usize) -> Vec<Ranges> {
     let location = plant.location(l);
     let mut parts = Vec::new();
@@ -148,43 +165,46 @@ pub fn parts(plant: &Plant, faces: &Faces, l: usize) -> Vec<Ranges> {
     parts
 }
 
-/// One pass.
+/// What a switch step gives from one part on the source's face.
+fn switch_step(plant: &Plant, part: &Ranges, s: usize) -> Option<Ranges> {
+    let switch = plant.switch(s);
+    let mut moved = cut(part, &ranges(switch.guard))?;
+    let reset = ranges(switch.reset);
+    for i in 0..plant.sizes.n {
+        if switch.mask & (1 << i) != 0 {
+            moved[i] = reset[i];
+        }
+    }
+    cut(&cut(&moved, &reset)?, &ranges(plant.location(switch.target).invariant))
+}
+
+/// One pass: to each piece everything that a step gives on its face, cut to the piece.
 pub fn pass(plant: &Plant, old: &Faces) -> Faces {
-    let n = plant.sizes.n;
     let mut new = old.clone();
     for l in 0..plant.sizes.locations {
         let location = plant.location(l);
-        let invariant = ranges(location.invariant);
-        for part in parts(plant, old, l) {
-            for d in 0..n {
-                for (side, b) in [invariant[d].0, invariant[d].1].into_iter().enumerate() {
-                    if let Some(reached) = wall_step(&part, &ranges(location.rates), &invariant, d, b) {
-                        new[l][2 * d + side] = hull(&new[l][2 * d + side], &reached);
-                    }
+        let (rates, invariant) = (ranges(location.rates), ranges(location.invariant));
+        for (number, (face, keeps)) in pieces(plant, l).into_iter().enumerate() {
+            let Some(keeps) = keeps else {
+                continue;
+            };
+            let (d, side) = (face / 2, face % 2);
+            let wall = if side == 0 { invariant[d].0 } else { invariant[d].1 };
+            let mut results: Vec<Ranges> = Vec::new();
+            results.extend(parts(plant, old, l).iter().filter_map(|part| wall_step(part, &rates, &invariant, d, wall)));
+            for s in 0..plant.sizes.switches {
+                let switch = plant.switch(s);
+                if (switch.target, switch.d, switch.target_side) == (l, d, side) {
+                    let source = pieces(plant, switch.source);
+                    let on_face = |number: &usize| source[*number].0 == 2 * d + switch.source_side;
+                    let parts = (0..source.len()).filter(on_face).filter_map(|n| old[switch.source][n].as_ref());
+                    results.extend(parts.filter_map(|part| switch_step(plant, part, s)));
                 }
             }
-        }
-    }
-    for s in 0..plant.sizes.switches {
-        let switch = plant.switch(s);
-        let Some(face) = &old[switch.source][2 * switch.d + switch.source_side] else {
-            continue;
-        };
-        let Some(mut moved) = cut(face, &ranges(switch.guard)) else {
-            continue;
-        };
-        let reset = ranges(switch.reset);
-        for i in 0..n {
-            if switch.mask & (1 << i) != 0 {
-                moved[i] = reset[i];
+            for result in results.iter().filter_map(|result| cut(result, &keeps)) {
+                new[l][number] = hull(&new[l][number], &result);
             }
         }
-        let invariant = ranges(plant.location(switch.target).invariant);
-        let Some(landed) = cut(&moved, &reset).and_then(|moved| cut(&moved, &invariant)) else {
-            continue;
-        };
-        let held = &mut new[switch.target][2 * switch.d + switch.target_side];
-        *held = hull(held, &landed);
     }
     new
 }

@@ -3,10 +3,10 @@
 use crate::analysis::run;
 use crate::draft::Draft;
 use crate::examples::{
-    dosing, figure_1, guarded_box, large_grid, plant_p, plant_p_table, plant_p_unknown, plant_p_wider, two_tank,
-    water_level,
+    all_cut, box_ends, dosing, figure_1, guarded_box, large_grid, plant_p, plant_p_cut, plant_p_cut_table,
+    plant_p_table, plant_p_unknown, plant_p_wider, three_tanks, two_tank, water_level,
 };
-use crate::files::{model_file, table_file};
+use crate::files::{field, model_file, table_file, FACE, TABLE_HEAD};
 use crate::model::Plant;
 
 /// Every sample by name.
@@ -33,6 +33,12 @@ fn answered() -> Vec<(&'static str, Draft)> {
         ("water-level-slow", water_level(25)),
         ("dosing", dosing(5_000)),
         ("largest", large_grid(6, 3)),
+        ("plant-p-cut", plant_p_cut()),
+        ("box-ends", box_ends(false)),
+        ("box-ends-cut", box_ends(true)),
+        ("three-tanks", three_tanks(false)),
+        ("three-tanks-cut", three_tanks(true)),
+        ("largest-cut", all_cut(large_grid(6, 3))),
     ]
 }
 
@@ -43,11 +49,13 @@ fn refused() -> Vec<(&'static str, Vec<u8>)> {
     too_high.locations[0].invariant[3] = 1_000_001;
     let mut trailing = p.clone();
     trailing.push(0);
+    let at_wall = Draft { cuts: vec![(0, 0, 10)], ..plant_p() };
     vec![
         ("refused-empty", vec![]),
         ("refused-cut", p[..p.len() - 1].to_vec()),
         ("refused-trailing", trailing),
         ("refused-level", model_file(&too_high.words())),
+        ("refused-at-wall", model_file(&at_wall.words())),
     ]
 }
 
@@ -69,14 +77,63 @@ pub fn tables() -> Vec<(&'static str, Vec<u8>, u64)> {
         ("plant-p.cut", whole[..whole.len() - 1].to_vec(), 36),
         ("plant-p-unknown", whole, 34),
         ("two-tanks", answers_table(&two_tank(59)), 100),
+        ("plant-p-cut", plant_p_cut_file(), 100),
+        ("three-tanks-cut", answers_table(&three_tanks(true)), 100),
+        ("three-tanks-cut.exchanged", three_tanks_file(exchange), 32),
+        ("three-tanks-cut.own-wall", three_tanks_file(|pieces| pieces.push(vec![2, 2, 1, 5, 5, 0, 0, 3, 3])), 32),
+        ("three-tanks-cut.no-pieces", three_tanks_file(leave_out), 36),
+        ("three-tanks-cut.not-cut", three_tanks_file(|pieces| pieces[1][2] = 1), 37),
     ]
+}
+
+/// The table file of P cut at x = 5.
+fn plant_p_cut_file() -> Vec<u8> {
+    let words = plant_p_cut().words();
+    table_file(&Plant::from_words(&words).expect("P passes its questions when it is cut"), &plant_p_cut_table())
+}
+
+/// The words of the fields of a table file.
+type Records = Vec<Vec<i32>>;
+
+/// The table file of the three tanks, cut, with its pieces (location, face, piece, box) changed.
+fn three_tanks_file(change: fn(&mut Records)) -> Vec<u8> {
+    let (first, second) = (vec![1, 2, 6, 7], vec![6, 7, 1, 2]);
+    let piece =
+        |location: i32, face: i32, piece: i32, x: i32, vats: &[i32]| [&[location, face, piece, x, x], vats].concat();
+    let mut pieces = vec![
+        piece(0, 0, 0, 0, &first),
+        piece(0, 1, 0, 10, &first),
+        piece(1, 0, 0, 0, &second),
+        piece(1, 1, 0, 10, &second),
+        piece(2, 0, 0, 0, &[1, 4, 6, 9]),
+        piece(2, 0, 1, 0, &[6, 9, 1, 4]),
+        piece(2, 1, 0, 10, &first),
+        piece(2, 1, 1, 10, &second),
+    ];
+    change(&mut pieces);
+    let mut file = field(TABLE_HEAD, &[pieces.len() as i32]);
+    pieces.iter().for_each(|record| file.extend(field(FACE, record)));
+    file
+}
+
+/// The two pieces on the full measuring tank, each with the other's box.
+fn exchange(pieces: &mut Records) {
+    let (before, after) = pieces.split_at_mut(7);
+    before[6][3..].swap_with_slice(&mut after[0][3..]);
+}
+
+/// Every field without its piece.
+fn leave_out(pieces: &mut Records) {
+    pieces.iter_mut().for_each(|record| {
+        record.remove(2);
+    });
 }
 
 /// The file of a plant's table after all its passes.
 fn answers_table(draft: &Draft) -> Vec<u8> {
     let words = draft.words();
     let plant = Plant::from_words(&words).expect("a sample passes its questions");
-    let mut table = vec![0; plant.sizes.table_words()];
+    let mut table = vec![0; plant.table_words()];
     let mut work = table.clone();
     run(&plant, 1_000, &mut table, &mut work);
     table_file(&plant, &table)

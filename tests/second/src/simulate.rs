@@ -120,10 +120,8 @@ pub fn is_reached(plant: &Plant, table: &[i32], denominator: i64, at: &Configura
         }
         some_delay_meets(&scaled[..two_n], &rates[..two_n], &point[..two_n])
     };
-    let from = sizes.face_at(at.location, 0);
-    let to = sizes.face_at(at.location + 1, 0);
-    (location.started && reaches(location.start))
-        || table[from..to].chunks_exact(sizes.face_words()).any(|words| words[0] == 1 && reaches(&words[1..]))
+    let mut pieces = table[plant.location_places(at.location)].chunks_exact(sizes.face_words());
+    (location.started && reaches(location.start)) || pieces.any(|words| words[0] == 1 && reaches(&words[1..]))
 }
 
 /// A number from low to high, often one of the ends.

@@ -1,41 +1,70 @@
 //! Tables: question 32, one pass, the search for a touched forbidden box.
 
 use crate::delays::{touches, touches_quick};
-use crate::model::{ordered_inside, Location, Plant, MAX_BOX};
+use crate::model::{ordered_inside, Cut, Location, Piece, Plant, MAX_BOX};
 use crate::steps::{join, switch_step, wall_step};
 
-/// Question 32: flags 0 or 1, absent faces zero, present ones ordered, inside the
-/// invariant, on their wall. `table` has exactly the table's words.
+/// Question 32: flags 0 or 1, absent pieces zero, present ones ordered, inside the invariant, on their
+/// wall and on their side; the second piece absent on the cut variable's own walls. `table` has exactly
+/// the table's words.
 pub fn well_formed(plant: &Plant, table: &[i32]) -> bool {
     let sizes = plant.sizes;
-    (0..sizes.locations).all(|l| {
-        let invariant = plant.location(l).invariant;
+    let stands = |piece: Piece, words: &[i32]| match words[0] {
+        0 => words[1..].iter().all(|&w| w == 0),
+        1 => plant.widest(piece).is_some_and(|widest| ordered_inside(&words[1..], &widest)),
+        _ => false,
+    };
+    (0..sizes.locations).all(|location| {
         (0..sizes.faces()).all(|face| {
-            let words = &table[sizes.face_at(l, face)..][..sizes.face_words()];
-            let bounds = &words[1..];
-            match words[0] {
-                0 => bounds.iter().all(|&w| w == 0),
-                1 => {
-                    let d = face / 2;
-                    let wall = invariant[face];
-                    ordered_inside(bounds, invariant) && bounds[2 * d] == wall && bounds[2 * d + 1] == wall
-                }
-                _ => false,
-            }
+            let pieces = table[plant.face_places(location, face)].chunks_exact(sizes.face_words());
+            pieces.enumerate().all(|(piece, words)| stands(Piece { location, face, piece }, words))
         })
     })
 }
 
-/// Joins to the location's new faces every wall step from one part.
+/// Joins a step's result on the wall of d to all pieces of its face: it is cut to each piece first, and
+/// an empty cut joins nothing. True if one of them changed.
+#[inline(always)]
+fn join_to_pieces(n: usize, d: usize, cut: Option<Cut>, reached: &[i32; MAX_BOX], pieces: &mut [i32]) -> bool {
+    match cut {
+        None => join(&mut pieces[..1 + 2 * n], &reached[..2 * n]),
+        Some(cut) => join_cut(n, d, cut, reached, pieces),
+    }
+}
+
+/// The same of a face of a location that is cut.
+#[inline(never)]
+fn join_cut(n: usize, d: usize, cut: Cut, reached: &[i32; MAX_BOX], pieces: &mut [i32]) -> bool {
+    let (first, second) = pieces.split_at_mut(1 + 2 * n);
+    if cut.variable == d {
+        return join(first, &reached[..2 * n]);
+    }
+    let (low, high) = (2 * cut.variable, 2 * cut.variable + 1);
+    let mut changed = false;
+    if reached[low] <= cut.value {
+        let mut below = *reached;
+        below[high] = below[high].min(cut.value);
+        changed |= join(first, &below[..2 * n]);
+    }
+    if reached[high] >= cut.value {
+        let mut above = *reached;
+        above[low] = above[low].max(cut.value);
+        changed |= join(second, &above[..2 * n]);
+    }
+    changed
+}
+
+/// Joins to the location's new pieces every wall step from one part.
 #[inline]
-fn wall_steps_from(n: usize, part: &[i32], location: &Location, faces: &mut [i32]) -> bool {
-    let face_words = 1 + 2 * n;
+fn wall_steps_from(n: usize, part: &[i32], location: &Location, pieces: &mut [i32]) -> bool {
+    let words = (1 + 2 * n) * if location.cut.is_some() { 2 } else { 1 };
     let mut changed = false;
     let mut reached = [0i32; MAX_BOX];
     for face in 0..2 * n {
         let b = location.invariant[face];
         if wall_step(n, part, location.rates, location.invariant, face / 2, b, &mut reached) {
-            changed |= join(&mut faces[face * face_words..][..face_words], &reached[..2 * n]);
+            let pieces = &mut pieces[face * words..][..words];
+            changed |= join_to_pieces(n, face / 2, location.cut, &reached, pieces);
         }
     }
     changed
@@ -51,29 +80,30 @@ pub fn pass(plant: &Plant, old: &[i32], new: &mut [i32]) -> bool {
     let mut changed = false;
     for l in 0..sizes.locations {
         let location = plant.location(l);
-        let from = sizes.face_at(l, 0);
-        let to = sizes.face_at(l + 1, 0);
-        let faces = &mut new[from..to];
+        let places = plant.location_places(l);
+        let pieces = &mut new[places.clone()];
         if location.started {
-            changed |= wall_steps_from(n, location.start, &location, faces);
+            changed |= wall_steps_from(n, location.start, &location, pieces);
         }
-        for words in old[from..to].chunks_exact(face_words) {
+        for words in old[places].chunks_exact(face_words) {
             if words[0] == 1 {
-                changed |= wall_steps_from(n, &words[1..], &location, faces);
+                changed |= wall_steps_from(n, &words[1..], &location, pieces);
             }
         }
     }
     let mut landed = [0i32; MAX_BOX];
     for s in 0..sizes.switches {
         let switch = plant.switch(s);
-        let words = &old[sizes.face_at(switch.source, 2 * switch.d + switch.source_side)..][..face_words];
-        if words[0] == 0 {
-            continue;
-        }
-        let invariant = plant.location(switch.target).invariant;
-        if switch_step(n, &words[1..], &switch, invariant, &mut landed) {
-            let place = sizes.face_at(switch.target, 2 * switch.d + switch.target_side);
-            changed |= join(&mut new[place..][..face_words], &landed[..2 * n]);
+        let from = plant.face_places(switch.source, 2 * switch.d + switch.source_side);
+        for words in old[from].chunks_exact(face_words) {
+            if words[0] == 0 {
+                continue;
+            }
+            let target = plant.location(switch.target);
+            if switch_step(n, &words[1..], &switch, target.invariant, &mut landed) {
+                let pieces = &mut new[plant.face_places(switch.target, 2 * switch.d + switch.target_side)];
+                changed |= join_to_pieces(n, switch.d, target.cut, &landed, pieces);
+            }
         }
     }
     changed
@@ -88,14 +118,12 @@ fn any_part_touches(plant: &Plant, table: &[i32], touch: Touch) -> bool {
         let forbidden = plant.forbidden(f);
         let location = plant.location(forbidden.location);
         let hit = |part: &[i32]| touch(n, part, location.rates, location.invariant, forbidden.bounds);
-        let from = sizes.face_at(forbidden.location, 0);
-        let to = sizes.face_at(forbidden.location + 1, 0);
-        (location.started && hit(location.start))
-            || table[from..to].chunks_exact(sizes.face_words()).any(|words| words[0] == 1 && hit(&words[1..]))
+        let mut pieces = table[plant.location_places(forbidden.location)].chunks_exact(sizes.face_words());
+        (location.started && hit(location.start)) || pieces.any(|words| words[0] == 1 && hit(&words[1..]))
     })
 }
 
-/// Some part (start box under flag 1, present face) touches a forbidden box of its location.
+/// Some part (start box under flag 1, present piece) touches a forbidden box of its location.
 pub fn forbidden_touched(plant: &Plant, table: &[i32]) -> bool {
     any_part_touches(plant, table, touches)
 }

@@ -3,11 +3,12 @@
 use second::analysis::{run, run_quick, Answer};
 use second::ceiling;
 use second::checker::ask_table;
+use second::damage::damage_table;
 use second::delays::{delays, touches, touches_quick, End};
 use second::draft::Draft;
 use second::fraction::Fraction;
-use second::generate::{close, damage_table, pass_budget, random_model, random_table};
-use second::model::Plant;
+use second::generate::{close, helped_model, pass_budget, random_model, random_table};
+use second::model::{ordered_inside, Piece, Plant};
 use second::plain;
 use second::random::Random;
 use second::simulate::{is_forbidden, is_reached, is_run, random_run};
@@ -79,8 +80,8 @@ fn random_models_keep_the_demands() {
     for _ in 0..1_500 {
         let words = random_model(&mut random).words();
         let plant = Plant::from_words(&words).expect("a random model passes");
-        let size = plant.sizes.table_words();
-        let budget = pass_budget(&plant.sizes).min(60);
+        let size = plant.table_words();
+        let budget = pass_budget(&plant).min(60);
         let (mut table, mut work) = (vec![5; size], vec![6; size]);
         let (answer, k) = run(&plant, budget, &mut table, &mut work);
         let (mut table_2, mut work_2) = (vec![7; size], vec![8; size]);
@@ -140,8 +141,8 @@ fn unknown_models_have_no_accepted_table() {
     while unknown < 200 {
         let words = random_model(&mut random).words();
         let plant = Plant::from_words(&words).unwrap();
-        let size = plant.sizes.table_words();
-        let budget = pass_budget(&plant.sizes).min(100);
+        let size = plant.table_words();
+        let budget = pass_budget(&plant).min(100);
         let (mut table, mut work) = (vec![0; size], vec![0; size]);
         let (answer, _) = run(&plant, budget, &mut table, &mut work);
         if answer != Answer::Unknown {
@@ -161,23 +162,19 @@ fn unknown_models_have_no_accepted_table() {
     }
 }
 
-/// All well-formed tables of a location's face, as bounds; the first is "absent".
-fn all_faces(invariant: &[i32], face: usize) -> Vec<Option<Vec<i32>>> {
-    let n = invariant.len() / 2;
-    let mut boxes: Vec<Vec<i32>> = vec![vec![]];
-    for i in 0..n {
-        let mut ranges = Vec::new();
-        if i == face / 2 {
-            ranges.push([invariant[face], invariant[face]]);
-        } else {
-            for low in invariant[2 * i]..=invariant[2 * i + 1] {
-                for high in low..=invariant[2 * i + 1] {
-                    ranges.push([low, high]);
-                }
-            }
+/// All that a piece can hold in a well-formed table, as bounds; the first is "absent".
+fn all_boxes(plant: &Plant, piece: Piece) -> Vec<Option<Vec<i32>>> {
+    let mut boxes: Vec<Vec<i32>> = Vec::new();
+    if let Some(widest) = plant.widest(piece) {
+        boxes.push(vec![]);
+        for outer in widest[..2 * plant.sizes.n].chunks_exact(2) {
+            let ranges: Vec<[i32; 2]> =
+                (outer[0]..=outer[1]).flat_map(|low| (low..=outer[1]).map(move |high| [low, high])).collect();
+            boxes = boxes
+                .iter()
+                .flat_map(|found| ranges.iter().map(move |range| [&found[..], &range[..]].concat()))
+                .collect();
         }
-        boxes =
-            boxes.iter().flat_map(|found| ranges.iter().map(move |range| [&found[..], &range[..]].concat())).collect();
     }
     std::iter::once(None).chain(boxes.into_iter().map(Some)).collect()
 }
@@ -185,16 +182,13 @@ fn all_faces(invariant: &[i32], face: usize) -> Vec<Option<Vec<i32>>> {
 /// How many well-formed tables the checker accepts; None if there are too many to try.
 fn accepted_tables(plant: &Plant, most: u64) -> Option<(u64, u64)> {
     let sizes = plant.sizes;
-    let choices: Vec<Vec<Option<Vec<i32>>>> = (0..sizes.locations)
-        .flat_map(|l| (0..sizes.faces()).map(move |face| (l, face)))
-        .map(|(l, face)| all_faces(plant.location(l).invariant, face))
-        .collect();
+    let choices: Vec<Vec<Option<Vec<i32>>>> = plant.all_pieces().map(|piece| all_boxes(plant, piece)).collect();
     let total = choices.iter().try_fold(1u64, |product, list| product.checked_mul(list.len() as u64))?;
     if total > most {
         return None;
     }
     let mut accepted = 0;
-    let mut table = vec![0; sizes.table_words()];
+    let mut table = vec![0; plant.table_words()];
     let mut next = table.clone();
     for number in 0..total {
         let mut rest = number;
@@ -221,8 +215,8 @@ fn accepted_tables(plant: &Plant, most: u64) -> Option<(u64, u64)> {
 #[test]
 fn every_table_of_very_small_models() {
     let mut random = Random::new(5);
-    let (mut models, mut tables, mut safe, mut unknown) = (0, 0, 0, 0);
-    while models < 400 {
+    let (mut models, mut cut, mut tables, mut safe, mut unknown) = (0, 0, 0, 0, 0);
+    while models < 400 || cut < 150 {
         let draft: Draft = random_model(&mut random);
         if draft.n > 3 || draft.locations.len() > 3 || draft.forbidden.is_empty() {
             continue;
@@ -236,7 +230,7 @@ fn every_table_of_very_small_models() {
         let Some((tried, accepted)) = accepted_tables(&plant, 30_000) else {
             continue;
         };
-        let size = plant.sizes.table_words();
+        let size = plant.table_words();
         let (mut table, mut work) = (vec![0; size], vec![0; size]);
         let limit = ceiling::of_plant(&plant) as u32;
         let (answer, k) = run(&plant, limit, &mut table, &mut work);
@@ -244,9 +238,52 @@ fn every_table_of_very_small_models() {
         let wanted = if accepted > 0 { Answer::Safe } else { Answer::Unknown };
         assert_eq!(answer, wanted, "{words:?}");
         models += 1;
+        cut += plant.any_cut() as u32;
         tables += tried;
         safe += (accepted > 0) as u32;
         unknown += (accepted == 0) as u32;
     }
     assert!(safe > 50 && unknown > 50, "{safe} safe, {unknown} unknown, {tables} tables");
+}
+
+/// Each piece of the table of a plant with cuts lies inside the face of the same plant without them, pass by
+/// pass; so its cuts never make a safe plant unknown. Some models are safe by them.
+#[test]
+fn cuts_only_narrow() {
+    let mut random = Random::new(6);
+    let (mut compared, mut narrower, mut helped) = (0, 0, 0);
+    while compared < 600 {
+        let draft = if random.chance(1, 3) { helped_model(&mut random) } else { random_model(&mut random) };
+        if draft.cuts.is_empty() {
+            continue;
+        }
+        compared += 1;
+        let (words, whole_words) = (draft.words(), Draft { cuts: vec![], ..draft.clone() }.words());
+        let plant = Plant::from_words(&words).unwrap();
+        let whole = Plant::from_words(&whole_words).unwrap();
+        let (mut table, mut faces) = (vec![0; plant.table_words()], vec![0; whole.table_words()]);
+        let (mut next, mut next_faces) = (table.clone(), faces.clone());
+        for _ in 0..12 {
+            pass(&plant, &table, &mut next);
+            pass(&whole, &faces, &mut next_faces);
+            (table, faces) = (next.clone(), next_faces.clone());
+            for piece in plant.all_pieces() {
+                let inner = &table[plant.piece_places(piece)];
+                let outer = &faces[whole.face_places(piece.location, piece.face)];
+                let inside = ordered_inside(&inner[1..], &outer[1..]);
+                assert!(inner[0] == 0 || (outer[0] == 1 && inside), "{words:?}");
+            }
+        }
+        narrower += (forbidden_touched(&whole, &faces) && !forbidden_touched(&plant, &table)) as u32;
+        let answer = |plant: &Plant| {
+            let (mut table, mut work) = (vec![0; plant.table_words()], vec![0; plant.table_words()]);
+            run_quick(plant, pass_budget(plant).min(100), &mut table, &mut work).0
+        };
+        match (answer(&plant), answer(&whole)) {
+            (Answer::Safe, Answer::Unknown) => helped += 1,
+            (Answer::Unknown, whole) => assert_eq!(whole, Answer::Unknown),
+            _ => {}
+        }
+    }
+    assert!(helped > 40 && narrower >= helped, "{helped} safe by their cuts, {narrower} narrower");
 }

@@ -9,7 +9,7 @@ use second::examples::*;
 use second::files::{field, model_file};
 use second::fraction::{down, up, Fraction};
 use second::listing::listing;
-use second::model::{Plant, Sizes, MAX_BOX};
+use second::model::{Plant, MAX_BOX};
 use second::steps::wall_step;
 
 fn buffers(table: usize, work: usize) -> Buffers {
@@ -189,6 +189,7 @@ fn two_locations() -> Draft {
             reset: vec![4, 4],
         }],
         forbidden: vec![],
+        cuts: vec![],
     }
 }
 
@@ -433,14 +434,14 @@ fn no_start_is_safe_at_once() {
     assert_eq!(calls::checker(&draft.words(), &[0; 20]), Ok(()));
 }
 
+/// The longest file without cuts; document_02.rs has the longest of all.
 #[test]
-fn the_longest_file() {
-    let sizes = Sizes::ask(6, 64, 128, 64).unwrap();
-    assert_eq!(sizes.model_words(), 7_044);
-    assert_eq!(sizes.model_words(), second::host::MOST_MODEL_WORDS);
-    assert_eq!(4 * sizes.model_words() + 3 * (1 + 64 + 128 + 64), 28_947);
-    assert_eq!(sizes.table_words(), 9_984);
-    assert_eq!(model_file(&large_grid(6, 3).words()).len(), 28_947);
+fn the_longest_file_without_cuts() {
+    let words = large_grid(6, 3).words();
+    let plant = Plant::from_words(&words).unwrap();
+    assert_eq!(plant.table_words(), 9_984);
+    assert_eq!(plant.table_file_room(), 45_319);
+    assert_eq!(model_file(&words).len(), 28_947);
 }
 
 /// A pass takes every step from the table before it: a chain of three switches with nothing

@@ -1,8 +1,16 @@
 //! Cases of document 02's requests.
 
-use second::calls;
-use second::examples::at_rest;
-use second::model::words_per_location;
+use second::analysis::Answer;
+use second::calls::{self, Buffers};
+use second::draft::{Draft, LocationDraft};
+use second::examples::*;
+use second::files::{field, model_file};
+use second::listing::listing;
+use second::model::{words_per_location, Plant};
+
+fn buffers(words: usize) -> Buffers {
+    Buffers { table: vec![-7; words], work: vec![-9; words] }
+}
 
 /// T-04: the six sizes of document 01, and the one for seven variables.
 #[test]
@@ -17,4 +25,254 @@ fn seven_variables_are_refused() {
     let seven = at_rest(7).words();
     assert_eq!(calls::ceiling(&seven), Err(2));
     assert_eq!(calls::checker(&seven, &[0; 210]), Err(2));
+}
+
+/// T-12: P without a cut is what it was, in its file, its table, its table file and its listing.
+#[test]
+fn p_is_unchanged() {
+    let words = plant_p().words();
+    assert_eq!(words[22..], [-1, 0]);
+    let file = model_file(&words);
+    assert_eq!(file.len(), 97);
+    assert_eq!(calls::read_model(&file, vec![3; 26]), (Ok(24), [&words[..], &[3, 3]].concat()));
+    assert_eq!(calls::ceiling(&words), Ok(44));
+    let (outcome, after) = calls::analysis(&words, 1_000, buffers(20));
+    assert_eq!((outcome, after.table), (Ok((Answer::Safe, 1)), plant_p_table()));
+    assert_eq!(calls::checker(&words, &plant_p_wider()), Ok(()));
+    let (outcome, bytes) = calls::write_table(&words, &plant_p_table(), vec![9; 115]);
+    let mut table = field(6, &[2]);
+    table.extend(field(5, &[0, 0, 0, 0, 2, 5]));
+    table.extend(field(5, &[0, 3, 2, 8, 10, 10]));
+    assert_eq!((outcome, &bytes[..61]), (Ok(61), &table[..]));
+    assert_eq!(calls::write_table(&words, &plant_p_table(), vec![9; 114]).0, Err(39));
+    assert_eq!(listing(&file), "safe 1 2\n0 0 0 0 2 5\n0 3 2 8 10 10\n");
+}
+
+/// T-12: P cut at x = 5: a first and a second piece on both walls of y, and a second piece on the walls of
+/// x that is always absent.
+#[test]
+fn p_cut() {
+    let words = plant_p_cut().words();
+    assert_eq!(words[22..], [0, 5]);
+    let file = model_file(&words);
+    assert_eq!(file[97..], field(8, &[0, 0, 5]));
+    assert_eq!(calls::read_model(&file, vec![3; 24]), (Ok(24), words.clone()));
+    // 2 × (1 + 10) on the walls of x, 2 × 2 × (1 + 5) on those of y.
+    assert_eq!(calls::ceiling(&words), Ok(46));
+    let (outcome, after) = calls::analysis(&words, 1_000, buffers(41));
+    assert_eq!(outcome, Ok((Answer::Safe, 1)));
+    assert_eq!(after.table, [&plant_p_cut_table()[..], &[-7]].concat());
+    assert_eq!(after.work, [0; 41]);
+    assert_eq!(calls::analysis(&words, 9, buffers(39)), (Err(20), buffers(39)));
+    assert_eq!(calls::checker(&words, &plant_p_cut_table()), Ok(()));
+    assert_eq!(calls::checker(&words, &plant_p_cut_table()[..39]), Err(20));
+    let room = 7 + 8 * 31;
+    let (outcome, bytes) = calls::write_table(&words, &plant_p_cut_table(), vec![9; room]);
+    let mut table = field(6, &[3]);
+    table.extend(field(5, &[0, 0, 0, 0, 0, 2, 5]));
+    table.extend(field(5, &[0, 3, 0, 2, 5, 10, 10]));
+    table.extend(field(5, &[0, 3, 1, 5, 8, 10, 10]));
+    assert_eq!((outcome, &bytes[..table.len()]), (Ok(table.len()), &table[..]));
+    assert_eq!(calls::write_table(&words, &plant_p_cut_table(), vec![9; room - 1]).0, Err(39));
+    assert_eq!(calls::read_table(&words, &table, vec![4; 40]), (Ok(40), plant_p_cut_table()));
+    assert_eq!(calls::check(&file, &table), 100);
+    assert_eq!(calls::decide(&file, vec![0; room], 5).0, 100 << 32 | 1);
+    assert_eq!(listing(&file), "safe 1 3\n0 0 0 0 0 2 5\n0 3 0 2 5 10 10\n0 3 1 5 8 10 10\n");
+}
+
+/// T-12: a start box is left whole. From its half x 5..10 alone t would come to 5 on x = 10, and from its
+/// half x 0..5 nothing would arrive, as y leaves its range before.
+#[test]
+fn start_boxes_are_left_whole() {
+    let words = Draft {
+        n: 3,
+        locations: vec![LocationDraft {
+            invariant: [0, 10].repeat(3),
+            rates: vec![1; 6],
+            start: Some(vec![0, 10, 6, 6, 0, 0]),
+        }],
+        cuts: vec![(0, 0, 5)],
+        ..Draft::default()
+    }
+    .words();
+    let plant = Plant::from_words(&words).unwrap();
+    let (outcome, after) = calls::analysis(&words, 1, buffers(plant.table_words()));
+    assert!(outcome.is_ok());
+    assert_eq!(after.table[plant.face_places(0, 1)][..7], [1, 10, 10, 6, 10, 0, 10]);
+}
+
+/// T-12: question 46 of words, after all of 19, location by location.
+#[test]
+fn cuts_in_words() {
+    let number = |cut: [i32; 2]| {
+        let mut words = plant_p().words();
+        words[22..].copy_from_slice(&cut);
+        calls::ceiling(&words).err()
+    };
+    for cut in [[-1, 0], [0, 1], [0, 9], [1, 1], [1, 9]] {
+        assert_eq!(number(cut), None, "{cut:?}");
+    }
+    for cut in [[-1, 5], [-2, 0], [-2, 5], [2, 5], [0, 0], [0, 10], [1, 10], [0, 11], [0, -1], [i32::MAX, 5]] {
+        assert_eq!(number(cut), Some(46), "{cut:?}");
+    }
+    // 5 counts two words for each location.
+    let words = plant_p_cut().words();
+    assert_eq!(calls::ceiling(&words[..23]), Err(5));
+    assert_eq!(calls::ceiling(&words[..22]), Err(5));
+    // 19 comes first, and 46 before 20.
+    let mut words = plant_p_cut().words();
+    words[23] = 10;
+    assert_eq!(calls::checker(&words, &[]), Err(46));
+    let lent = buffers(3);
+    assert_eq!(calls::analysis(&words, 5, lent.clone()), (Err(46), lent));
+    words[17] = 1;
+    assert_eq!(calls::checker(&words, &[]), Err(19));
+}
+
+/// T-12: question 46 and 8 of files. A word buffer is zeroed by either.
+#[test]
+fn cuts_in_files() {
+    let p = model_file(&plant_p().words());
+    let read = |bytes: &[u8]| calls::read_model(&[&p, bytes].concat(), vec![3; 26]);
+    let refused = |number| (Err(number), vec![0; 26]);
+    let cut = |location, variable, value| field(8, &[location, variable, value]);
+    assert_eq!(read(&cut(0, 0, 5)).0, Ok(24));
+    // Wholeness and length.
+    for length in 1..15 {
+        assert_eq!(read(&cut(0, 0, 5)[..length]), refused(46));
+    }
+    assert_eq!(read(&field(8, &[0, 0])), refused(46));
+    assert_eq!(read(&field(8, &[0, 0, 5, 0])), refused(46));
+    // Location and order.
+    assert_eq!(read(&cut(1, 0, 5)), refused(46));
+    assert_eq!(read(&cut(-1, 0, 5)), refused(46));
+    assert_eq!(read(&[cut(0, 0, 5), cut(0, 1, 5)].concat()), refused(46));
+    // Variable and value.
+    for (variable, value) in [(-1, 0), (-1, 5), (-2, 5), (2, 5), (0, 0), (0, 10), (1, 11)] {
+        assert_eq!(read(&cut(0, variable, value)), refused(46));
+    }
+    // Another tag, also after a cut; a cut that is wrong where the end is expected comes before it.
+    assert_eq!(read(&[9]), refused(8));
+    assert_eq!(read(&[cut(0, 0, 5), vec![0]].concat()), refused(8));
+    assert_eq!(read(&[cut(0, -1, 5), vec![0]].concat()), refused(46));
+    assert_eq!(read(&[cut(0, -2, 5), vec![0]].concat()), refused(8));
+    // Of the variable only -1 is asked before 11 to 19.
+    let mut too_high = plant_p();
+    too_high.locations[0].invariant[3] = 1_000_001;
+    let too_high = model_file(&too_high.words());
+    let read = |bytes: &[u8]| calls::read_model(&[&too_high, bytes].concat(), vec![3; 26]);
+    assert_eq!(read(&cut(0, -1, 5)), refused(46));
+    assert_eq!(read(&cut(0, -2, 5)), refused(11));
+    // 5 comes before the cuts, and changes nothing.
+    let short = vec![3; 23];
+    assert_eq!(calls::read_model(&[&p[..], &[8]].concat(), short.clone()), (Err(5), short));
+}
+
+/// T-12: cuts of several locations ascend, and need not be of all.
+#[test]
+fn cuts_ascend() {
+    let file = |cuts: &[(i32, i32, i32)]| {
+        let mut bytes = model_file(&water_level(20).words());
+        cuts.iter().for_each(|cut| bytes.extend(field(8, &[cut.0, cut.1, cut.2])));
+        calls::read_model(&bytes, vec![0; 200]).0
+    };
+    assert_eq!(file(&[]), file(&[(1, 1, 10), (3, 0, 20)]));
+    assert!(file(&[(0, 0, 50), (1, 0, 120), (2, 0, 100), (3, 0, 20)]).is_ok());
+    assert_eq!(file(&[(3, 0, 20), (1, 1, 10)]), Err(46));
+    assert_eq!(file(&[(1, 1, 10), (1, 1, 10)]), Err(46));
+    assert_eq!(file(&[(1, 1, 10), (4, 0, 20)]), Err(46));
+}
+
+/// T-12: the places of a table are sums: a cut location before an uncut one, and the other way round.
+#[test]
+fn places_are_sums() {
+    let words = water_level_cut().words();
+    let plant = Plant::from_words(&words).unwrap();
+    let from: Vec<usize> = (0..4).map(|l| plant.location_places(l).start).collect();
+    assert_eq!(from, [0, 20, 60, 100]);
+    assert_eq!(plant.table_words(), 120);
+    assert_eq!(plant.table_file_room(), 7 + 24 * 31);
+}
+
+/// T-12: each piece keeps to its side; both hold the value, so a table with it in one alone changes.
+#[test]
+fn pieces_keep_to_their_side() {
+    let words = plant_p_cut().words();
+    let number = |changes: &[(usize, i32)]| {
+        let mut table = plant_p_cut_table();
+        changes.iter().for_each(|&(place, word)| table[place] = word);
+        calls::checker(&words, &table).err()
+    };
+    assert_eq!(number(&[]), None);
+    assert_eq!(number(&[(32, 6)]), Some(32));
+    assert_eq!(number(&[(36, 4)]), Some(32));
+    assert_eq!(number(&[(31, 6), (32, 8)]), Some(32));
+    assert_eq!(number(&[(32, 4)]), Some(33));
+    assert_eq!(number(&[(36, 6)]), Some(33));
+    // A second piece on x = 0, a wall of the cut variable.
+    assert_eq!(number(&[(5, 1), (8, 2), (9, 5)]), Some(32));
+}
+
+/// T-12: the piece in the fields of a table file.
+#[test]
+fn pieces_in_files() {
+    let words = water_level_cut().words();
+    let read = |records: &[Vec<i32>]| {
+        let mut bytes = field(6, &[records.len() as i32]);
+        records.iter().for_each(|record| bytes.extend(field(5, record)));
+        calls::read_table(&words, &bytes, vec![4; 120]).0
+    };
+    // Location 1 is cut at clock 10, location 2 at level 100; the others are not.
+    assert_eq!(read(&[vec![0, 1, 0, 100, 100, 0, 0]]), Ok(120));
+    assert_eq!(read(&[vec![0, 1, 1, 100, 100, 0, 0]]), Err(37));
+    assert_eq!(read(&[vec![1, 1, 1, 150, 150, 10, 20]]), Ok(120));
+    assert_eq!(read(&[vec![1, 1, 1, 150, 150, 9, 20]]), Err(32));
+    assert_eq!(read(&[vec![1, 1, 2, 150, 150, 10, 20]]), Err(37));
+    assert_eq!(read(&[vec![1, 1, -1, 150, 150, 10, 20]]), Err(37));
+    assert_eq!(read(&[vec![1, 1, 1, 150, 150, 10, 20], vec![1, 1, 0, 150, 150, 0, 10]]), Err(37));
+    assert_eq!(read(&[vec![1, 1, 1, 150, 150, 10, 20], vec![1, 1, 1, 150, 150, 10, 20]]), Err(37));
+    // On the cut variable's own wall the second piece exists (37) and is to be absent (32).
+    assert_eq!(read(&[vec![2, 1, 1, 150, 150, 0, 0]]), Err(32));
+    // The field is longer in every location, and nowhere in a model without cuts.
+    assert_eq!(read(&[vec![0, 1, 100, 100, 0, 0]]), Err(36));
+    let mut bytes = field(6, &[1]);
+    bytes.extend(field(5, &[0, 1, 0, 100, 100, 0, 0]));
+    assert_eq!(calls::read_table(&water_level(20).words(), &bytes, vec![4; 80]).0, Err(36));
+    // 35 counts 4n pieces for each of the two cut locations.
+    assert_eq!(calls::read_table(&words, &field(6, &[24]), vec![4; 120]).0, Err(36));
+    assert_eq!(calls::read_table(&words, &field(6, &[25]), vec![4; 120]).0, Err(35));
+}
+
+/// T-12: every piece of the source's face is switched from, and what lands is cut to the target's pieces.
+#[test]
+fn switches_from_every_piece() {
+    let mut draft = three_tanks(true);
+    draft.forbidden.clear();
+    // Location 0, cut too, starts with vat 1 on both sides of its value.
+    draft.locations[0].start = Some(vec![0, 0, 4, 6, 1, 2]);
+    draft.locations[1].start = None;
+    draft.cuts = vec![(0, 1, 5), (2, 2, 5)];
+    let words = draft.words();
+    let plant = Plant::from_words(&words).unwrap();
+    let (outcome, after) = calls::analysis(&words, 2, buffers(plant.table_words()));
+    assert!(outcome.is_ok());
+    assert_eq!(after.table[plant.face_places(0, 1)], [1, 10, 10, 4, 5, 1, 2, 1, 10, 10, 5, 6, 1, 2]);
+    assert_eq!(after.table[plant.face_places(2, 1)], [1, 10, 10, 4, 6, 1, 2, 0, 0, 0, 0, 0, 0, 0]);
+}
+
+/// T-12: the largest sizes.
+#[test]
+fn the_largest_sizes() {
+    let words = all_cut(large_grid(6, 3)).words();
+    assert_eq!(words.len(), 7_172);
+    assert_eq!(words.len(), second::host::MOST_MODEL_WORDS);
+    assert_eq!(model_file(&words).len(), 29_907);
+    let plant = Plant::from_words(&words).unwrap();
+    assert_eq!(plant.table_words(), 19_968);
+    assert_eq!(plant.table_file_room(), 96_775);
+    assert_eq!(plant.table_file_room(), second::compare::MOST_ROOM);
+    let location = LocationDraft { invariant: [-1_000_000, 1_000_000].repeat(6), rates: vec![0; 12], start: None };
+    let cuts = (0..64).map(|l| (l, l % 6, 0)).collect();
+    let widest = Draft { n: 6, locations: vec![location; 64], cuts, ..Draft::default() };
+    assert_eq!(calls::ceiling(&widest.words()), Ok(12_800_001_408));
 }

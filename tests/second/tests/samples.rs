@@ -1,7 +1,8 @@
 //! The sample models, and what random runs say of one of them.
 
 use second::analysis::run;
-use second::examples::water_level;
+use second::examples::{three_tanks, water_level};
+use second::files::model_file;
 use second::listing::listing;
 use second::model::Plant;
 use second::random::Random;
@@ -24,10 +25,17 @@ fn first_lines() {
         ("water-level-slow", "unknown 2 4"),
         ("dosing", "unfinished 1000 3"),
         ("largest", "safe 10 192"),
+        ("plant-p-cut", "safe 1 3"),
+        ("box-ends", "unknown 3 15"),
+        ("box-ends-cut", "safe 12 22"),
+        ("three-tanks", "unknown 2 5"),
+        ("three-tanks-cut", "safe 3 8"),
+        ("largest-cut", "safe 10 352"),
         ("refused-empty", "refused 1"),
         ("refused-cut", "refused 7"),
         ("refused-trailing", "refused 8"),
         ("refused-level", "refused 11"),
+        ("refused-at-wall", "refused 46"),
     ];
     let found: Vec<_> = samples::all().into_iter().map(|(name, file)| (name, listing(&file))).collect();
     assert_eq!(found.len(), expected.len());
@@ -47,11 +55,26 @@ fn tables() {
     }
 }
 
+/// The three tanks' tables: one box for both recipes, and the two pieces of it.
+#[test]
+fn three_tanks_whole_and_cut() {
+    let text = |cut| listing(&model_file(&three_tanks(cut).words()));
+    assert_eq!(
+        text(false),
+        "unknown 2 5\n0 0 0 0 1 2 6 7\n0 1 10 10 1 2 6 7\n1 0 0 0 6 7 1 2\n1 1 10 10 6 7 1 2\n2 1 10 10 1 7 1 7\n"
+    );
+    assert_eq!(
+        text(true),
+        "safe 3 8\n0 0 0 0 0 1 2 6 7\n0 1 0 10 10 1 2 6 7\n1 0 0 0 0 6 7 1 2\n1 1 0 10 10 6 7 1 2\n\
+         2 0 0 0 0 1 4 6 9\n2 0 1 0 0 6 9 1 4\n2 1 0 10 10 1 2 6 7\n2 1 1 10 10 6 7 1 2\n"
+    );
+}
+
 /// Runs of the water-level plant against its answer's table, or against no faces at all.
 fn travelled(lag: i32, with_table: bool) -> Travelled {
     let words = water_level(lag).words();
     let plant = Plant::from_words(&words).unwrap();
-    let mut table = vec![0; plant.sizes.table_words()];
+    let mut table = vec![0; plant.table_words()];
     if with_table {
         let mut work = table.clone();
         run(&plant, 1_000, &mut table, &mut work);

@@ -14,17 +14,17 @@ fn run(words: &[i32]) -> (Answer, u32, Vec<i32>) {
 }
 
 fn run_under(words: &[i32], limit: u32) -> (Answer, u32, Vec<i32>) {
-    let size = Plant::from_words(words).unwrap().sizes.table_words();
+    let size = Plant::from_words(words).unwrap().table_words();
     let lent = Buffers { table: vec![1; size], work: vec![1; size] };
     let (outcome, after) = calls::analysis(words, limit, lent);
     let (answer, k) = outcome.unwrap();
     (answer, k, after.table)
 }
 
-/// The bounds of a face, or None if it is absent.
+/// The bounds of a face of a location without a cut, or None if it is absent.
 fn face(words: &[i32], table: &[i32], l: usize, face: usize) -> Option<Vec<i32>> {
-    let sizes = Plant::from_words(words).unwrap().sizes;
-    let found = &table[sizes.face_at(l, face)..][..sizes.face_words()];
+    let plant = Plant::from_words(words).unwrap();
+    let found = &table[plant.face_places(l, face)];
     (found[0] == 1).then(|| found[1..].to_vec())
 }
 
@@ -97,6 +97,27 @@ fn section_3_4_as_plants() {
         assert!(k as u64 <= calls::ceiling(&words).unwrap());
         assert_eq!(calls::checker(&words, &table), Ok(()));
     }
+}
+
+/// Section 3.4 from the two ends of its start: as one box on x = 2 the report's F1, and from it F2; with
+/// location 1 cut at y = 1 two pieces, and the far wall's t begins where runs do.
+#[test]
+fn section_3_4_in_pieces() {
+    let words = box_ends(false).words();
+    let (answer, k, table) = run(&words);
+    assert_eq!((answer, k), (Answer::Unknown, 3));
+    assert_eq!(face(&words, &table, 1, 0), Some(vec![2, 2, 0, 2, 0, 2]));
+    assert_eq!(face(&words, &table, 1, 3), Some(vec![2, 4, 2, 2, 0, 4]));
+
+    let words = box_ends(true).words();
+    let plant = Plant::from_words(&words).unwrap();
+    let (_, _, table) = run_under(&words, 2);
+    let pieces = &table[plant.face_places(1, 0)];
+    assert_eq!(pieces, [1, 2, 2, 0, 0, 0, 0, 1, 2, 2, 2, 2, 2, 2]);
+    let (answer, _, table) = run(&words);
+    assert_eq!(answer, Answer::Safe);
+    assert_eq!(face(&words, &table, 3, 1), Some(vec![4, 4, 2, 4, 2, 8]));
+    assert_eq!(calls::checker(&words, &table), Ok(()));
 }
 
 #[test]

@@ -1,6 +1,6 @@
 //! Does the comparison find wrong programs? A third, literal decider in which one mistake
-//! at a time can be switched on (document 01's traps and others); each must be found within
-//! few random models, and the decider without a mistake must agree.
+//! at a time can be switched on (document 01's traps, T-12's pieces and others); each must be found
+//! within few random models, and the decider without a mistake must agree.
 
 use std::cell::Cell;
 
@@ -8,7 +8,7 @@ use second::compare::{Comparison, Tested};
 use second::exports::answer;
 use second::files::{model_of_file, parse_table, table_file};
 use second::host;
-use second::model::Plant;
+use second::model::{Plant, Switch};
 
 const NONE: u8 = 0;
 const ROUNDS_TOWARDS_ZERO: u8 = 1;
@@ -30,7 +30,15 @@ const SKIPS_OWN_WALL: u8 = 16;
 const STARTS_UNDER_FLAG_ZERO: u8 = 17;
 const LANDS_ON_THE_OTHER_SIDE: u8 = 18;
 const CHECKS_WITHOUT_STARTS: u8 = 19;
-const TRAPS: u8 = 19;
+const JOINS_WITHOUT_CUTTING: u8 = 20;
+const VALUE_IN_FIRST_PIECE_ALONE: u8 = 21;
+const OWN_WALLS_BY_THEIR_SIDE: u8 = 22;
+const SWITCHES_FROM_FIRST_PIECE_ALONE: u8 = 23;
+const CUTS_THE_START: u8 = 24;
+const TOUCHES_FROM_FIRST_PIECE_ALONE: u8 = 25;
+const STEPS_FROM_THE_WHOLE_FACE: u8 = 26;
+const LANDS_ON_FIRST_PIECE_ALONE: u8 = 27;
+const TRAPS: u8 = 27;
 
 thread_local! {
     /// The mistake that is switched on.
@@ -118,9 +126,60 @@ fn join(held: &mut Option<Ranges>, new: Ranges) {
     });
 }
 
-fn start(plant: &Plant, l: usize) -> Option<Ranges> {
+/// The parts that the start box is: one, or none.
+fn starts_of(plant: &Plant, l: usize) -> Vec<Ranges> {
     let location = plant.location(l);
-    (location.started || on(STARTS_UNDER_FLAG_ZERO)).then(|| ranges(location.start))
+    if !location.started && !on(STARTS_UNDER_FLAG_ZERO) {
+        return vec![];
+    }
+    let whole = ranges(location.start);
+    match location.cut {
+        Some(at) if on(CUTS_THE_START) => {
+            let (mut low, mut high) = (whole.clone(), whole);
+            low[at.variable].1 = low[at.variable].1.min(at.value as i64);
+            high[at.variable].0 = high[at.variable].0.max(at.value as i64);
+            [low, high].into_iter().filter(|half| half.iter().all(|r| r.0 <= r.1)).collect()
+        }
+        _ => vec![whole],
+    }
+}
+
+/// Pieces of a face of location l.
+fn count(plant: &Plant, l: usize) -> usize {
+    1 + plant.cut(l).is_some() as usize
+}
+
+/// The pieces of a face that are present: the parts that it is.
+fn present(plant: &Plant, faces: &Faces, l: usize, face: usize) -> Vec<Ranges> {
+    let count = count(plant, l);
+    let pieces: Vec<Ranges> = faces[l][face * count..][..count].iter().flatten().cloned().collect();
+    if !on(STEPS_FROM_THE_WHOLE_FACE) {
+        return pieces;
+    }
+    let mut whole = None;
+    pieces.into_iter().for_each(|piece| join(&mut whole, piece));
+    whole.into_iter().collect()
+}
+
+/// Gives a step's result on a face to its pieces.
+fn give(plant: &Plant, new: &mut Faces, l: usize, face: usize, result: Ranges) {
+    let (d, count) = (face / 2, count(plant, l));
+    let Some(at) = plant.cut(l) else {
+        return join(&mut new[l][face], result);
+    };
+    if at.variable == d {
+        let piece = if on(OWN_WALLS_BY_THEIR_SIDE) { face % 2 } else { 0 };
+        return join(&mut new[l][face * count + piece], result);
+    }
+    let (mut low, mut high) = (result.clone(), result.clone());
+    let value = at.value as i64;
+    low[at.variable].1 = low[at.variable].1.min(value);
+    high[at.variable].0 = high[at.variable].0.max(value + on(VALUE_IN_FIRST_PIECE_ALONE) as i64);
+    for (piece, half) in [low, high].into_iter().enumerate() {
+        if half[at.variable].0 <= half[at.variable].1 {
+            join(&mut new[l][face * count + piece], if on(JOINS_WITHOUT_CUTTING) { result.clone() } else { half });
+        }
+    }
 }
 
 fn pass(plant: &Plant, before: &Faces, starts: bool) -> Faces {
@@ -130,21 +189,24 @@ fn pass(plant: &Plant, before: &Faces, starts: bool) -> Faces {
         let location = plant.location(l);
         let (rates, inv) = (ranges(location.rates), ranges(location.invariant));
         for number in 0..=2 * n {
-            let part = if number == 0 {
-                start(plant, l).filter(|_| starts)
-            } else if on(READS_NEW_FACES) {
-                new[l][number - 1].clone()
-            } else {
-                before[l][number - 1].clone()
-            };
-            let Some(part) = part else { continue };
-            for face in 0..2 * n {
-                if on(SKIPS_OWN_WALL) && face + 1 == number {
-                    continue;
+            let parts = if number == 0 {
+                if starts {
+                    starts_of(plant, l)
+                } else {
+                    vec![]
                 }
-                let b = location.invariant[face] as i64;
-                if let Some(reached) = wall_step(&part, &rates, &inv, face / 2, b) {
-                    join(&mut new[l][face], reached);
+            } else {
+                present(plant, if on(READS_NEW_FACES) { &new } else { before }, l, number - 1)
+            };
+            for part in parts {
+                for face in 0..2 * n {
+                    if on(SKIPS_OWN_WALL) && face + 1 == number {
+                        continue;
+                    }
+                    let b = location.invariant[face] as i64;
+                    if let Some(reached) = wall_step(&part, &rates, &inv, face / 2, b) {
+                        give(plant, &mut new, l, face, reached);
+                    }
                 }
             }
         }
@@ -152,33 +214,46 @@ fn pass(plant: &Plant, before: &Faces, starts: bool) -> Faces {
     for s in 0..plant.sizes.switches {
         let switch = plant.switch(s);
         let from = if on(READS_NEW_FACES) { &new } else { before };
-        let Some(face) = from[switch.source][2 * switch.d + switch.source_side].clone() else { continue };
-        let guard = ranges(switch.guard);
-        let moved = if on(LANDS_WITHOUT_GUARD) { Some(face) } else { cut(&face, &guard) };
-        let Some(mut moved) = moved else { continue };
-        let reset = ranges(switch.reset);
-        for i in 0..n {
-            if switch.mask >> i & 1 == 1 && !on(FORGETS_MASK) {
-                moved[i] = reset[i];
+        let mut parts = present(plant, from, switch.source, 2 * switch.d + switch.source_side);
+        if on(SWITCHES_FROM_FIRST_PIECE_ALONE) {
+            parts.truncate(1);
+        }
+        for part in parts {
+            let Some(landed) = switch_step(plant, &switch, part) else { continue };
+            let inv = ranges(plant.location(switch.target).invariant);
+            let side = if on(LANDS_ON_THE_OTHER_SIDE) && inv[switch.d].0 == inv[switch.d].1 {
+                1 - switch.target_side
+            } else {
+                switch.target_side
+            };
+            let face = 2 * switch.d + side;
+            if on(LANDS_ON_FIRST_PIECE_ALONE) {
+                join(&mut new[switch.target][face * count(plant, switch.target)], landed);
+            } else {
+                give(plant, &mut new, switch.target, face, landed);
             }
         }
-        let inv = ranges(plant.location(switch.target).invariant);
-        let mut landed = Some(moved);
-        if !on(LANDS_WITHOUT_RESET_BOX) {
-            landed = landed.and_then(|moved| cut(&moved, &reset));
-        }
-        if !on(LANDS_OUTSIDE_TARGET) {
-            landed = landed.and_then(|moved| cut(&moved, &inv));
-        }
-        let Some(landed) = landed else { continue };
-        let side = if on(LANDS_ON_THE_OTHER_SIDE) && inv[switch.d].0 == inv[switch.d].1 {
-            1 - switch.target_side
-        } else {
-            switch.target_side
-        };
-        join(&mut new[switch.target][2 * switch.d + side], landed);
     }
     new
+}
+
+/// What a switch lands from one part of the source's face.
+fn switch_step(plant: &Plant, switch: &Switch, part: Ranges) -> Option<Ranges> {
+    let guard = ranges(switch.guard);
+    let mut moved = if on(LANDS_WITHOUT_GUARD) { part } else { cut(&part, &guard)? };
+    let reset = ranges(switch.reset);
+    for i in 0..plant.sizes.n {
+        if switch.mask >> i & 1 == 1 && !on(FORGETS_MASK) {
+            moved[i] = reset[i];
+        }
+    }
+    if !on(LANDS_WITHOUT_RESET_BOX) {
+        moved = cut(&moved, &reset)?;
+    }
+    if on(LANDS_OUTSIDE_TARGET) {
+        return Some(moved);
+    }
+    cut(&moved, &ranges(plant.location(switch.target).invariant))
 }
 
 /// The t from `from` to `until` (None: no end) that satisfy both conditions of one variable.
@@ -220,10 +295,13 @@ fn touched(plant: &Plant, faces: &Faces, starts: bool) -> bool {
     (0..plant.sizes.forbidden).any(|f| {
         let forbidden = plant.forbidden(f);
         let location = plant.location(forbidden.location);
-        let parts = start(plant, forbidden.location)
-            .filter(|_| starts)
-            .into_iter()
-            .chain(faces[forbidden.location].iter().flatten().cloned());
+        let l = forbidden.location;
+        let mut parts = if starts { starts_of(plant, l) } else { vec![] };
+        for face in 0..plant.sizes.faces() {
+            let pieces = present(plant, faces, l, face);
+            let taken = if on(TOUCHES_FROM_FIRST_PIECE_ALONE) { 1 } else { pieces.len() };
+            parts.extend(pieces.into_iter().take(taken));
+        }
         let (rates, inv) = (ranges(location.rates), ranges(location.invariant));
         parts.into_iter().any(|part| touches(&part, &rates, &inv, &ranges(forbidden.bounds)))
     })
@@ -247,10 +325,11 @@ fn decide(model: &[u8], buffer: &mut [u8], limit: u32) -> u64 {
         Err(number) => return (number as u64) << 32,
     };
     let plant = model.plant();
-    if buffer.len() < plant.sizes.table_file_room() {
+    if buffer.len() < plant.table_file_room() {
         return 39 << 32;
     }
-    let mut faces: Faces = vec![vec![None; 2 * plant.sizes.n]; plant.sizes.locations];
+    let pieces = |l| vec![None; 2 * plant.sizes.n * count(&plant, l)];
+    let mut faces: Faces = (0..plant.sizes.locations).map(pieces).collect();
     let mut k = 0;
     let code = loop {
         let hit = touched(&plant, &faces, true);

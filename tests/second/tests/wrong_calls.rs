@@ -4,7 +4,7 @@
 use second::compare::{Comparison, Tested};
 use second::exports::{answer, Call, Input, Lent};
 use second::host;
-use second::model::Plant;
+use second::model::{ordered_inside, words_per_location, Piece, Plant, Sizes};
 use second::tables::well_formed;
 
 type Answer = fn(Call, &Input, &mut Lent) -> u32;
@@ -15,7 +15,7 @@ fn refused(number: u32) -> bool {
 
 /// The words of the model's table, if the model passes its questions.
 fn table_words(input: &Input) -> Option<usize> {
-    Plant::from_words(input.model).ok().map(|plant| plant.sizes.table_words())
+    Plant::from_words(input.model).ok().map(|plant| plant.table_words())
 }
 
 fn value_not_written_on_a_refusal(call: Call, input: &Input, lent: &mut Lent) -> u32 {
@@ -63,7 +63,7 @@ fn touching_asked_before_unchanged(call: Call, input: &Input, lent: &mut Lent) -
     let number = answer(call, input, lent);
     if call == Call::Check && number == 33 {
         let plant = Plant::from_words(input.model).expect("33 comes after the model's questions");
-        if second::tables::forbidden_touched(&plant, &input.table[..plant.sizes.table_words()]) {
+        if second::tables::forbidden_touched(&plant, &input.table[..plant.table_words()]) {
             return 34;
         }
     }
@@ -106,7 +106,7 @@ fn buffer_zeroed_on_5_and_20(call: Call, input: &Input, lent: &mut Lent) -> u32 
 
 fn last_word_kept_where_zeroed(call: Call, input: &Input, lent: &mut Lent) -> u32 {
     after_reading(call, input, lent, |number, before, words| {
-        if let (32 | 35..=38 | 6..=8 | 11..=19, Some(last)) = (number, words.last_mut()) {
+        if let (32 | 35..=38 | 6..=8 | 11..=19 | 46, Some(last)) = (number, words.last_mut()) {
             *last = before[before.len() - 1];
         }
     })
@@ -130,7 +130,7 @@ fn rest_of_the_file_zeroed(call: Call, input: &Input, lent: &mut Lent) -> u32 {
 
 fn room_asked_before_32(call: Call, input: &Input, lent: &mut Lent) -> u32 {
     let number = answer(call, input, lent);
-    let short = Plant::from_words(input.model).is_ok_and(|plant| lent.file.len() < plant.sizes.table_file_room());
+    let short = Plant::from_words(input.model).is_ok_and(|plant| lent.file.len() < plant.table_file_room());
     if call == Call::WriteTable && number == 32 && short {
         return 39;
     }
@@ -141,7 +141,7 @@ fn room_of_the_file_alone(call: Call, input: &Input, lent: &mut Lent) -> u32 {
     let number = answer(call, input, lent);
     if call == Call::WriteTable && number == 39 {
         let plant = Plant::from_words(input.model).expect("39 comes after the model's questions");
-        let table = &input.table[..plant.sizes.table_words()];
+        let table = &input.table[..plant.table_words()];
         assert!(well_formed(&plant, table));
         let file = second::files::table_file(&plant, table);
         if file.len() <= lent.file.len() {
@@ -253,6 +253,166 @@ fn counters_asked_first(call: Call, input: &Input, lent: &mut Lent) -> u32 {
     number
 }
 
+/// The number of the model's words with forbidden boxes that are right.
+fn number_beside_boxes(model: &[i32]) -> Option<u32> {
+    let sizes = Sizes::ask(model[0], model[1], model[2], model[3]).ok()?;
+    let mut words = model[..sizes.model_words()].to_vec();
+    words[sizes.forbidden_at(0)..sizes.cut_at(0)].fill(0);
+    Plant::from_words(&words).err()
+}
+
+fn cuts_asked_before_boxes(call: Call, input: &Input, lent: &mut Lent) -> u32 {
+    let number = answer(call, input, lent);
+    if number == 19 && call != Call::ReadModel && number_beside_boxes(input.model) == Some(46) {
+        return 46;
+    }
+    number
+}
+
+fn eight_for_forty_six(call: Call, input: &Input, lent: &mut Lent) -> u32 {
+    let number = answer(call, input, lent);
+    if call == Call::ReadModel && number == 46 {
+        8
+    } else {
+        number
+    }
+}
+
+fn buffer_kept_on_46(call: Call, input: &Input, lent: &mut Lent) -> u32 {
+    after_reading(call, input, lent, |number, before, words| {
+        if number == 46 {
+            words.copy_from_slice(before);
+        }
+    })
+}
+
+/// A cut at the highest value that it can have.
+fn highest_value_refused(call: Call, input: &Input, lent: &mut Lent) -> u32 {
+    let highest = |plant: &Plant| {
+        (0..plant.sizes.locations).any(|l| {
+            let invariant = plant.location(l).invariant;
+            plant.cut(l).is_some_and(|cut| cut.value == invariant[2 * cut.variable + 1] - 1)
+        })
+    };
+    if call == Call::Ceiling && Plant::from_words(input.model).is_ok_and(|plant| highest(&plant)) {
+        *lent.value = 0;
+        return 46;
+    }
+    answer(call, input, lent)
+}
+
+/// The ceiling with something added for each cut: what it is of a location, its cut variable and n.
+fn ceiling_with(call: Call, input: &Input, lent: &mut Lent, change: fn(&[i32], usize, usize) -> i64) -> u32 {
+    let number = answer(call, input, lent);
+    if call == Call::Ceiling && number == 100 {
+        let plant = Plant::from_words(input.model).expect("a ceiling comes after the model's questions");
+        let n = plant.sizes.n;
+        for l in 0..plant.sizes.locations {
+            if let Some(cut) = plant.cut(l) {
+                let more = change(plant.location(l).invariant, cut.variable, n);
+                *lent.value = lent.value.wrapping_add(more as u64);
+            }
+        }
+    }
+    number
+}
+
+fn width(invariant: &[i32], i: usize) -> i64 {
+    invariant[2 * i + 1] as i64 - invariant[2 * i] as i64
+}
+
+fn ceiling_of_both_pieces_whole(call: Call, input: &Input, lent: &mut Lent) -> u32 {
+    // The cut variable's whole width once more, on the walls of each of the others.
+    ceiling_with(call, input, lent, |invariant, cut, n| 2 * (n as i64 - 1) * width(invariant, cut))
+}
+
+fn ceiling_with_second_pieces_on_own_walls(call: Call, input: &Input, lent: &mut Lent) -> u32 {
+    ceiling_with(call, input, lent, |invariant, cut, n| {
+        2 * (1 + (0..n).filter(|&i| i != cut).map(|i| width(invariant, i)).sum::<i64>())
+    })
+}
+
+/// Words of the table if no location were cut.
+fn words_without_cuts(input: &Input) -> Option<usize> {
+    Plant::from_words(input.model).ok().map(|plant| plant.sizes.locations * words_per_location(plant.sizes.n))
+}
+
+fn table_asked_without_pieces(call: Call, input: &Input, lent: &mut Lent) -> u32 {
+    let number = answer(call, input, lent);
+    if call == Call::Check && number == 20 && words_without_cuts(input).is_some_and(|size| size <= input.table.len()) {
+        return 32;
+    }
+    number
+}
+
+fn room_of_the_shorter_field(call: Call, input: &Input, lent: &mut Lent) -> u32 {
+    let number = answer(call, input, lent);
+    if call == Call::WriteTable && number == 39 {
+        let plant = Plant::from_words(input.model).expect("39 comes after the model's questions");
+        let shorter = 7 + plant.pieces() * (11 + 8 * plant.sizes.n);
+        let file = second::files::table_file(&plant, &input.table[..plant.table_words()]);
+        if file.len() <= lent.file.len() && shorter <= lent.file.len() {
+            lent.file[..file.len()].copy_from_slice(&file);
+            *lent.value = file.len() as u64;
+            return 100;
+        }
+    }
+    number
+}
+
+/// Question 32 of a table with more boxes for a piece: checked is 33 where that is all that is wrong.
+fn well_formed_but_for(call: Call, input: &Input, lent: &mut Lent, widest: fn(&Plant, Piece) -> Vec<i32>) -> u32 {
+    let number = answer(call, input, lent);
+    if call != Call::Check || number != 32 {
+        return number;
+    }
+    let plant = Plant::from_words(input.model).expect("32 comes after the model's questions");
+    let stands = |piece: Piece| {
+        let words = &input.table[plant.piece_places(piece)];
+        match words[0] {
+            0 => words.iter().all(|&word| word == 0),
+            flag => flag == 1 && ordered_inside(&words[1..], &widest(&plant, piece)),
+        }
+    };
+    if plant.all_pieces().all(stands) {
+        33
+    } else {
+        32
+    }
+}
+
+/// The wall of a piece, as far as the invariant goes.
+fn wall_of(plant: &Plant, piece: Piece) -> Vec<i32> {
+    let invariant = plant.location(piece.location).invariant;
+    let mut wall = invariant.to_vec();
+    let d = piece.face / 2;
+    wall[2 * d..2 * d + 2].fill(invariant[piece.face]);
+    wall
+}
+
+fn sides_not_asked(call: Call, input: &Input, lent: &mut Lent) -> u32 {
+    well_formed_but_for(call, input, lent, |plant, piece| match plant.widest(piece) {
+        Some(_) => wall_of(plant, piece),
+        None => vec![1, 0].repeat(plant.sizes.n),
+    })
+}
+
+fn second_pieces_taken_on_own_walls(call: Call, input: &Input, lent: &mut Lent) -> u32 {
+    well_formed_but_for(call, input, lent, |plant, piece| match plant.widest(piece) {
+        Some(widest) => widest[..2 * plant.sizes.n].to_vec(),
+        None => wall_of(plant, piece),
+    })
+}
+
+fn thirty_six_for_thirty_seven_of_pieces(call: Call, input: &Input, lent: &mut Lent) -> u32 {
+    let number = answer(call, input, lent);
+    let cut = Plant::from_words(input.model).is_ok_and(|plant| plant.any_cut());
+    if call == Call::ReadTable && number == 37 && cut {
+        return 36;
+    }
+    number
+}
+
 fn fifteen_for_fourteen(call: Call, input: &Input, lent: &mut Lent) -> u32 {
     let number = answer(call, input, lent);
     if number == 14 {
@@ -262,7 +422,7 @@ fn fifteen_for_fourteen(call: Call, input: &Input, lent: &mut Lent) -> u32 {
     }
 }
 
-const WRONG: [(&str, Answer); 26] = [
+const WRONG: [(&str, Answer); 37] = [
     ("value not written on a refusal", value_not_written_on_a_refusal),
     ("the limit as an unknown answer's value", limit_as_value_of_unknown),
     ("ceiling of 32 bits", ceiling_of_32_bits),
@@ -289,6 +449,17 @@ const WRONG: [(&str, Answer); 26] = [
     ("limit cut to what is left", limit_cut_to_what_is_left),
     ("22 before 20", counters_asked_first),
     ("15 for 14", fifteen_for_fourteen),
+    ("46 before 19", cuts_asked_before_boxes),
+    ("8 for 46", eight_for_forty_six),
+    ("buffer kept on 46", buffer_kept_on_46),
+    ("the highest value of a cut refused", highest_value_refused),
+    ("ceiling of both pieces whole", ceiling_of_both_pieces_whole),
+    ("ceiling with second pieces on own walls", ceiling_with_second_pieces_on_own_walls),
+    ("20 without second pieces", table_asked_without_pieces),
+    ("39 by the shorter field", room_of_the_shorter_field),
+    ("32 without the side", sides_not_asked),
+    ("32 with second pieces on own walls", second_pieces_taken_on_own_walls),
+    ("36 for 37 with pieces", thirty_six_for_thirty_seven_of_pieces),
 ];
 
 /// How many random models were compared until the mistake was found; None if it was not.

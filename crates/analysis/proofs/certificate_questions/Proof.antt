@@ -1,61 +1,23 @@
--- The words held for the pass are enough: for a small table few, else those of the largest table.
-use mathlib.Core.Path.{_≡_, sym, _∙_}
-use Prim.Native.Nat.{_≤_}
-use native.Mathlib.Omega.{arith}
+-- The places are made once.
+use mathlib.Core.Path.{refl}
+use Rattle.passes.proofs.PartWords.{whole}
 use borrow.Author.Needs.{needs}
-use lib.IntN.{pos}
-use lib.ListN.{length, length-replicate}
-use Rattle.model.proofs.Passing.{head-ready}
-use Rattle.tables.proofs.Faces.{table-most}
-use Rattle.analysis.proofs.Sizes.{prefix}
 use Rattle.analysis.proofs.certificate_questions.Statement.{statement}
 use Rattle.analysis.proofs.certificate_questions.Tie as tie
 
--- the table is no longer than the words held for the largest one
-room : (c : tie.Start) → length (c .args .table .now) ≤ 9984
-room c = omega (arith, c .pre .0 .size, table-most _ (head-ready _ (c .pre .0 .passes)))
+places-requires : tie.Need-places-requires
+places-requires c κs = (whole _ (c .before .pre .0 .passes), refl)
 
--- or than the few held for a small one
-small : (c : tie.Then1) → length (c .before .args .table .now) ≤ 1280
-small c = omega (arith, c .if1 .taken)
+slice-aggregate-certificate-held : tie.Need-slice-aggregate-certificate-held
+slice-aggregate-certificate-held c = search needs
 
-array-borrow-prefix-after : tie.Need-array-borrow-prefix-after
-array-borrow-prefix-after c = search needs
-
-slice-aggregate-certificate-with : tie.Need-slice-aggregate-certificate-with
-slice-aggregate-certificate-with c = prefix _ _ (length-replicate 1280 (pos 0)) (small (c .before))
-
-certificate-with-requires : tie.Need-certificate-with-requires
-certificate-with-requires c κs =
-    let s = c .before .before in
-    (s .pre .0, s .pre .1, record { passes = s .pre .0 .passes; size = sym (prefix _ _ (length-replicate 1280 (pos 0)) (small (c .before))) ∙ s .pre .0 .size })
+certificate-held-requires : tie.Need-certificate-held-requires
+certificate-held-requires c κs = search needs
 
 returns : tie.Need-returns
 returns c = search needs
 
-array-borrow-prefix-after-2 : tie.Need-array-borrow-prefix-after-2
-array-borrow-prefix-after-2 c = room (c .before)
-
-slice-aggregate-certificate-with-2 : tie.Need-slice-aggregate-certificate-with-2
-slice-aggregate-certificate-with-2 c = prefix _ _ (length-replicate 9984 (pos 0)) (room (c .before .before))
-
-certificate-with-requires-2 : tie.Need-certificate-with-requires-2
-certificate-with-requires-2 c κs =
-    let s = c .before .before in
-    (s .pre .0, s .pre .1, record { passes = s .pre .0 .passes; size = sym (prefix _ _ (length-replicate 9984 (pos 0)) (room (c .before .before))) ∙ s .pre .0 .size })
-
-returns-2 : tie.Need-returns-2
-returns-2 c = search needs
-
 pub certificate-questions-spec : {M : Type 1} → statement M
 certificate-questions-spec =
     tie.close
-    (tie.spec
-    array-borrow-prefix-after
-    slice-aggregate-certificate-with
-    certificate-with-requires
-    returns
-    array-borrow-prefix-after-2
-    slice-aggregate-certificate-with-2
-    certificate-with-requires-2
-    returns-2)
+    (tie.spec places-requires slice-aggregate-certificate-held certificate-held-requires returns)

@@ -17,7 +17,7 @@ same-length : tie.Need-same-length
 same-length c = search needs
 
 returns : tie.Need-returns
-returns c = changes _ _ (c .before .before .before .before .pre .0 .size) (sym (c .before .before .fixpoint .ensures .0) ∙ not-true _ (c .if1 .taken))
+returns c = changes _ _ (c .before .before .before .before .before .pre .0 .size) (sym (c .before .before .fixpoint .ensures .0) ∙ not-true _ (c .if1 .taken))
 
 touching-requires : tie.Need-touching-requires
 touching-requires c κs = search needs
@@ -26,17 +26,17 @@ same-length-2 : tie.Need-same-length-2
 same-length-2 c = search needs
 
 -- after 33: a pass leaves the table as it is
-fixed : (c : tie.Else1) → equal (pass (c .before .before .before .before .args .model .now) (c .before .before .before .before .args .table .now)) (c .before .before .before .before .args .table .now) ≡ true
+fixed : (c : tie.Else1) → let a = c .before .before .before .before .before .args in equal (pass (a .model .now) (a .table .now)) (a .table .now) ≡ true
 fixed c = sym (c .before .before .fixpoint .ensures .0) ∙ not-false _ (c .if1 .left)
 
 returns-2 : tie.Need-returns-2
-returns-2 c = touches _ _ (c .before .before .before .before .before .before .pre .0 .size) (fixed (c .before .before)) (sym (c .before .touching .ensures) ∙ c .if2 .taken)
+returns-2 c = touches _ _ (c .before .before .before .before .before .before .before .pre .0 .size) (fixed (c .before .before)) (sym (c .before .touching .ensures) ∙ c .if2 .taken)
 
 same-length-3 : tie.Need-same-length-3
 same-length-3 c = search needs
 
 returns-3 : tie.Need-returns-3
-returns-3 c = certified _ _ (c .before .before .before .before .before .before .pre .0 .size) (fixed (c .before .before)) (sym (c .before .touching .ensures) ∙ c .if2 .left)
+returns-3 c = certified _ _ (c .before .before .before .before .before .before .before .pre .0 .size) (fixed (c .before .before)) (sym (c .before .touching .ensures) ∙ c .if2 .left)
 
 pub certificate-with-spec : {M : Type 1} → statement M
 certificate-with-spec =

@@ -8,7 +8,7 @@ use lib.Seq.{length-take-le}
 use Rattle.plant.specs.Questions.{modelQuestions}
 use Rattle.plant.specs.Tables.{tableSize}
 use Rattle.plant.specs.Calls.{tableQuestions}
-use Rattle.model.proofs.Passing.{head-ready}
+use Rattle.passes.proofs.PartWords.{whole}
 use Rattle.analysis.proofs.Front.{front}
 use Rattle.analysis.proofs.Calls.{check-model, check-short, check-table, check-accepted}
 use Rattle.analysis.proofs.check.Statement.{statement}
@@ -25,7 +25,7 @@ asks : (c : tie.Else1) → modelQuestions (c .before .before .args .model .now) 
 asks c = sym (c .before .questions .ensures) ∙ c .if1 .left
 
 table-size-requires : tie.Need-table-size-requires
-table-size-requires c κs = head-ready _ (asks c)
+table-size-requires c κs = whole _ (asks c)
 
 returns-2 : tie.Need-returns-2
 returns-2 c = check-short _ _ (asks (c .before .before)) (omega (arith, c .before .table-size .ensures, c .if2 .taken))

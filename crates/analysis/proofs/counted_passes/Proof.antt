@@ -13,42 +13,48 @@ use Rattle.analysis.proofs.counted_passes.Statement.{statement}
 use Rattle.analysis.proofs.counted_passes.Tie as tie
 
 abbrev Inv-loop : tie.InvT-loop
-Inv-loop model limit table₀ work₀ k₀ table work k = Going model limit table work k
+Inv-loop model places limit table₀ work₀ k₀ table work k = Going model limit table work k
 
 abbrev μ-loop : tie.MeasureT-loop
-μ-loop model limit table₀ work₀ k₀ table work k = limit - k
+μ-loop model places limit table₀ work₀ k₀ table work k = limit - k
 
 -- ---- at the head of a turn
 
 abbrev Head : Type 0
 Head = tie.At-loop Inv-loop μ-loop
 
-ok : (h : Head) → Passed (h .before .before .before .before .args .model .now)
-ok h = passed (h .before .before .before .before .args .model .now) (h .before .before .before .before .pre .0 .passes)
+abbrev start : Head → tie.Start Inv-loop μ-loop
+start h = h .before .before .before .before .before
 
-table-size : (h : Head) → length (h .loop .table) ≡ tableSize (h .before .before .before .before .args .model .now)
+ok : (h : Head) → Passed (start h .args .model .now)
+ok h = passed (start h .args .model .now) (start h .pre .0 .passes)
+
+table-size : (h : Head) → length (h .loop .table) ≡ tableSize (start h .args .model .now)
 table-size h = going-length _ _ _ _ _ (h .loop .inv)
 
-valid : (h : Head) → tableOk (h .before .before .before .before .args .model .now) (h .loop .table) ≡ true
+valid : (h : Head) → tableOk (start h .args .model .now) (h .loop .table) ≡ true
 valid h = going-ok _ _ _ _ _ (h .loop .inv) (ok h)
 
 -- both buffers keep the length that they had
-table-kept : (h : Head) → length (h .loop .table) ≡ length (h .before .before .before .before .args .table .now)
-table-kept h = table-size h ∙ sym (h .before .before .before .before .pre .0 .size)
+table-kept : (h : Head) → length (h .loop .table) ≡ length (start h .args .table .now)
+table-kept h = table-size h ∙ sym (start h .pre .0 .size)
 
-work-kept : (h : Head) → length (h .loop .work) ≡ length (h .before .before .before .before .args .work .now)
-work-kept h = h .loop .inv .work-size ∙ sym (h .before .before .before .before .pre .1 .size)
+work-kept : (h : Head) → length (h .loop .work) ≡ length (start h .args .work .now)
+work-kept h = h .loop .inv .work-size ∙ sym (start h .pre .2 .size)
 
 -- ---- after the pass
 
 abbrev Made : Type 0
 Made = tie.After-fixpoint Inv-loop μ-loop
 
-untouched : (q : Made) → touching (q .before .before .before .before .before .before .before .before .before .before .args .model .now) (q .before .before .before .before .before .before .loop .table) ≡ false
+abbrev head : Made → Head
+head q = q .before .before .before .before .before .before
+
+untouched : (q : Made) → touching (start (head q) .args .model .now) (head q .loop .table) ≡ false
 untouched q = sym (q .before .before .before .before .touching .ensures) ∙ q .before .before .before .if1 .left
 
-made-kept : (q : Made) → length (q .fixpoint .last .1 .1 .0) ≡ length (q .before .before .before .before .before .before .before .before .before .before .args .work .now)
-made-kept q = q .fixpoint .kept .1 .1 .0 ∙ work-kept (q .before .before .before .before .before .before)
+made-kept : (q : Made) → length (q .fixpoint .last .1 .1 .1 .0) ≡ length (start (head q) .args .work .now)
+made-kept q = q .fixpoint .kept .1 .1 .1 .0 ∙ work-kept (head q)
 
 -- ---- the turns
 
@@ -57,15 +63,16 @@ clear-requires c κs = tt
 
 loop-holds : tie.Need-loop-holds Inv-loop μ-loop
 loop-holds c =
-    let a = c .before .before .before .args in
-    let p = c .before .before .before .pre in
+    let a = c .before .before .before .before .args in
+    let p = c .before .before .before .before .pre in
     subst (λ (t : List ℤ). Going (a .model .now) (a .limit) t (a .work .now) 0) (sym (c .before .clear .ensures))
-    (going-first (a .model .now) (a .limit) (a .table .now) (a .work .now) (p .0 .size) (p .1 .size))
+    (going-first (a .model .now) (a .limit) (a .table .now) (a .work .now) (p .0 .size) (p .2 .size))
 
 touching-requires : tie.Need-touching-requires Inv-loop μ-loop
 touching-requires c κs =
     let n = table-size (c .before) in
-    (record { passes = c .before .before .before .before .before .pre .0 .passes; room = omega (arith, n) }, valid (c .before))
+    let p = start (c .before) .pre in
+    (record { passes = p .0 .passes; room = omega (arith, n) }, p .1, valid (c .before))
 
 same-length : tie.Need-same-length Inv-loop μ-loop
 same-length c = table-kept (c .before .before .before)
@@ -78,35 +85,39 @@ returns c = going-unknown _ _ _ _ _ (c .before .before .before .loop .inv) (sym 
 
 fixpoint-requires : tie.Need-fixpoint-requires Inv-loop μ-loop
 fixpoint-requires c κs =
-    let p = c .before .before .before .before .before .before .before .before .before .pre .0 .passes in
-    (record { passes = p; size = table-size (c .before .before .before .before .before) }, valid (c .before .before .before .before .before), record { passes = p; size = c .before .before .before .before .before .loop .inv .work-size })
+    let h = c .before .before .before .before .before in
+    let p = start h .pre in
+    (record { passes = p .0 .passes; size = table-size h }, p .1, valid h, record { passes = p .0 .passes; size = h .loop .inv .work-size })
 
 same-length-3 : tie.Need-same-length-3 Inv-loop μ-loop
-same-length-3 c = table-kept (c .before .before .before .before .before .before .before .before)
+same-length-3 c = table-kept (head (c .before .before))
 
 same-length-4 : tie.Need-same-length-4 Inv-loop μ-loop
 same-length-4 c = made-kept (c .before .before)
 
 returns-2 : tie.Need-returns-2 Inv-loop μ-loop
-returns-2 c = going-safe _ _ _ _ _ (c .before .before .before .before .before .before .before .before .loop .inv) (untouched (c .before .before)) (sym (c .before .before .fixpoint .ensures .0) ∙ c .if2 .taken)
+returns-2 c = let q = c .before .before in going-safe _ _ _ _ _ (head q .loop .inv) (untouched q) (sym (q .fixpoint .ensures .0) ∙ c .if2 .taken)
 
 same-length-5 : tie.Need-same-length-5 Inv-loop μ-loop
-same-length-5 c = table-kept (c .before .before .before .before .before .before .before .before .before)
+same-length-5 c = table-kept (head (c .before .before .before))
 
 same-length-6 : tie.Need-same-length-6 Inv-loop μ-loop
 same-length-6 c = made-kept (c .before .before .before)
 
 returns-3 : tie.Need-returns-3 Inv-loop μ-loop
-returns-3 c = going-limit _ _ _ _ _ (c .before .before .before .before .before .before .before .before .before .loop .inv) (untouched (c .before .before .before)) (sym (c .before .before .before .fixpoint .ensures .0) ∙ c .before .if2 .left) (c .if3 .taken)
+returns-3 c = let q = c .before .before .before in going-limit _ _ _ _ _ (head q .loop .inv) (untouched q) (sym (q .fixpoint .ensures .0) ∙ c .before .if2 .left) (c .if3 .taken)
 
 copy-requires : tie.Need-copy-requires Inv-loop μ-loop
-copy-requires c κs = made-kept (c .before .before .before .before .before) ∙ c .before .before .before .before .before .before .before .before .before .before .before .before .before .before .before .pre .1 .size ∙ sym (c .before .before .before .before .before .before .before .before .before .before .before .before .before .before .before .pre .0 .size) ∙ sym (table-kept (c .before .before .before .before .before .before .before .before .before .before .before))
+copy-requires c κs =
+    let q = c .before .before .before .before .before in
+    let p = start (head q) .pre in
+    made-kept q ∙ p .2 .size ∙ sym (p .0 .size) ∙ sym (table-kept (head q))
 
-below-limit : (c : tie.After-copy-arg2 Inv-loop μ-loop) → c .before .before .before .before .before .before .before .before .before .before .before .loop .k < c .before .before .before .before .before .before .before .before .before .before .before .before .before .before .before .args .limit
-below-limit c = omega (arith, c .before .before .before .before .before .before .before .before .before .before .before .loop .inv .k-within, c .before .before .if3 .left)
+below-limit : (c : tie.After-copy-arg2 Inv-loop μ-loop) → let h = head (c .before .before .before .before .before) in h .loop .k < start h .args .limit
+below-limit c = let h = head (c .before .before .before .before .before) in omega (arith, h .loop .inv .k-within, c .before .before .if3 .left)
 
 add-k : tie.Need-add-k Inv-loop μ-loop
-add-k c = omega (arith, below-limit (c .before .before), c .before .before .before .before .before .before .before .before .before .before .before .before .before .before .before .before .before .fits .limit)
+add-k c = let h = head (c .before .before .before .before .before .before .before) in omega (arith, below-limit (c .before .before), start h .fits .limit)
 
 loop-less : tie.Need-loop-less Inv-loop μ-loop
 loop-less c = omega (arith, below-limit (c .before .before))
@@ -114,9 +125,9 @@ loop-less c = omega (arith, below-limit (c .before .before))
 loop-again : tie.Need-loop-again Inv-loop μ-loop
 loop-again c =
     let q = c .before .before .before .before .before .before .before in
-    let h = c .before .before .before .before .before .before .before .before .before .before .before .before .before in
-    subst (λ (t : List ℤ). Going (h .before .before .before .before .args .model .now) (h .before .before .before .before .args .limit) t (q .fixpoint .last .1 .1 .0) (h .loop .k + 1)) (sym (c .before .copy .ensures ∙ q .fixpoint .ensures .1))
-    (going-more _ _ _ _ _ (h .loop .inv) (untouched q) (sym (q .fixpoint .ensures .0) ∙ c .before .before .before .before .before .if2 .left) (below-limit (c .before .before)) (q .fixpoint .last .1 .1 .0) (made-kept q ∙ h .before .before .before .before .pre .1 .size))
+    let h = head q in
+    subst (λ (t : List ℤ). Going (start h .args .model .now) (start h .args .limit) t (q .fixpoint .last .1 .1 .1 .0) (h .loop .k + 1)) (sym (c .before .copy .ensures ∙ q .fixpoint .ensures .1))
+    (going-more _ _ _ _ _ (h .loop .inv) (untouched q) (sym (q .fixpoint .ensures .0) ∙ c .before .before .before .before .before .if2 .left) (below-limit (c .before .before)) (q .fixpoint .last .1 .1 .1 .0) (made-kept q ∙ start h .pre .2 .size))
 
 pub counted-passes-spec : {M : Type 1} → statement M
 counted-passes-spec =

@@ -10,17 +10,17 @@ use Rattle.analysis.proofs.fixpoint.Tie as tie
 
 pass-requires : tie.Need-pass-requires
 pass-requires c κs =
-    let p = c .before .pre in
-    (record { ready = record { passes = p .0 .passes; room = omega (arith, p .0 .size) }; valid = p .1 }, p .2 .size)
+    let p = c .before .before .pre in
+    (record { ready = record { passes = p .0 .passes; room = omega (arith, p .0 .size) }; valid = p .2 }, p .1, p .3 .size)
 
 equal-requires : tie.Need-equal-requires
-equal-requires c κs = c .before .before .pass .kept .1 .1 .0 ∙ c .before .before .before .before .pre .2 .size ∙ sym (c .before .before .before .before .pre .0 .size)
+equal-requires c κs = let p = c .before .before .before .before .before .pre in c .before .before .pass .kept .1 .1 .1 .0 ∙ p .3 .size ∙ sym (p .0 .size)
 
 same-length : tie.Need-same-length
 same-length c = search needs
 
 returns : tie.Need-returns
-returns c = (c .equal .ensures ∙ ap (λ (w : List ℤ). equal w (c .before .before .before .before .before .args .table .now)) (c .before .before .before .pass .ensures), c .before .before .before .pass .ensures)
+returns c = (c .equal .ensures ∙ ap (λ (w : List ℤ). equal w (c .before .before .before .before .before .before .args .table .now)) (c .before .before .before .pass .ensures), c .before .before .before .pass .ensures)
 
 pub fixpoint-spec : {M : Type 1} → statement M
 fixpoint-spec = tie.close (tie.spec pass-requires equal-requires same-length returns)

@@ -6,7 +6,7 @@ use borrow.Author.Needs.{needs}
 use lib.ListN.{length}
 use Rattle.plant.specs.Questions.{modelQuestions}
 use Rattle.plant.specs.Tables.{tableSize}
-use Rattle.model.proofs.Passing.{head-ready}
+use Rattle.passes.proofs.PartWords.{whole}
 use Rattle.analysis.proofs.Calls.{asks-model, short-table, short-work, all-yes}
 use Rattle.analysis.proofs.questions.Statement.{statement}
 use Rattle.analysis.proofs.questions.Tie as tie
@@ -22,7 +22,7 @@ asks : (c : tie.Else1) → modelQuestions (c .before .before .args .model .now) 
 asks c = sym (c .before .questions .ensures) ∙ c .if1 .left
 
 table-size-requires : tie.Need-table-size-requires
-table-size-requires c κs = head-ready _ (asks c)
+table-size-requires c κs = whole _ (asks c)
 
 returns-2 : tie.Need-returns-2
 returns-2 c = short-table _ _ _ (asks (c .before .before)) (omega (arith, c .before .table-size .ensures, c .if2 .taken))

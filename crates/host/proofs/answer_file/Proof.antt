@@ -1,12 +1,12 @@
 -- The words held are enough: for a small table few, else those of the largest table.
-use Rattle.model.proofs.Passing.{head-ready}
+use Rattle.passes.proofs.PartWords.{whole}
 use borrow.Author.Needs.{needs}
 use Rattle.host.proofs.Deciding.{table-fits}
 use Rattle.host.proofs.answer_file.Statement.{statement}
 use Rattle.host.proofs.answer_file.Tie as tie
 
 table-size-requires : tie.Need-table-size-requires
-table-size-requires c κs = let s = c .before in head-ready _ (s .pre .0)
+table-size-requires c κs = let s = c .before in whole _ (s .pre .0)
 
 slice-aggregate-answer-with : tie.Need-slice-aggregate-answer-with
 slice-aggregate-answer-with c = search needs

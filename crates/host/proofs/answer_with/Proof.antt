@@ -2,7 +2,7 @@
 use mathlib.Core.Path.{sym}
 use native.Mathlib.Omega.{arith}
 use borrow.Author.Needs.{needs}
-use Rattle.model.proofs.Passing.{head-ready}
+use Rattle.passes.proofs.PartWords.{whole}
 use Rattle.analysis.proofs.Calls.{all-yes}
 use Rattle.host.proofs.Deciding.{answer-front, is-decided}
 use Rattle.host.proofs.answer_with.Statement.{statement}
@@ -12,7 +12,7 @@ analyse-passed-requires : tie.Need-analyse-passed-requires
 analyse-passed-requires c κs = let s = c .before .before .before in sym (all-yes _ _ _ (s .pre .0) (s .pre .2) (s .pre .3))
 
 table-size-requires : tie.Need-table-size-requires
-table-size-requires c κs = head-ready _ (c .before .before .before .before .before .before .pre .0)
+table-size-requires c κs = whole _ (c .before .before .before .before .before .before .pre .0)
 
 slice-reshare-prefix-put-table : tie.Need-slice-reshare-prefix-put-table
 slice-reshare-prefix-put-table c = search needs
@@ -26,7 +26,7 @@ put-table-requires : tie.Need-put-table-requires
 put-table-requires c κs =
     let s = c .before .before .before .before .before .before .before .before .before in
     record {
-      head = head-ready _ (s .pre .0);
+      whole = whole _ (s .pre .0);
       room = omega (arith, c .before .before .table-size .ensures, answer-front _ _ (s .args .table .now) (s .args .work .now) (s .pre .2) (c .before .before .before .before .before .analyse-passed .ensures) (c .before .before .table-size .ensures) .lent);
       bytes = s .pre .1;
     }

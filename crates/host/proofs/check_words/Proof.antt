@@ -1,12 +1,12 @@
 -- The words held are enough: for a small table few, else those of the largest table.
-use Rattle.model.proofs.Passing.{head-ready}
+use Rattle.passes.proofs.PartWords.{whole}
 use borrow.Author.Needs.{needs}
 use Rattle.host.proofs.Deciding.{table-fits}
 use Rattle.host.proofs.check_words.Statement.{statement}
 use Rattle.host.proofs.check_words.Tie as tie
 
 table-size-requires : tie.Need-table-size-requires
-table-size-requires c κs = let s = c .before in head-ready _ (s .pre)
+table-size-requires c κs = let s = c .before in whole _ (s .pre)
 
 slice-aggregate-check-with : tie.Need-slice-aggregate-check-with
 slice-aggregate-check-with c = search needs

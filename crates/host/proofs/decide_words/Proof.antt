@@ -1,13 +1,13 @@
 -- 39, then the answer.
 use mathlib.Core.Path.{_≡_, sym, _∙_}
 use borrow.Author.Needs.{needs}
-use Rattle.model.proofs.Passing.{head-ready}
+use Rattle.passes.proofs.PartWords.{whole}
 use Rattle.host.proofs.Deciding.{no-room, has-room, room}
 use Rattle.host.proofs.decide_words.Statement.{statement}
 use Rattle.host.proofs.decide_words.Tie as tie
 
 bytes-question-requires : tie.Need-bytes-question-requires
-bytes-question-requires c κs = head-ready _ (c .before .pre)
+bytes-question-requires c κs = whole _ (c .before .pre)
 
 pack-requires : tie.Need-pack-requires
 pack-requires c κs = search needs

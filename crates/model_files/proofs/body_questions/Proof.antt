@@ -1,6 +1,6 @@
--- The three runs of fields, then the end of the file.
+-- The three runs of fields, then the cuts' fields.
 use borrow.Author.Needs.{needs}
-use Rattle.model_files.specs.ModelFile.{bodyQuestions}
+use Rattle.model_files.proofs.ModelReading.{body-made}
 use Rattle.model_files.proofs.body_questions.Statement.{statement}
 use Rattle.model_files.proofs.body_questions.Tie as tie
 
@@ -43,11 +43,14 @@ forbidden-size-requires c κs = search needs
 run-questions-requires-3 : tie.Need-run-questions-requires-3
 run-questions-requires-3 c κs = search needs
 
-file-end-requires : tie.Need-file-end-requires
-file-end-requires c κs = search needs
+cuts-from-requires : tie.Need-cuts-from-requires
+cuts-from-requires c κs = search needs
 
-ask-requires : tie.Need-ask-requires
-ask-requires c κs = search needs
+locations-requires-2 : tie.Need-locations-requires-2
+locations-requires-2 c κs = search needs
+
+cuts-questions-requires : tie.Need-cuts-questions-requires
+cuts-questions-requires c κs = search needs
 
 or-else-requires : tie.Need-or-else-requires
 or-else-requires c κs = search needs
@@ -59,8 +62,15 @@ or-else-requires-3 : tie.Need-or-else-requires-3
 or-else-requires-3 c κs = search needs
 
 returns : tie.Need-returns
-unfolding bodyQuestions
-returns c = cc
+returns c =
+    let a = c .before .before .before .before .before .before .before .before .before .before .before .before .before .before .before .before .before .before .before .before .args in
+    let n = c .before .before .before .before .before .before .before .before .before .before .before .before .before .before .before .before .before .before .variables .ensures in
+    body-made (a .file .now) (a .head .now)
+    (rw (c .before .before .before .before .before .before .before .before .before .before .before .before .before .before .before .before .before .locations-from .ensures, c .before .before .before .before .before .before .before .before .before .before .before .before .before .before .before .before .locations .ensures, c .before .before .before .before .before .before .before .before .before .before .before .before .before .before .before .location-size .ensures, n) at (c .before .before .before .before .before .before .before .before .before .before .before .before .before .before .run-questions .ensures))
+    (rw (c .before .before .before .before .before .before .before .before .before .before .before .before .before .switches-from .ensures, c .before .before .before .before .before .before .before .before .before .before .before .before .switches .ensures, c .before .before .before .before .before .before .before .before .before .before .before .switch-size .ensures, n) at (c .before .before .before .before .before .before .before .before .before .before .run-questions2 .ensures))
+    (rw (c .before .before .before .before .before .before .before .before .before .forbiddens-from .ensures, c .before .before .before .before .before .before .before .before .forbidden-boxes .ensures, c .before .before .before .before .before .before .before .forbidden-size .ensures, n) at (c .before .before .before .before .before .before .run-questions3 .ensures))
+    (rw (c .before .before .before .before .before .cuts-from .ensures, c .before .before .before .before .locations2 .ensures) at (c .before .before .before .cuts-questions .ensures))
+    (c .before .before .or-else .ensures) (c .before .or-else2 .ensures) (c .or-else3 .ensures)
 
 pub body-questions-spec : {M : Type 1} → statement M
 body-questions-spec =
@@ -79,8 +89,9 @@ body-questions-spec =
     forbidden-boxes-requires
     forbidden-size-requires
     run-questions-requires-3
-    file-end-requires
-    ask-requires
+    cuts-from-requires
+    locations-requires-2
+    cuts-questions-requires
     or-else-requires
     or-else-requires-2
     or-else-requires-3

@@ -5,7 +5,7 @@ use borrow.Author.Needs.{needs}
 use lib.Dec.{leb}
 use Rattle.plant.proofs.Asks.{go, halt}
 use Rattle.plant.specs.Ask.{ask}
-use Rattle.model.proofs.Passing.{head-ready}
+use Rattle.passes.proofs.PartWords.{whole}
 use Rattle.table_files.specs.TableFile.{roomQuestions}
 use Rattle.table_files.proofs.room_questions.Statement.{statement}
 use Rattle.table_files.proofs.room_questions.Tie as tie
@@ -18,7 +18,7 @@ unfolding roomQuestions
 returns c = halt _ (c .before .questions .ensures) (c .if1 .taken)
 
 table-size-requires : tie.Need-table-size-requires
-table-size-requires c κs = head-ready _ (sym (c .before .questions .ensures) ∙ c .if1 .left)
+table-size-requires c κs = whole _ (sym (c .before .questions .ensures) ∙ c .if1 .left)
 
 ask-requires : tie.Need-ask-requires
 ask-requires c κs = search needs

@@ -4,14 +4,14 @@ use mathlib.Core.List.{_∷_}
 use Prim.Native.Nat.{ℕ, _+_, _*_, _-_, _≤_, _<_}
 use native.Mathlib.Omega.{arith}
 use lib.IntN.{ℤ, pos}
-use lib.Signed.{mag, ltZ}
+use lib.Signed.{mag}
 use lib.ListN.{length, set, length-set}
 use mir.Facts.{toZ-ofZ}
 use Rattle.integers.specs.Rounding.{maxZ, minZ}
-use Rattle.integers.proofs.Signed.{got32, got64, widened, cond-case}
+use Rattle.integers.proofs.Signed.{got32, got64, widened}
 use Rattle.integers.specs.Words.{word, onto}
 use Rattle.plant.specs.Box.{hull, boxAt}
-use Rattle.tables.proofs.Faces.{widen-start, widen-turn, widen-end}
+use Rattle.tables.proofs.Faces.{min-small, max-small, widen-start, widen-turn, widen-end}
 use Rattle.tables.proofs.widen.Statement.{statement}
 use Rattle.tables.proofs.widen.Tie as tie
 
@@ -50,15 +50,6 @@ shared-slice-copy-out-smaller c = omega arith
 
 cast-smaller-2 : tie.Need-cast-smaller-2 Inv-loop μ-loop
 cast-smaller-2 c = simp (got32, c .smaller-arg2 .given) (widened _ (c .smaller-arg2 .given))
-
--- the smaller and the larger of two words are words
-min-small : (x y : ℤ) → mag x < 2147483648 → mag y < 2147483648 → mag (minZ x y) < 2147483648
-unfolding minZ
-min-small x y p q = cond-case (ltZ x y) x y (λ z. mag z < 2147483648) (λ _. p) (λ _. q)
-
-max-small : (x y : ℤ) → mag x < 2147483648 → mag y < 2147483648 → mag (maxZ x y) < 2147483648
-unfolding maxZ
-max-small x y p q = cond-case (ltZ x y) y x (λ z. mag z < 2147483648) (λ _. q) (λ _. p)
 
 smaller-requires : tie.Need-smaller-requires Inv-loop μ-loop
 smaller-requires c κs = tt

@@ -1,4 +1,4 @@
--- At most 768 fields of at most 151 bytes each.
+-- At most 1,536 fields of at most 151 bytes each.
 use mathlib.Core.Path.{_≡_, ap}
 use Prim.Native.Nat.{ℕ, _+_, _*_, _≤_}
 use native.Mathlib.Omega.{arith}
@@ -8,8 +8,8 @@ use Rattle.wire.proofs.Fields.{place-small}
 use Rattle.wire.proofs.field_place.Statement.{statement}
 use Rattle.wire.proofs.field_place.Tie as tie
 
-small : (c : tie.After-field-length) → c .before .args .i * c .field-length .result ≤ 768 * fieldLength 37
-small c = rw (c .field-length .ensures) (place-small (c .before .args .w) (c .before .args .i) 37 768 (omega arith) (omega arith))
+small : (c : tie.After-field-length) → c .before .args .i * c .field-length .result ≤ 1536 * fieldLength 37
+small c = rw (c .field-length .ensures) (place-small (c .before .args .w) (c .before .args .i) 37 1536 (omega arith) (omega arith))
 
 field-length-requires : tie.Need-field-length-requires
 field-length-requires c κs = search needs

@@ -26,7 +26,12 @@ fn listed(tally: &Tally) -> String {
 
 fn print_counts(counts: &Counts) {
     println!("fixed cases compared: {}", counts.fixed);
-    println!("random models compared: {} (by n: {:?})", counts.models, &counts.by_n[1..]);
+    println!(
+        "random models compared: {} (by n: {:?}; with cuts: {:?})",
+        counts.models,
+        &counts.by_n[1..],
+        &counts.cut_by_n[1..]
+    );
     println!("  with {}", listed(&counts.model_kinds));
     println!("  under limits {}", listed(&counts.limits));
     println!("  most passes of an answer: {}", counts.most_passes);

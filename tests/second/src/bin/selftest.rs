@@ -21,6 +21,7 @@ use second::analysis::Answer;
 use second::calls::{self, Buffers};
 use second::ceiling;
 use second::checker::ask_table;
+use second::damage::*;
 use second::desk::Desk;
 use second::files::{model_file, table_file};
 use second::generate::*;
@@ -76,7 +77,7 @@ fn read_model(random: &mut Random, counts: &mut Counts, file: &[u8], length: usi
             assert!(Plant::from_words(&words).is_ok());
             Some(words)
         }
-        Err(6..=8 | 11..=19) => {
+        Err(6..=8 | 11..=19 | 46) => {
             assert!(after.iter().all(|&w| w == 0));
             None
         }
@@ -97,12 +98,12 @@ fn read_table(random: &mut Random, counts: &mut Counts, model: &[i32], file: &[u
         Ok(count) => {
             assert_eq!(after[count..], before[count..]);
             let plant = Plant::from_words(model).unwrap();
-            assert_eq!(count, plant.sizes.table_words());
+            assert_eq!(count, plant.table_words());
             assert_eq!(table_file(&plant, &after[..count]), file, "a file that reads is what writing gives");
         }
         Err(32 | 35..=38) => assert!(after.iter().all(|&w| w == 0)),
         Err(number) => {
-            assert!((2..=5).contains(&number) || (11..=20).contains(&number));
+            assert!(matches!(number, 2..=5 | 11..=20 | 46));
             assert_eq!(after, before);
         }
     }
@@ -112,7 +113,7 @@ fn one_model(random: &mut Random, counts: &mut Counts) {
     let words = random_model(random).words();
     let plant = Plant::from_words(&words).expect("a random model passes its questions");
     let sizes = plant.sizes;
-    let size = sizes.table_words();
+    let size = plant.table_words();
     counts.by_n[sizes.n] += 1;
 
     // Its file.
@@ -171,7 +172,7 @@ fn one_model(random: &mut Random, counts: &mut Counts) {
     let written = table_file(&plant, table);
     assert_eq!(calls::check(&file, &written), accepted.err().map_or(100, u64::from));
     assert_eq!(host::check_quick(&file, &written), accepted.err().map_or(100, u64::from));
-    let room = sizes.table_file_room();
+    let room = plant.table_file_room();
     let before: Vec<u8> = (0..room + spare).map(|_| random.next() as u8).collect();
     let (number, bytes) = calls::decide(&file, before.clone(), limit);
     assert_eq!(number, (answer.code() as u64) << 32 | k as u64);
@@ -189,7 +190,7 @@ fn one_model(random: &mut Random, counts: &mut Counts) {
 
     // Other tables.
     let mut rest = vec![0; size];
-    let at_rest = close(&plant, &mut rest, pass_budget(&sizes));
+    let at_rest = close(&plant, &mut rest, pass_budget(&plant));
     let mut other = random_table(random, &plant);
     close(&plant, &mut other, 40);
     if answer == Answer::Unknown {
@@ -216,7 +217,6 @@ fn one_model(random: &mut Random, counts: &mut Counts) {
 
 /// Damaged files, words and tables in every call.
 fn damaged_inputs(random: &mut Random, counts: &mut Counts, plant: &Plant, file: &[u8], table: &[i32], rest: &[i32]) {
-    let sizes = plant.sizes;
     let words = plant.words();
     for _ in 0..4 {
         let mut bytes = if random.chance(2, 3) { edited_model_file(random, plant) } else { file.to_vec() };
@@ -247,7 +247,7 @@ fn damaged_inputs(random: &mut Random, counts: &mut Counts, plant: &Plant, file:
         let outcome = calls::ceiling(&list);
         note(&mut counts.seen, "ceiling", &outcome);
         let model_number = outcome.err();
-        let size = sizes.table_words();
+        let size = plant.table_words();
         let short = |random: &mut Random| if random.chance(1, 6) { random.below(size) } else { size };
         let (table_length, work_length) = (short(random), short(random));
         let lent = Buffers { table: random_words(random, table_length), work: random_words(random, work_length) };
@@ -271,7 +271,7 @@ fn damaged_inputs(random: &mut Random, counts: &mut Counts, plant: &Plant, file:
         if model_number.is_some() {
             assert_eq!(outcome.err(), model_number);
         }
-        let room = sizes.table_file_room();
+        let room = plant.table_file_room();
         let length = if random.chance(1, 6) { random.below(room) } else { room };
         let before = vec![0xC3; length];
         let (outcome, after) = calls::write_table(&list, &damaged, before.clone());
@@ -280,7 +280,7 @@ fn damaged_inputs(random: &mut Random, counts: &mut Counts, plant: &Plant, file:
             Err(_) => assert_eq!(after, before),
             Ok(count) => {
                 // What was written reads back as the same table.
-                let size = Plant::from_words(&list).unwrap().sizes.table_words();
+                let size = Plant::from_words(&list).unwrap().table_words();
                 let (outcome, read) = calls::read_table(&list, &after[..count], vec![9; size]);
                 assert_eq!(outcome, Ok(size));
                 assert_eq!(read, damaged[..size]);
@@ -344,7 +344,7 @@ fn desk_list(random: &mut Random, counts: &mut Counts, words: &[i32], size: usiz
 
 /// The numbers that each call can give, 0 for an answer.
 fn possible(call: &str) -> Vec<u32> {
-    let words: Vec<u32> = [0].into_iter().chain(2..=5).chain(11..=19).collect();
+    let words: Vec<u32> = [0].into_iter().chain(2..=5).chain(11..=19).chain([46]).collect();
     let more: &[u32] = match call {
         "read model" => &[1, 6, 7, 8],
         "ceiling" => &[],

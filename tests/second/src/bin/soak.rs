@@ -14,12 +14,10 @@ use std::fs::File;
 use std::io::Read;
 
 use second::compare::MOST_ROOM;
+use second::damage::{damage_bytes, damage_table, damaged_cuts, damaged_table_file, edited_model_file, edited_words};
 use second::exports::{Call, Input, Lent};
 use second::files::{model_file, table_file};
-use second::generate::{
-    close, damage_bytes, damage_table, damaged_table_file, edited_model_file, edited_words, pass_budget, random_limit,
-    random_model, random_table,
-};
+use second::generate::{close, pass_budget, random_limit, random_model, random_table};
 use second::host_ffi;
 use second::lending::Lengths;
 use second::model::Plant;
@@ -36,8 +34,8 @@ const LOOKS: u64 = 100;
 /// What the buffers hold before each call.
 const OLD: u8 = 0xC3;
 const OLD_WORD: i32 = 0x3C3C_3C3C;
-/// Words of the largest model and the largest table.
-const MOST_WORDS: usize = 9_984;
+/// Words of the largest table, which has more than the largest model.
+const MOST_WORDS: usize = 19_968;
 
 /// One call with its input.
 enum Asked {
@@ -73,13 +71,17 @@ fn inputs_of_a_model(random: &mut Random, pool: &mut Vec<Asked>) {
     let words = random_model(random).words();
     let plant = Plant::from_words(&words).expect("a random model passes its questions");
     let model = model_file(&words);
-    let length = plant.sizes.table_file_room();
-    let size = plant.sizes.table_words();
+    let length = plant.table_file_room();
+    let size = plant.table_words();
     let limit = random_limit(random, &plant).min(MOST_PASSES);
     let mut table = if random.chance(1, 2) { vec![0; size] } else { random_table(random, &plant) };
-    close(&plant, &mut table, pass_budget(&plant.sizes));
+    close(&plant, &mut table, pass_budget(&plant));
     let mut broken = model.clone();
-    damage_bytes(random, &mut broken);
+    if random.chance(1, 4) {
+        broken = damaged_cuts(random, &plant).0;
+    } else {
+        damage_bytes(random, &mut broken);
+    }
     let short = random.below(length);
     let file = table_file(&plant, &table);
     pool.push(Asked::Check { model: model.clone(), table: file.clone() });

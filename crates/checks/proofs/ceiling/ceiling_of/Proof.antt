@@ -1,18 +1,18 @@
 -- The sum over the locations passed.
 use mathlib.Core.Path.{_≡_, sym, _∙_}
-use Prim.Native.Nat.{_-_, _≤_}
+use Prim.Native.Nat.{_*_, _-_, _≤_}
 use Rattle.integers.specs.Counted.{sumBelow}
 use Rattle.plant.specs.Model.{L#}
 use Rattle.checks.proofs.Loops.{sum-none, sum-more}
-use Rattle.checks.proofs.Widths.{locationCeiling, location-small, locations-small, ceiling-is}
+use Rattle.checks.proofs.Counts.{locationCeiling, ceiling-is}
 use native.Mathlib.Omega.{arith}
-use Rattle.plant.proofs.Passed.{Passed, passed}
+use Rattle.plant.proofs.Passed.{passed}
 use Rattle.passes.proofs.PartWords.{whole}
 use Rattle.checks.proofs.ceiling.ceiling_of.Statement.{statement}
 use Rattle.checks.proofs.ceiling.ceiling_of.Tie as tie
 
 abbrev Inv-loop : tie.InvT-loop
-Inv-loop model locations sum₀ l₀ sum l = (l ≤ L# model) × (sum ≡ sumBelow l (locationCeiling model))
+Inv-loop model locations sum₀ l₀ sum l = (l ≤ L# model) × (sum ≡ sumBelow l (locationCeiling model)) × (sum ≤ l * 288000024)
 
 abbrev μ-loop : tie.MeasureT-loop
 μ-loop model locations sum₀ l₀ sum l = L# model - l
@@ -21,17 +21,15 @@ locations-requires : tie.Need-locations-requires Inv-loop μ-loop
 locations-requires c κs = whole (c .args .model .now) (c .pre) .head
 
 loop-holds : tie.Need-loop-holds Inv-loop μ-loop
-loop-holds c = (omega arith, sym (sum-none (locationCeiling (c .before .args .model .now))))
+loop-holds c = (omega arith, sym (sum-none (locationCeiling (c .before .args .model .now))), omega arith)
 
 location-ceiling-requires : tie.Need-location-ceiling-requires Inv-loop μ-loop
 location-ceiling-requires c κs = (c .before .before .before .pre, omega (arith, c .before .before .locations .ensures))
 
 add-sum : tie.Need-add-sum Inv-loop μ-loop
 add-sum c =
-    let m = c .before .before .before .before .args .model .now in
-    let ok : Passed m = passed m (c .before .before .before .before .pre) in
-    let l = c .before .before .loop .l in
-    record { fits = omega (arith, c .location-ceiling .ensures, location-small m ok l (omega (arith, c .before .before .before .locations .ensures)), locations-small m ok l (omega arith), ok .L-small) }
+    let s = c .before .before .before .before in
+    record { fits = omega (arith, c .before .before .loop .inv .2, c .location-ceiling .ensures .1, c .before .before .before .locations .ensures, passed (s .args .model .now) (s .pre) .L-small) }
 
 add-l : tie.Need-add-l Inv-loop μ-loop
 add-l c = omega arith
@@ -40,7 +38,9 @@ loop-less : tie.Need-loop-less Inv-loop μ-loop
 loop-less c = omega (arith, c .before .before .before .locations .ensures)
 
 loop-again : tie.Need-loop-again Inv-loop μ-loop
-loop-again c = (omega (arith, c .before .before .before .locations .ensures), omega (arith, c .location-ceiling .ensures, sum-more (locationCeiling (c .before .before .before .before .args .model .now)) (c .before .before .loop .l)))
+loop-again c =
+    let i = c .before .before .loop in
+    (omega (arith, c .before .before .before .locations .ensures), omega (arith, i .inv .1, c .location-ceiling .ensures .0, sum-more (locationCeiling (c .before .before .before .before .args .model .now)) (i .l)), omega (arith, i .inv .2, c .location-ceiling .ensures .1))
 
 returns : tie.Need-returns Inv-loop μ-loop
 returns c =

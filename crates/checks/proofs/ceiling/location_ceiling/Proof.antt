@@ -1,75 +1,119 @@
--- The sum over the faces passed.
+-- The sum over the pieces passed.
 use mathlib.Core.Path.{_≡_, sym}
-use Prim.Native.Nat.{_*_, _-_, _≤_}
-use Rattle.integers.specs.Counted.{sumBelow}
-use Rattle.plant.specs.Model.{n#, invariant}
-use Rattle.checks.proofs.Loops.{sum-none, sum-more}
-use Rattle.checks.proofs.Widths.{faceCeiling, face-small, faces-small, width-is}
+use mathlib.Core.List.{List}
+use Prim.Native.Nat.{_*_, _-_, _<_, _≤_}
 use native.Mathlib.Omega.{arith}
+use lib.IntN.{ℤ}
+use Rattle.integers.specs.Counted.{sumBelow}
+use Rattle.integers.proofs.Signed.{got32}
+use Rattle.plant.specs.Pieces.{pieces}
 use Rattle.plant.proofs.Passed.{Passed, passed}
-use Rattle.passes.proofs.PartWords.{whole, invariant-in}
-use Rattle.checks.proofs.Ranges.{levels-are}
+use Rattle.plant.proofs.Tables.{pieces-most}
+use Rattle.passes.proofs.PartWords.{whole}
+use Rattle.checks.proofs.Loops.{sum-none, sum-more}
+use Rattle.checks.proofs.Extents.{LocationRead, count-is, location-ready}
+use Rattle.checks.proofs.Counts.{pieceCeiling, piece-adds}
 use Rattle.checks.proofs.ceiling.location_ceiling.Statement.{statement}
 use Rattle.checks.proofs.ceiling.location_ceiling.Tie as tie
 
 abbrev Inv-loop : tie.InvT-loop
-Inv-loop model l n inv faces sum₀ f₀ sum f = (f ≤ 2 * n# model) × (sum ≡ sumBelow f (faceCeiling model l))
+Inv-loop model l n inv c variable value count sum₀ q₀ sum q = (q ≤ pieces model l) × (sum ≡ sumBelow q (pieceCeiling model l)) × (sum ≤ q * 12000001)
 
 abbrev μ-loop : tie.MeasureT-loop
-μ-loop model l n inv faces sum₀ f₀ sum f = 2 * n# model - f
+μ-loop model l n inv c variable value count sum₀ q₀ sum q = count - q
+
+-- ---- after the location was read, and at a piece
+
+abbrev Read : Type 0
+Read = tie.After-cut-value Inv-loop μ-loop
+
+abbrev Piece : Type 0
+Piece = tie.In-loop Inv-loop μ-loop
+
+module _ (c : Read) where
+  abbrev start : tie.Start Inv-loop μ-loop
+  start = c .before .before .before .before .before
+
+  abbrev model : List ℤ
+  model = start .args .model .now
+
+  model-ok : Passed model
+  model-ok = passed model (start .pre .0)
+
+  few : pieces model (start .args .l) ≤ 24
+  few = pieces-most model (start .args .l) (model-ok .n-small)
+
+  read : LocationRead model (start .args .l) (c .before .before .before .before .variables .result) (c .before .before .before .invariant .result .now) (c .before .before .per-face .result) (c .before .cut-variable .result) (c .cut-value .result)
+  read = record {
+    n-is = c .before .before .before .before .variables .ensures;
+    inv-is = c .before .before .before .invariant .ensures;
+    c-is = c .before .before .per-face .ensures;
+    variable-is = c .before .cut-variable .ensures;
+    value-is = c .cut-value .ensures;
+  }
+
+is-piece : (c : Piece) → c .before .loop .q < pieces (model (c .before .before)) (start (c .before .before) .args .l)
+is-piece c = omega (arith, c .loop-test .taken, count-is (read (c .before .before)))
+
+-- what it adds
+adds : (c : tie.After-piece-count Inv-loop μ-loop) → let r = c .before .before .before in c .piece-count .result ≡ pieceCeiling (model r) (start r .args .l) (c .before .before .loop .q)
+adds c =
+    let r = c .before .before .before in
+    let v = r .before .cut-variable in
+    let x = r .cut-value in
+    piece-adds (model r) (start r .args .l) _ (read r) (simp (got32 (v .result) (v .ok), got32 (x .result) (x .ok)) at (c .piece-count .ensures .0))
 
 variables-requires : tie.Need-variables-requires Inv-loop μ-loop
 variables-requires c κs = whole (c .args .model .now) (c .pre .0) .head
 
 invariant-requires : tie.Need-invariant-requires Inv-loop μ-loop
-invariant-requires c κs = (whole (c .before .args .model .now) (c .before .pre .0), c .before .pre .1)
+invariant-requires c κs = let s = c .before in (whole (s .args .model .now) (s .pre .0), s .pre .1)
 
-mul-faces : tie.Need-mul-faces Inv-loop μ-loop
-mul-faces c = let s = c .before .before in record { fits = omega (arith, c .before .variables .ensures, passed (s .args .model .now) (s .pre .0) .n-small) }
+per-face-requires : tie.Need-per-face-requires Inv-loop μ-loop
+per-face-requires c κs = let s = c .before .before in (whole (s .args .model .now) (s .pre .0), s .pre .1)
+
+cut-variable-requires : tie.Need-cut-variable-requires Inv-loop μ-loop
+cut-variable-requires c κs = let s = c .before .before .before in (whole (s .args .model .now) (s .pre .0), s .pre .1)
+
+cut-value-requires : tie.Need-cut-value-requires Inv-loop μ-loop
+cut-value-requires c κs = let s = c .before .before .before .before in (whole (s .args .model .now) (s .pre .0), s .pre .1)
+
+mul-count : tie.Need-mul-count Inv-loop μ-loop
+mul-count c = record { fits = omega (arith, read c .n-is, model-ok c .n-small) }
+
+mul-count-2 : tie.Need-mul-count-2 Inv-loop μ-loop
+mul-count-2 c = record { fits = omega (arith, count-is (read c), few c) }
 
 loop-holds : tie.Need-loop-holds Inv-loop μ-loop
-loop-holds c = (omega arith, sym (sum-none (faceCeiling (c .before .before .args .model .now) (c .before .before .args .l))))
+loop-holds c = (omega arith, sym (sum-none (pieceCeiling (model c) (start c .args .l))), omega arith)
 
-widths-requires : tie.Need-widths-requires Inv-loop μ-loop
-widths-requires c κs =
-    let s = c .before .before .before .before in
-    let n = c .before .before .before .variables in
-    let ok : Passed (s .args .model .now) = passed (s .args .model .now) (s .pre .0) in
-    (omega (arith, n .ensures, ok .n-small), levels-are (n .result) (n# (s .args .model .now)) _ (invariant (s .args .model .now) (s .args .l)) (n .ensures) (c .before .before .invariant .ensures) (invariant-in (s .args .model .now) ok (s .args .l) (s .pre .1)))
+piece-count-requires : tie.Need-piece-count-requires Inv-loop μ-loop
+piece-count-requires c κs =
+    let r = c .before .before in
+    let v = r .before .cut-variable in
+    let x = r .cut-value in
+    (simp (got32 (v .result) (v .ok), got32 (x .result) (x .ok)) (location-ready (model r) (model-ok r) (start r .args .l) (start r .pre .1) (read r)), c .loop-test .taken)
 
 add-sum : tie.Need-add-sum Inv-loop μ-loop
-add-sum c =
-    let s = c .before .before .before .before .before in
-    let m = s .args .model .now in
-    let ok : Passed m = passed m (s .pre .0) in
-    let k = c .before .before .loop .f in
-    record { fits = omega (arith, width-is m (s .args .l) k _ _ _ (c .widths .ensures) (c .before .before .before .before .variables .ensures) (c .before .before .before .invariant .ensures), face-small m ok (s .args .l) k (s .pre .1)) }
+add-sum c = let r = c .before .before .before in record { fits = omega (arith, c .before .before .loop .inv .2, c .piece-count .ensures .1, is-piece (c .before), few r) }
 
-add-sum-2 : tie.Need-add-sum-2 Inv-loop μ-loop
-add-sum-2 c =
-    let s = c .before .before .before .before .before in
-    let m = s .args .model .now in
-    let ok : Passed m = passed m (s .pre .0) in
-    let k = c .before .before .loop .f in
-    record { fits = omega (arith, width-is m (s .args .l) k _ _ _ (c .widths .ensures) (c .before .before .before .before .variables .ensures) (c .before .before .before .invariant .ensures), face-small m ok (s .args .l) k (s .pre .1), faces-small m ok (s .args .l) k (s .pre .1), ok .n-small) }
-
-add-f : tie.Need-add-f Inv-loop μ-loop
-add-f c = let s = c .before .before .before .before .before in record { fits = omega (arith, c .before .before .before .before .variables .ensures, passed (s .args .model .now) (s .pre .0) .n-small) }
+add-q : tie.Need-add-q Inv-loop μ-loop
+add-q c = let r = c .before .before .before in record { fits = omega (arith, is-piece (c .before), few r) }
 
 loop-less : tie.Need-loop-less Inv-loop μ-loop
-loop-less c = omega (arith, c .before .before .before .before .variables .ensures)
+loop-less c = omega (arith, c .before .loop-test .taken)
 
 loop-again : tie.Need-loop-again Inv-loop μ-loop
 loop-again c =
-    let a = c .before .before .before .before .before .args in
-    let m = a .model .now in
-    let k = c .before .before .loop .f in
-    (omega (arith, c .before .before .before .before .variables .ensures), omega (arith, width-is m (a .l) k _ _ _ (c .widths .ensures) (c .before .before .before .before .variables .ensures) (c .before .before .before .invariant .ensures), sum-more (faceCeiling m (a .l)) k))
+    let r = c .before .before .before in
+    let q = c .before .before .loop in
+    (omega (arith, is-piece (c .before)), omega (arith, q .inv .1, adds c, sum-more (pieceCeiling (model r) (start r .args .l)) (q .q)), omega (arith, q .inv .2, c .piece-count .ensures .1))
 
 returns : tie.Need-returns Inv-loop μ-loop
 returns c =
-    let e : c .before .loop .f ≡ 2 * n# (c .before .before .before .before .args .model .now) = omega (arith, c .before .before .before .variables .ensures) in
-    rw e at (c .before .loop .inv .1)
+    let r = c .before .before in
+    let e : c .before .loop .q ≡ pieces (model r) (start r .args .l) = omega (arith, c .loop-test .left, count-is (read r)) in
+    (rw e at (c .before .loop .inv .1), omega (arith, c .before .loop .inv .2, e, few r))
 
 pub location-ceiling-spec : {M : Type 1} → statement M
 location-ceiling-spec =
@@ -79,12 +123,15 @@ location-ceiling-spec =
     μ-loop
     variables-requires
     invariant-requires
-    mul-faces
+    per-face-requires
+    cut-variable-requires
+    cut-value-requires
+    mul-count
+    mul-count-2
     loop-holds
-    widths-requires
+    piece-count-requires
     add-sum
-    add-sum-2
-    add-f
+    add-q
     loop-less
     loop-again
     returns)

@@ -8,10 +8,10 @@ use Rattle.checks.proofs.ceiling.widths.Statement.{statement}
 use Rattle.checks.proofs.ceiling.widths.Tie as tie
 
 abbrev Inv-loop : tie.InvT-loop
-Inv-loop n d inv sum₀ i₀ sum i = (i ≤ n) × (sum ≡ T.widths i d inv)
+Inv-loop n d range sum₀ i₀ sum i = (i ≤ n) × (sum ≡ T.widths i d range)
 
 abbrev μ-loop : tie.MeasureT-loop
-μ-loop n d inv sum₀ i₀ sum i = n - i
+μ-loop n d range sum₀ i₀ sum i = n - i
 
 loop-holds : tie.Need-loop-holds Inv-loop μ-loop
 loop-holds c = (omega arith, sym (widths-none _ _))
@@ -23,7 +23,7 @@ add-sum : tie.Need-add-sum Inv-loop μ-loop
 add-sum c =
     let s = c .before .before .before in
     let i = c .before .before .loop .i in
-    record { fits = omega (arith, widths-small (s .args .d) (s .args .inv .now) i (λ j l. s .pre .1 j (omega arith)), width-small (s .args .d) (s .args .inv .now) i (s .pre .1 i (omega arith))) }
+    record { fits = omega (arith, widths-small (s .args .d) (s .args .range .now) i (λ j l. s .pre .1 j (omega arith)), width-small (s .args .d) (s .args .range .now) i (s .pre .1 i (omega arith))) }
 
 add-i : tie.Need-add-i Inv-loop μ-loop
 add-i c = omega arith
@@ -35,7 +35,7 @@ loop-again : tie.Need-loop-again Inv-loop μ-loop
 loop-again c =
     let s = c .before .before .before in
     let i = c .before .before .loop .i in
-    (omega arith, omega (arith, widths-more (s .args .d) (s .args .inv .now) i))
+    (omega arith, omega (arith, widths-more (s .args .d) (s .args .range .now) i))
 
 returns : tie.Need-returns Inv-loop μ-loop
 returns c =

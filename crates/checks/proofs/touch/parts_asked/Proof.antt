@@ -5,8 +5,8 @@ use borrow.Author.Needs.{needs}
 use Rattle.checks.proofs.touch.parts_asked.Statement.{statement}
 use Rattle.checks.proofs.touch.parts_asked.Tie as tie
 
-mul-result : tie.Need-mul-result
-mul-result c = search needs
+sub-result : tie.Need-sub-result
+sub-result c = search needs
 
 add-result : tie.Need-add-result
 add-result c = search needs
@@ -18,4 +18,4 @@ returns-2 : tie.Need-returns-2
 returns-2 c = rw (ne-eqb (c .before .args .last) 0 (c .if1 .left)) refl
 
 pub parts-asked-spec : {M : Type 1} → statement M
-parts-asked-spec = tie.close (tie.spec mul-result add-result returns returns-2)
+parts-asked-spec = tie.close (tie.spec sub-result add-result returns returns-2)

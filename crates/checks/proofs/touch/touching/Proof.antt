@@ -2,14 +2,18 @@
 use mathlib.Core.Path.{_≡_, refl, sym, ap, _∙_, subst}
 use mathlib.Core.Bool.{false}
 use mathlib.Core.List.{List}
-use Prim.Native.Nat.{ℕ, suc, _*_, _-_, _≤_, _<_}
+use Prim.Native.Nat.{ℕ, suc, _+_, _-_, _≤_, _<_}
 use native.Mathlib.Omega.{arith}
 use lib.IntN.{ℤ}
-use lib.ListN.{getD}
+use lib.ListN.{length, getD}
 use Rattle.plant.specs.Box.{boxAt}
 use Rattle.plant.specs.Model.{n#, L#, B#, forbiddenLocation}
-use Rattle.plant.specs.Tables.{partOf, partTouches}
-use Rattle.plant.proofs.Passed.{Passed, passed}
+use Rattle.plant.specs.Pieces.{pieces}
+use Rattle.plant.specs.Tables.{piecesBefore, partOf, partTouches}
+use Rattle.plant.proofs.PieceCases.{before-more}
+use Rattle.plant.proofs.Tables.{pieces-most}
+use Rattle.tables.proofs.Sizes.{before-most}
+use Rattle.plant.proofs.Passed.{Passed}
 use Rattle.passes.specs.Checked.{Checked}
 use Rattle.passes.proofs.PartWords.{whole}
 use Rattle.passes.proofs.Reading.{model-passed}
@@ -21,36 +25,39 @@ use Rattle.checks.proofs.touch.touching.Statement.{statement}
 use Rattle.checks.proofs.touch.touching.Tie as tie
 
 abbrev Inv-boxes : tie.InvT-boxes
-Inv-boxes model table locations n last before found₀ l inv rate at parts p bounds b₀ found b = BoxesLeft model table l p bounds b × (found ≡ false)
+Inv-boxes model places table locations n last before found₀ l inv rate earlier parts p bounds b₀ found b = BoxesLeft model table l p bounds b × (found ≡ false)
 
 abbrev μ-boxes : tie.MeasureT-boxes
-μ-boxes model table locations n last before found₀ l inv rate at parts p bounds b₀ found b = b
+μ-boxes model places table locations n last before found₀ l inv rate earlier parts p bounds b₀ found b = b
 
 abbrev Inv-parts : tie.InvT-parts
-Inv-parts model table locations n last before found₀ l inv rate at parts p₀ found p = (p ≤ parts) × (partsTouch model table l p ≡ false) × (found ≡ false)
+Inv-parts model places table locations n last before found₀ l inv rate earlier parts p₀ found p = (p ≤ parts) × (partsTouch model table l p ≡ false) × (found ≡ false)
 
 abbrev μ-parts : tie.MeasureT-parts
-μ-parts model table locations n last before found₀ l inv rate at parts p₀ found p = parts - p
+μ-parts model places table locations n last before found₀ l inv rate earlier parts p₀ found p = parts - p
 
 abbrev Inv-search : tie.InvT-search
-Inv-search model table locations n last before found₀ l₀ found l = (l ≤ L# model) × (locationsTouch model table l ≡ false) × (found ≡ false)
+Inv-search model places table locations n last before found₀ l₀ found l = (l ≤ L# model) × (locationsTouch model table l ≡ false) × (found ≡ false)
 
 abbrev μ-search : tie.MeasureT-search
-μ-search model table locations n last before found₀ l₀ found l = L# model - l
+μ-search model places table locations n last before found₀ l₀ found l = L# model - l
 
 -- ---- the places around a place: the turn of the parts, the turn of the search, the beginning
 
 abbrev part-turn : tie.At-boxes Inv-boxes μ-boxes Inv-parts μ-parts Inv-search μ-search → tie.In-parts Inv-boxes μ-boxes Inv-parts μ-parts Inv-search μ-search
 part-turn c = c .before .before .before .before
 
+abbrev in-location : tie.After-parts-asked Inv-boxes μ-boxes Inv-parts μ-parts Inv-search μ-search → tie.In-search Inv-boxes μ-boxes Inv-parts μ-parts Inv-search μ-search
+in-location c = c .before .before .before .before .before
+
 abbrev location-turn : tie.At-parts Inv-boxes μ-boxes Inv-parts μ-parts Inv-search μ-search → tie.In-search Inv-boxes μ-boxes Inv-parts μ-parts Inv-search μ-search
-location-turn c = c .before .before .before .before .before
+location-turn c = in-location (c .before)
 
 abbrev search-of : tie.At-boxes Inv-boxes μ-boxes Inv-parts μ-parts Inv-search μ-search → tie.At-search Inv-boxes μ-boxes Inv-parts μ-parts Inv-search μ-search
 search-of c = location-turn (part-turn c .before) .before
 
 abbrev start : tie.At-search Inv-boxes μ-boxes Inv-parts μ-parts Inv-search μ-search → tie.Start Inv-boxes μ-boxes Inv-parts μ-parts Inv-search μ-search
-start c = c .before .before .before .before .before .before
+start c = c .before .before .before .before .before .before .before
 
 -- ---- what is known there
 
@@ -62,7 +69,7 @@ module _ (c : tie.At-search Inv-boxes μ-boxes Inv-parts μ-parts Inv-search μ-
   table = start c .args .table .now
 
   ok : Checked model table
-  ok = record { ready = start c .pre .0; valid = start c .pre .1 }
+  ok = record { ready = start c .pre .0; valid = start c .pre .2 }
 
   model-ok : Passed model
   model-ok = model-passed model table ok
@@ -76,18 +83,28 @@ is-location c = omega (arith, c .before .before .before .before .before .before 
 location-small : (c : tie.In-search Inv-boxes μ-boxes Inv-parts μ-parts Inv-search μ-search) → c .before .search .l < 64
 location-small c = omega (arith, is-location c, model-ok (c .before) .L-small)
 
+-- how many pieces stand before it, and before the next
+earlier-is : (c : tie.In-search Inv-boxes μ-boxes Inv-parts μ-parts Inv-search μ-search) → getD (start (c .before) .args .places .now) (c .before .search .l) 0 ≡ piecesBefore (model (c .before)) (c .before .search .l)
+earlier-is c = start (c .before) .pre .1 .each (c .before .search .l) (omega (arith, is-location c))
+
+next-is : (c : tie.In-search Inv-boxes μ-boxes Inv-parts μ-parts Inv-search μ-search) → getD (start (c .before) .args .places .now) (c .before .search .l + 1) 0 ≡ piecesBefore (model (c .before)) (c .before .search .l + 1)
+next-is c = start (c .before) .pre .1 .each (c .before .search .l + 1) (omega (arith, is-location c))
+
+place-there : (c : tie.In-search Inv-boxes μ-boxes Inv-parts μ-parts Inv-search μ-search) → c .before .search .l + 1 < length (start (c .before) .args .places .now)
+place-there c = omega (arith, location-small c, start (c .before) .pre .1 .long)
+
 -- the last box of the location
 last-of : (c : tie.In-search Inv-boxes μ-boxes Inv-parts μ-parts Inv-search μ-search) → getD (c .before .before .link .last .1 .0) (c .before .search .l) 0 ≡ lastBox (model (c .before)) (c .before .search .l) (B# (model (c .before)))
 last-of c = c .before .before .link .ensures .last-is (c .before .search .l) (location-small c)
 
 -- the parts that are asked
-few : (c : tie.After-parts-asked Inv-boxes μ-boxes Inv-parts μ-parts Inv-search μ-search) → c .parts-asked .result ≤ suc (2 * n# (model (c .before .before .before .before .before)))
-few c = let i = c .before .before .before .before in parts-few (model (i .before)) (table (i .before)) (i .before .search .l) (n-is (i .before)) (last-of i) (c .parts-asked .ensures)
+few : (c : tie.After-parts-asked Inv-boxes μ-boxes Inv-parts μ-parts Inv-search μ-search) → let i = in-location c .before in c .parts-asked .result ≤ suc (pieces (model i) (i .search .l))
+few c = let i = in-location c in parts-few (model (i .before)) (table (i .before)) (i .before .search .l) (earlier-is i) (next-is i) (last-of i) (c .parts-asked .ensures)
 
-all-parts : (c : tie.After-parts-asked Inv-boxes μ-boxes Inv-parts μ-parts Inv-search μ-search) → let i = c .before .before .before .before .before in (p : ℕ) → p ≤ c .parts-asked .result → c .parts-asked .result ≤ p → partsTouch (model i) (table i) (i .search .l) p ≡ false → partsTouch (model i) (table i) (i .search .l) (suc (2 * n# (model i))) ≡ false
-all-parts c = let i = c .before .before .before .before in all-asked (model (i .before)) (table (i .before)) (i .before .search .l) (n-is (i .before)) (last-of i) (c .parts-asked .ensures)
+all-parts : (c : tie.After-parts-asked Inv-boxes μ-boxes Inv-parts μ-parts Inv-search μ-search) → let i = in-location c .before in (p : ℕ) → p ≤ c .parts-asked .result → c .parts-asked .result ≤ p → partsTouch (model i) (table i) (i .search .l) p ≡ false → partsTouch (model i) (table i) (i .search .l) (suc (pieces (model i) (i .search .l))) ≡ false
+all-parts c = let i = in-location c in all-asked (model (i .before)) (table (i .before)) (i .before .search .l) (earlier-is i) (next-is i) (last-of i) (c .parts-asked .ensures)
 
-is-part : (c : tie.In-parts Inv-boxes μ-boxes Inv-parts μ-parts Inv-search μ-search) → c .before .parts .p ≤ 2 * n# (model (location-turn (c .before) .before))
+is-part : (c : tie.In-parts Inv-boxes μ-boxes Inv-parts μ-parts Inv-search μ-search) → let i = location-turn (c .before) .before in c .before .parts .p ≤ pieces (model i) (i .search .l)
 is-part c = omega (arith, c .parts-test .taken, few (c .before .before))
 
 -- the box of the part
@@ -103,11 +120,11 @@ box-small c = omega (arith, is-box c, model-ok (search-of (c .before)) .B-small)
 box-before : (c : tie.In-boxes Inv-boxes μ-boxes Inv-parts μ-parts Inv-search μ-search) → let i = search-of (c .before) in let b = c .before .boxes .b - 1 in getD (i .before .link .last .1 .1 .0) b 0 ≡ lastBox (model i) (forbiddenLocation (model i) b) b
 box-before c = search-of (c .before) .before .link .ensures .before-is (c .before .boxes .b - 1) (is-box c)
 
-box-read : (c : tie.After-forbidden-box Inv-boxes μ-boxes Inv-parts μ-parts Inv-search μ-search) → let j = part-turn (c .before .before) .before in let i = search-of (c .before .before) in BoxRead (model i) (i .search .l) (c .before .before .boxes .b - 1) (i .before .before .before .before .variables .result) (j .before .before .before .before .invariant .result .now) (j .before .before .before .rate .result .now) (c .forbidden-box .result .now)
+box-read : (c : tie.After-forbidden-box Inv-boxes μ-boxes Inv-parts μ-parts Inv-search μ-search) → let j = part-turn (c .before .before) .before in let i = search-of (c .before .before) in BoxRead (model i) (i .search .l) (c .before .before .boxes .b - 1) (i .before .before .before .before .variables .result) (j .before .before .before .before .before .invariant .result .now) (j .before .before .before .before .rate .result .now) (c .forbidden-box .result .now)
 box-read c = record {
   n-is = n-is (search-of (c .before .before));
-  inv-is = part-turn (c .before .before) .before .before .before .before .before .invariant .ensures;
-  rate-is = part-turn (c .before .before) .before .before .before .before .rate .ensures;
+  inv-is = part-turn (c .before .before) .before .before .before .before .before .before .invariant .ensures;
+  rate-is = part-turn (c .before .before) .before .before .before .before .before .rate .ensures;
   box-is = c .forbidden-box .ensures;
   of-location = c .before .before .boxes .inv .0 .own (omega arith);
 }
@@ -120,14 +137,14 @@ touched c =
 
 locations-requires :
     tie.Need-locations-requires Inv-boxes μ-boxes Inv-parts μ-parts Inv-search μ-search
-locations-requires c κs = whole (c .args .model .now) (c .pre .0 .passes) .head
+locations-requires c κs = let s = c .before in whole (s .args .model .now) (s .pre .0 .passes) .head
 
 variables-requires :
     tie.Need-variables-requires Inv-boxes μ-boxes Inv-parts μ-parts Inv-search μ-search
-variables-requires c κs = whole (c .before .args .model .now) (c .before .pre .0 .passes) .head
+variables-requires c κs = let s = c .before .before in whole (s .args .model .now) (s .pre .0 .passes) .head
 
 link-requires : tie.Need-link-requires Inv-boxes μ-boxes Inv-parts μ-parts Inv-search μ-search
-link-requires c κs = let s = c .before .before .before .before in (s .pre .0 .passes, none-linked (s .args .model .now))
+link-requires c κs = let s = c .before .before .before .before .before in (s .pre .0 .passes, none-linked (s .args .model .now))
 
 search-holds : tie.Need-search-holds Inv-boxes μ-boxes Inv-parts μ-parts Inv-search μ-search
 search-holds c = (omega arith, no-location _ _, refl)
@@ -139,27 +156,45 @@ invariant-requires c κs = (whole _ (ok (c .before) .ready .passes), is-location
 rate-requires : tie.Need-rate-requires Inv-boxes μ-boxes Inv-parts μ-parts Inv-search μ-search
 rate-requires c κs = (whole _ (ok (c .before .before) .ready .passes), is-location (c .before))
 
-faces-at-requires :
-    tie.Need-faces-at-requires Inv-boxes μ-boxes Inv-parts μ-parts Inv-search μ-search
-faces-at-requires c κs = let i = c .before .before in let h = whole _ (ok (i .before) .ready .passes) .head in (h, omega (arith, location-small i))
+mul-earlier : tie.Need-mul-earlier Inv-boxes μ-boxes Inv-parts μ-parts Inv-search μ-search
+mul-earlier c = record { fits = omega (arith, location-small (c .before .before)) }
+
+shared-slice-read-earlier :
+    tie.Need-shared-slice-read-earlier Inv-boxes μ-boxes Inv-parts μ-parts Inv-search μ-search
+shared-slice-read-earlier c = omega (arith, place-there (c .before .before .before))
+
+add-parts-asked : tie.Need-add-parts-asked Inv-boxes μ-boxes Inv-parts μ-parts Inv-search μ-search
+add-parts-asked c = record { fits = omega (arith, location-small (c .before .before .before)) }
 
 mul-parts-asked : tie.Need-mul-parts-asked Inv-boxes μ-boxes Inv-parts μ-parts Inv-search μ-search
 mul-parts-asked c = record { fits = omega (arith, location-small (c .before .before .before)) }
 
+shared-slice-read-parts-asked :
+    tie.Need-shared-slice-read-parts-asked Inv-boxes μ-boxes Inv-parts μ-parts Inv-search μ-search
+shared-slice-read-parts-asked c = place-there (c .before .before .before .before)
+
+mul-parts-asked-2 :
+    tie.Need-mul-parts-asked-2 Inv-boxes μ-boxes Inv-parts μ-parts Inv-search μ-search
+mul-parts-asked-2 c = record { fits = omega (arith, location-small (c .before .before .before .before)) }
+
 array-read-parts-asked :
     tie.Need-array-read-parts-asked Inv-boxes μ-boxes Inv-parts μ-parts Inv-search μ-search
-array-read-parts-asked c = location-small (c .before .before .before)
+array-read-parts-asked c = location-small (c .before .before .before .before)
 
 parts-asked-requires :
     tie.Need-parts-asked-requires Inv-boxes μ-boxes Inv-parts μ-parts Inv-search μ-search
-parts-asked-requires c κs = let i = c .before .before .before .before in omega (arith, n-is i, model-ok i .n-small)
+parts-asked-requires c κs =
+    let i = c .before .before .before .before in
+    let m = model (i .before) in
+    let l = i .before .search .l in
+    (omega (arith, earlier-is i, next-is i, before-more m l), omega (arith, next-is i, before-most m (whole _ (ok (i .before) .ready .passes) .head) (l + 1) (omega (arith, is-location i))))
 
 parts-holds : tie.Need-parts-holds Inv-boxes μ-boxes Inv-parts μ-parts Inv-search μ-search
-parts-holds c = (omega arith, no-part _ _ _, c .before .before .before .before .before .search .inv .2)
+parts-holds c = (omega arith, no-part _ _ _, in-location c .before .search .inv .2)
 
 part-at-requires :
     tie.Need-part-at-requires Inv-boxes μ-boxes Inv-parts μ-parts Inv-search μ-search
-part-at-requires c κs = let i = location-turn (c .before) in (ok (i .before) .ready, is-location i, c .before .before .before .faces-at .ensures, is-part c)
+part-at-requires c κs = let i = location-turn (c .before) in (ok (i .before) .ready, is-location i, earlier-is i, is-part c)
 
 box-at-requires : tie.Need-box-at-requires Inv-boxes μ-boxes Inv-parts μ-parts Inv-search μ-search
 box-at-requires c κs = let i = location-turn (c .before .before) .before in omega (arith, n-is i, c .part-at .ensures .sized)
@@ -218,7 +253,7 @@ boxes-again c =
     (one-less (model i) (table i) (i .search .l) (part-turn (k .before) .before .parts .p) (k .before .boxes .inv .0) (omega arith) (sym (touched (c .before)) ∙ c .if1 .left) (box-before k), k .before .boxes .inv .1)
 
 add-p : tie.Need-add-p Inv-boxes μ-boxes Inv-parts μ-parts Inv-search μ-search
-add-p c = let j = part-turn (c .before) in record { fits = omega (arith, is-part j, model-ok (search-of (c .before)) .n-small) }
+add-p c = let j = part-turn (c .before) in let i = search-of (c .before) in record { fits = omega (arith, is-part j, pieces-most (model i) (i .search .l) (model-ok i .n-small)) }
 
 parts-less : tie.Need-parts-less Inv-boxes μ-boxes Inv-parts μ-parts Inv-search μ-search
 parts-less c = omega (arith, part-turn (c .before) .parts-test .taken)
@@ -269,8 +304,12 @@ touching-spec =
     search-holds
     invariant-requires
     rate-requires
-    faces-at-requires
+    mul-earlier
+    shared-slice-read-earlier
+    add-parts-asked
     mul-parts-asked
+    shared-slice-read-parts-asked
+    mul-parts-asked-2
     array-read-parts-asked
     parts-asked-requires
     parts-holds

@@ -1,15 +1,15 @@
--- What was read of switch e makes its step from the source's face.
+-- What was read of switch e makes its step from a piece of the source's face.
+use mathlib.Core.Path.{_≡_, ap, _∙_}
 use mathlib.Core.List.{List}
-use lib.IntN.{ℤ}
-use mathlib.Core.Path.{_≡_, refl, ap, _∙_}
 use native.Mathlib.Omega.{arith}
-use Prim.Native.Nat.{ℕ, _+_, _*_}
-use Rattle.plant.specs.Model.{n#, invariant, source, wallVariable, sourceSide}
-use Rattle.plant.specs.Tables.{faceAt, partOf, sourceFace}
-use Rattle.passes.specs.Parts.{IsPart}
+use Prim.Native.Nat.{ℕ, _<_}
+use lib.IntN.{ℤ}
+use mir.Syntax.{w32}
+use mir.Val.{toZ, ofZ}
+use Rattle.integers.proofs.Signed.{got32}
+use Rattle.plant.specs.Model.{L#, invariant, target, cutVariable, cutValue}
 use Rattle.records.specs.Whole.{Whole, Placed}
-use Rattle.passes.proofs.PartWords.{face-end}
-use Rattle.passes.proofs.Reading.{whole, placed, source-face, face-is-part, switch-join, step-joined}
+use Rattle.passes.proofs.Reading.{whole, placed, switch-join, step-joined}
 use borrow.Author.Needs.{needs}
 use Rattle.passes.proofs.switches.join_from.Statement.{statement}
 use Rattle.passes.proofs.switches.join_from.Tie as tie
@@ -18,105 +18,89 @@ whole-at : (c : tie.Start) → Whole (c .args .model .now)
 whole-at c = whole (c .args .model .now) (c .args .table .now) (c .pre .0)
 
 placed-at : (c : tie.Start) → Placed (c .args .model .now) (c .args .e)
-placed-at c = placed (c .args .model .now) (c .args .table .now) (c .pre .0) (c .args .e) (c .pre .1)
-
--- the source's face, by what was read of the switch
-source-at : (m : List ℤ) (e : ℕ) {l d s : ℕ} → l ≡ source m e → d ≡ wallVariable m e → s ≡ sourceSide m e → faceAt m l (2 * d + s) ≡ faceAt m (source m e) (sourceFace m e)
-source-at m e a b c = rw (a, b, c) refl
-
-at-is : (c : tie.After-face-at) → let a = c .before .before .before .before .before .args in c .face-at .result ≡ faceAt (a .model .now) (source (a .model .now) (a .e)) (sourceFace (a .model .now) (a .e))
-at-is c = let a = c .before .before .before .before .before .args in c .face-at .ensures ∙ source-at (a .model .now) (a .e) (c .before .source .ensures) (c .before .before .before .wall-variable .ensures) (c .before .before .source-side .ensures)
-
-from-part : (c : tie.After-face) → let a = c .before .before .before .before .before .before .args in IsPart (n# (a .model .now)) (c .face .result .now) (partOf (a .model .now) (a .table .now) (source (a .model .now) (a .e)) (sourceFace (a .model .now) (a .e) + 1))
-from-part c =
-    let s = c .before .before .before .before .before .before in
-    let m = s .args .model .now in
-    let t = s .args .table .now in
-    let q = source-face m t (s .pre .0) (s .args .e) (s .pre .1) in
-    face-is-part m t (s .pre .0) (source m (s .args .e)) (sourceFace m (s .args .e)) (q .0) (q .1) (c .before .before .before .before .before .variables .ensures) (at-is (c .before)) (c .face .ensures)
+placed-at c = placed (c .args .model .now) (c .args .table .now) (c .pre .0) (c .args .e) (c .pre .2)
 
 variables-requires : tie.Need-variables-requires
-variables-requires c κs = whole-at c .head
+variables-requires c κs = whole-at (c .before) .head
 
-wall-variable-requires : tie.Need-wall-variable-requires
-wall-variable-requires c κs = placed-at (c .before) .numbered
-
-mul-f : tie.Need-mul-f
-mul-f c = let s = c .before .before in omega (arith, c .wall-variable .ensures, placed-at s .variable-is, whole-at s .head .n-small)
-
-source-side-requires : tie.Need-source-side-requires
-source-side-requires c κs = placed-at (c .before .before) .numbered
-
-add-f : tie.Need-add-f
-add-f c =
-    let s = c .before .before .before in
-    let p = placed-at s in
-    omega (arith, c .before .wall-variable .ensures, c .source-side .ensures, p .variable-is, p .source-side, whole-at s .head .n-small)
-
-source-requires : tie.Need-source-requires
-source-requires c κs = placed-at (c .before .before .before) .numbered
-
-face-at-requires : tie.Need-face-at-requires
-face-at-requires c κs =
-    let s = c .before .before .before .before in
-    let p = placed-at s in
-    let h = whole-at s .head in
-    (h, omega (arith, c .source .ensures, p .source-is, h .L-small), omega (arith, c .before .before .wall-variable .ensures, c .before .source-side .ensures, p .variable-is, p .source-side, h .n-small))
-
-face-requires : tie.Need-face-requires
-face-requires c κs =
-    let s = c .before .before .before .before .before in
-    let m = s .args .model .now in
-    let t = s .args .table .now in
-    let q = source-face m t (s .pre .0) (s .args .e) (s .pre .1) in
-    (omega (arith, c .before .before .before .before .variables .ensures, whole-at s .head .n-small), face-end m _ (q .0) t (s .pre .0 .ready .room) _ (q .1) (c .before .before .before .before .variables .ensures) (at-is c))
+source-piece-requires : tie.Need-source-piece-requires
+source-piece-requires c κs = let s = c .before .before in (s .pre .0, s .pre .1, s .pre .2, s .pre .3)
 
 target-requires : tie.Need-target-requires
-target-requires c κs = placed-at (c .before .before .before .before .before .before) .numbered
+target-requires c κs = placed-at (c .before .before .before) .numbered
+
+-- the target
+module _ (c : tie.After-target) where
+  abbrev start : tie.Start
+  start = c .before .before .before .before
+
+  abbrev model : List ℤ
+  model = start .args .model .now
+
+  below : c .target .result < L# model
+  below = omega (arith, c .target .ensures, placed-at start .target-is)
 
 invariant-requires : tie.Need-invariant-requires
-invariant-requires c κs =
-    let s = c .before .before .before .before .before .before .before in
-    (whole-at s, omega (arith, c .target .ensures, placed-at s .target-is))
+invariant-requires c κs = (whole-at (start c), below c)
+
+cut-variable-requires : tie.Need-cut-variable-requires
+cut-variable-requires c κs = (whole-at (start (c .before)), below (c .before))
+
+cut-value-requires : tie.Need-cut-value-requires
+cut-value-requires c κs = (whole-at (start (c .before .before)), below (c .before .before))
+
+wall-variable-requires : tie.Need-wall-variable-requires
+wall-variable-requires c κs = placed-at (start (c .before .before .before)) .numbered
 
 reset-mask-requires : tie.Need-reset-mask-requires
-reset-mask-requires c κs = placed-at (c .before .before .before .before .before .before .before .before) .numbered
+reset-mask-requires c κs = placed-at (start (c .before .before .before .before)) .numbered
 
 guard-requires : tie.Need-guard-requires
-guard-requires c κs = let s = c .before .before .before .before .before .before .before .before .before in let l = s .pre .1 in (whole-at s, l)
+guard-requires c κs = let s = start (c .before .before .before .before .before) in let l = s .pre .2 in (whole-at s, l)
 
 reset-requires : tie.Need-reset-requires
-reset-requires c κs = let s = c .before .before .before .before .before .before .before .before .before .before in let l = s .pre .1 in (whole-at s, l)
+reset-requires c κs = let s = start (c .before .before .before .before .before .before) in let l = s .pre .2 in (whole-at s, l)
+
+-- what was read of it
+module _ (c : tie.After-cut-value) where
+  abbrev at : tie.After-target
+  at = c .before .before .before
+
+  inv-is : c .before .before .invariant .result .now ≡ invariant (model at) (target (model at) (start at .args .e))
+  inv-is = c .before .before .invariant .ensures ∙ ap (invariant (model at)) (at .target .ensures)
+
+  variable-is : toZ w32 (ofZ w32 (c .before .cut-variable .result)) ≡ cutVariable (model at) (target (model at) (start at .args .e))
+  variable-is = let v = c .before .cut-variable in got32 (v .result) (v .ok) ∙ v .ensures ∙ ap (cutVariable (model at)) (at .target .ensures)
+
+  value-is : toZ w32 (ofZ w32 (c .cut-value .result)) ≡ cutValue (model at) (target (model at) (start at .args .e))
+  value-is = let x = c .cut-value in got32 (x .result) (x .ok) ∙ x .ensures ∙ ap (cutValue (model at)) (at .target .ensures)
 
 join-switch-requires : tie.Need-join-switch-requires
 join-switch-requires c κs =
-    let s = c .before .before .before .before .before .before .before .before .before .before .before .before in
-    let m = s .args .model .now in
-    switch-join m (s .args .table .now) (s .pre .0) (s .args .e) (c .before .before .before .before .before .before .before .before .before .before .before .variables .ensures) (c .before .before .guard .ensures) (c .before .reset .ensures) (c .before .before .before .before .invariant .ensures ∙ ap (invariant m) (c .before .before .before .before .before .target .ensures)) (from-part (c .before .before .before .before .before .before)) (s .pre .1) (s .pre .2)
+    let v = c .before .before .before .before .before in
+    let s = start (at v) in
+    switch-join (model (at v)) (s .args .table .now) (s .pre .0) (s .args .e) (s .args .k) (s .pre .2) (s .pre .3) (at v .before .before .variables .ensures) (c .before .before .guard .ensures) (c .before .reset .ensures) (inv-is v) (at v .before .source-piece .ensures) (variable-is v) (value-is v) (s .pre .4)
 
 same-length : tie.Need-same-length
 same-length c = search needs
 
 returns : tie.Need-returns
 returns c =
-    let s = c .before .before .before .before .before .before .before .before .before .before .before .before .before .before in
-    let m = s .args .model .now in
-    step-joined m (s .args .table .now) (s .pre .0) (s .args .e) (c .before .before .before .before .before .before .before .before .before .before .before .before .before .variables .ensures) (c .before .before .before .before .guard .ensures) (c .before .before .before .reset .ensures) (c .before .before .before .before .before .before .invariant .ensures ∙ ap (invariant m) (c .before .before .before .before .before .before .before .target .ensures)) (from-part (c .before .before .before .before .before .before .before .before)) (c .before .before .before .before .before .reset-mask .ensures) (s .args .face .now) (c .before .join-switch .ensures)
+    let v = c .before .before .before .before .before .before .before in
+    let s = start (at v) in
+    step-joined (model (at v)) (s .args .table .now) (s .pre .0) (s .args .e) (s .args .k) (s .pre .2) (s .pre .3) (at v .before .before .variables .ensures) (c .before .before .before .before .guard .ensures) (c .before .before .before .reset .ensures) (inv-is v) (at v .before .source-piece .ensures) (variable-is v) (value-is v) (c .before .before .before .before .before .reset-mask .ensures) (c .before .before .before .before .before .before .wall-variable .ensures) (s .args .pieces .now) (c .before .join-switch .ensures)
 
 pub join-from-spec : {M : Type 1} → statement M
 join-from-spec =
     tie.close
     (tie.spec
     variables-requires
-    wall-variable-requires
-    mul-f
-    source-side-requires
-    add-f
-    source-requires
-    face-at-requires
-    face-requires
+    source-piece-requires
     target-requires
     invariant-requires
+    cut-variable-requires
+    cut-value-requires
+    wall-variable-requires
     reset-mask-requires
     guard-requires
     reset-requires

@@ -1,64 +1,63 @@
--- After e turns each face is joined with its wall steps and the steps of the switches below e.
-use lib.ListN.{length}
-use Rattle.plant.proofs.Tables.{table-length}
+-- After e turns each piece is joined with its wall steps and the steps of the switches below e.
 use mathlib.Core.Path.{_≡_, ap, _∙_}
 use native.Mathlib.Omega.{arith}
-use Prim.Native.Nat.{ℕ, _-_, _≤_, _<_}
+use Prim.Native.Nat.{ℕ, _+_, _-_, _≤_, _<_}
+use lib.ListN.{length}
 use Rattle.plant.specs.Model.{E#}
 use Rattle.plant.specs.Tables.{tableBy, wallsJoined}
+use Rattle.plant.proofs.Tables.{table-length}
 use Rattle.records.specs.Whole.{Whole}
+use Rattle.passes.specs.Joining.{joinedBelow}
 use Rattle.passes.proofs.Reading.{whole}
-use Rattle.passes.proofs.Landing.{joinedBelow, switches-none, switches-all, switches-more, is-table}
+use Rattle.passes.proofs.Landing.{switches-none, switches-all}
 use Rattle.passes.proofs.switches.switches.Statement.{statement}
 use Rattle.passes.proofs.switches.switches.Tie as tie
 
 abbrev Inv-loop : tie.InvT-loop
-Inv-loop model table out₀ count e₀ out e = (e ≤ E# model) × (out ≡ tableBy model (joinedBelow model table e))
+Inv-loop model places table out₀ count e₀ out e = (e ≤ E# model) × (out ≡ tableBy model (joinedBelow model table e))
 
 abbrev μ-loop : tie.MeasureT-loop
-μ-loop model table out₀ count e₀ out e = count - e
+μ-loop model places table out₀ count e₀ out e = count - e
 
 whole-at : (c : tie.Start Inv-loop μ-loop) → Whole (c .args .model .now)
 whole-at c = whole (c .args .model .now) (c .args .table .now) (c .pre .0)
 
 switches-requires : tie.Need-switches-requires Inv-loop μ-loop
-switches-requires c κs = whole-at c .head
+switches-requires c κs = whole-at (c .before) .head
 
 loop-holds : tie.Need-loop-holds Inv-loop μ-loop
-loop-holds c = let s = c .before in let m = s .args .model .now in let t = s .args .table .now in (omega arith, s .pre .1 ∙ switches-none m t)
+loop-holds c = let s = c .before .before in (omega arith, s .pre .2 ∙ switches-none (s .args .model .now) (s .args .table .now))
 
-land-requires : tie.Need-land-requires Inv-loop μ-loop
-land-requires c κs =
-    let s = c .before .before .before .before in
-    let m = s .args .model .now in
-    let t = s .args .table .now in
-    let ok = s .pre .0 in
-    let e : c .before .before .loop .e < E# m = omega (arith, c .before .loop-test .taken, c .before .before .before .switches .ensures) in
-    (ok, e, is-table m t (joinedBelow m t (c .before .before .loop .e)) (c .before .before .loop .inv .1))
+-- switch e
+module _ (c : tie.In-loop Inv-loop μ-loop) where
+  abbrev start : tie.Start Inv-loop μ-loop
+  start = c .before .before .before .before
+
+  is-switch : c .before .loop .e < E# (start .args .model .now)
+  is-switch = omega (arith, c .loop-test .taken, c .before .before .switches .ensures)
+
+land-each-requires : tie.Need-land-each-requires Inv-loop μ-loop
+land-each-requires c κs = let w = c .before in let s = start w in (s .pre .0, s .pre .1, is-switch w, w .before .loop .inv .1)
 
 add-e : tie.Need-add-e Inv-loop μ-loop
-add-e c = omega (arith, c .before .before .before .loop-test .taken, c .before .before .before .before .before .switches .ensures, whole-at (c .before .before .before .before .before .before) .head .E-small)
+add-e c = let w = c .before .before .before in omega (arith, is-switch w, whole-at (start w) .head .E-small)
 
 loop-less : tie.Need-loop-less Inv-loop μ-loop
 loop-less c = omega (arith, c .before .before .before .loop-test .taken)
 
 loop-again : tie.Need-loop-again Inv-loop μ-loop
-loop-again c =
-    let s = c .before .before .before .before .before .before in
-    let m = s .args .model .now in
-    let t = s .args .table .now in
-    (omega (arith, c .before .before .before .loop-test .taken, c .before .before .before .before .before .switches .ensures), c .before .land .ensures ∙ switches-more m t (c .before .before .before .before .loop .e) (c .before .before .before .before .loop .inv .1))
+loop-again c = (omega (arith, is-switch (c .before .before .before)), c .before .land-each .ensures)
 
 same-length : tie.Need-same-length Inv-loop μ-loop
 same-length c =
-    let s = c .before .before .before in
+    let s = c .before .before .before .before in
     let m = s .args .model .now in
     let t = s .args .table .now in
-    omega (arith, ap length (c .before .loop .inv .1), table-length m (joinedBelow m t (c .before .loop .e)), ap length (s .pre .1), table-length m (wallsJoined m t))
+    omega (arith, ap length (c .before .loop .inv .1), table-length m (joinedBelow m t (c .before .loop .e)), ap length (s .pre .2), table-length m (wallsJoined m t))
 
 returns : tie.Need-returns Inv-loop μ-loop
 returns c =
-    let s = c .before .before .before in
+    let s = c .before .before .before .before in
     let m = s .args .model .now in
     let t = s .args .table .now in
     let e : c .before .loop .e ≡ E# m = omega (arith, c .before .loop .inv .0, c .loop-test .left, c .before .before .switches .ensures) in
@@ -72,7 +71,7 @@ switches-spec =
     μ-loop
     switches-requires
     loop-holds
-    land-requires
+    land-each-requires
     add-e
     loop-less
     loop-again

@@ -1,11 +1,9 @@
--- A step that gives nothing leaves the face; any other is joined to it.
-use mathlib.Core.Path.{sym}
+-- A step that gives nothing leaves the pieces; any other is joined to them, cut to each.
 use Prim.Native.Nat.{_*_}
-use lib.Seq.{length-take-le}
 use mir.Facts.{toZ-ofZ}
 use native.Mathlib.Omega.{arith}
 use borrow.Author.Needs.{needs}
-use Rattle.passes.proofs.Handing.{joinable, wall-ready, wall-joins, wall-joins-nothing}
+use Rattle.passes.proofs.Handing.{wall-ready, wall-joinable, wall-joins, wall-joins-nothing}
 use Rattle.passes.proofs.walls.join_wall.Statement.{statement}
 use Rattle.passes.proofs.walls.join_wall.Tie as tie
 
@@ -16,25 +14,34 @@ slice-aggregate-wall-step : tie.Need-slice-aggregate-wall-step
 slice-aggregate-wall-step c = search needs
 
 wall-step-requires : tie.Need-wall-step-requires
-wall-step-requires c κs = let s = c .before in let a = s .args in simp (toZ-ofZ (s .fits .b)) (wall-ready (a .n) (a .inv .now) (a .rate .now) (a .bounds .now) (a .d) (a .b) (a .face .now) (s .pre) _ (omega (arith, s .pre .n-small)))
+wall-step-requires c κs = let s = c .before in let a = s .args in simp (toZ-ofZ (s .fits .b)) (wall-ready (a .n) (a .inv .now) (a .rate .now) (a .bounds .now) (a .d) (a .b) (a .variable) (a .value) (a .pieces .now) (s .pre) _ (omega (arith, s .pre .n-small)))
 
 array-share-prefix-after : tie.Need-array-share-prefix-after
 array-share-prefix-after c = search needs
 
-slice-aggregate-join : tie.Need-slice-aggregate-join
-slice-aggregate-join c = let s = c .before .before .before .before .before in let k = c .before .before .before .wall-step .kept .1 .1 .1 .1 .1 .1 .0 in sym (length-take-le (2 * s .args .n) (c .before .before .before .wall-step .last .1 .1 .1 .1 .1 .1 .0) (omega (arith, k, s .pre .n-small)))
+slice-aggregate-join-pieces : tie.Need-slice-aggregate-join-pieces
+slice-aggregate-join-pieces c = search needs
 
-join-requires : tie.Need-join-requires
-join-requires c κs = let s = c .before .before .before .before .before .before in joinable (s .args .n) (c .before .before .before .before .wall-step .last .1 .1 .1 .1 .1 .1 .0) (s .args .face .now) (s .pre .n-small) (c .before .before .before .before .wall-step .kept .1 .1 .1 .1 .1 .1 .0) (s .pre .is-face)
+join-pieces-requires : tie.Need-join-pieces-requires
+join-pieces-requires c κs =
+    let s = c .before .before .before .before .before .before in
+    let a = s .args in
+    rw (toZ-ofZ (s .fits .variable), toZ-ofZ (s .fits .value)) (wall-joinable (a .n) (a .inv .now) (a .rate .now) (a .bounds .now) (a .d) (a .b) (a .variable) (a .value) (a .pieces .now) (s .pre) _ (omega (arith, s .pre .n-small)) (simp (toZ-ofZ (s .fits .b)) at (c .before .before .before .before .wall-step .ensures)) (c .before .before .if1 .taken))
 
 same-length : tie.Need-same-length
 same-length c = search needs
 
 returns : tie.Need-returns
-returns c = let s = c .before .before .before .before .before .before .before .before in let a = s .args in wall-joins (a .n) (a .inv .now) (a .rate .now) (a .bounds .now) (a .d) (a .b) (a .face .now) (s .pre) _ (omega (arith, s .pre .n-small)) (simp (toZ-ofZ (s .fits .b)) at (c .before .before .before .before .before .before .wall-step .ensures)) (c .before .before .before .before .if1 .taken) (c .before .join .ensures)
+returns c =
+    let s = c .before .before .before .before .before .before .before .before in
+    let a = s .args in
+    wall-joins (a .n) (a .inv .now) (a .rate .now) (a .bounds .now) (a .d) (a .b) (a .variable) (a .value) (a .pieces .now) (s .pre) _ (omega (arith, s .pre .n-small)) (simp (toZ-ofZ (s .fits .b)) at (c .before .before .before .before .before .before .wall-step .ensures)) (c .before .before .before .before .if1 .taken) (rw (toZ-ofZ (s .fits .variable), toZ-ofZ (s .fits .value)) at (c .before .join-pieces .ensures))
 
 returns-2 : tie.Need-returns-2
-returns-2 c = let s = c .before .before .before .before in let a = s .args in wall-joins-nothing (a .n) (a .inv .now) (a .rate .now) (a .bounds .now) (a .d) (a .b) (a .face .now) (s .pre) _ (omega (arith, s .pre .n-small)) (simp (toZ-ofZ (s .fits .b)) at (c .before .before .wall-step .ensures)) (c .if1 .left)
+returns-2 c =
+    let s = c .before .before .before .before in
+    let a = s .args in
+    wall-joins-nothing (a .n) (a .inv .now) (a .rate .now) (a .bounds .now) (a .d) (a .b) (a .variable) (a .value) (a .pieces .now) (s .pre) _ (omega (arith, s .pre .n-small)) (simp (toZ-ofZ (s .fits .b)) at (c .before .before .wall-step .ensures)) (c .if1 .left)
 
 pub join-wall-spec : {M : Type 1} → statement M
 join-wall-spec =
@@ -44,8 +51,8 @@ join-wall-spec =
     slice-aggregate-wall-step
     wall-step-requires
     array-share-prefix-after
-    slice-aggregate-join
-    join-requires
+    slice-aggregate-join-pieces
+    join-pieces-requires
     same-length
     returns
     returns-2)

@@ -1,70 +1,120 @@
--- After f turns the faces below f are joined with their steps, and the words behind them are the location's as they were.
-use mathlib.Core.Path.{_≡_, ap, _∙_}
+-- After f turns the pieces of the faces below f are joined with their steps, and the words behind them are the location's as they
+-- were.
+use mathlib.Core.Path.{_≡_, refl, sym, ap, ap₂, _∙_}
+use mathlib.Core.List.{List}
 use native.Mathlib.Omega.{arith}
 use native.Mathlib.Nat.{mul-le-mul-right}
 use Prim.Native.Nat.{ℕ, _+_, _-_, _*_, _/_, _≤_, _<_}
 use lib.IntN.{ℤ}
 use lib.ListN.{length}
-use mir.Syntax.{w64}
+use mir.Syntax.{w32, w64}
 use mir.Val.{toZ, ofZ}
+use mir.Facts.{toZ-ofZ}
 use borrow.Author.Needs.{needs}
 use borrow.Rule.Slice.PartMut.{midOf}
 use Rattle.integers.specs.Words.{word, onto}
 use Rattle.integers.specs.Counted.{cat}
 use Rattle.integers.proofs.Signed.{got64}
+use Rattle.integers.proofs.Counted.{sum-same}
+use Rattle.plant.specs.Box.{Face, present}
+use Rattle.plant.specs.Model.{Cut, cutFrom}
+use Rattle.plant.specs.Pieces.{piecesPerFace}
 use Rattle.plant.specs.Steps.{wallStep}
 use Rattle.plant.specs.Tables.{faceSize}
-use Rattle.passes.specs.Joining.{joinedWith, wallsOf}
+use Rattle.tables.specs.Room.{joinedEach, cutEach}
+use Rattle.passes.specs.Joining.{piecesWith, WallsJoin, wallsFrom}
 use Rattle.passes.proofs.Blocks.{none-put, put-length, one-put, all-put}
 use Rattle.passes.proofs.PartWords.{level-at}
-use Rattle.passes.proofs.Locations.{joinedFace, joined-sized, block-length, words-few, next-inside, next-is-face, next-joined}
+use Rattle.passes.proofs.Handing.{walls-given}
+use Rattle.passes.proofs.Locations.{groupSize, joinedGroup, joined-sized, groups-joined, group-few, block-length, block-few, block-sum, next-inside, next-are-pieces, next-joined}
 use Rattle.passes.proofs.walls.join_walls.Statement.{statement}
 use Rattle.passes.proofs.walls.join_walls.Tie as tie
 
 abbrev Inv-loop : tie.InvT-loop
-Inv-loop n inv rate bounds block₀ faces size f₀ block f = (f ≤ 2 * n) × (block ≡ onto (cat f (joinedFace n block₀ (wallsOf n inv rate bounds))) block₀)
+Inv-loop n inv rate bounds variable value block₀ faces size f₀ block f =
+    let c = cutFrom (toZ w32 variable) (toZ w32 value) in
+    (f ≤ 2 * n) × (block ≡ onto (cat f (joinedGroup n c block₀ (wallsFrom n inv rate c (present bounds)))) block₀)
 
 abbrev μ-loop : tie.MeasureT-loop
-μ-loop n inv rate bounds block₀ faces size f₀ block f = faces - f
+μ-loop n inv rate bounds variable value block₀ faces size f₀ block f = faces - f
+
+-- the words of the cut, the cut, and what the pieces are given
+abbrev first-word : tie.Start Inv-loop μ-loop → ℤ
+first-word s = toZ w32 (ofZ w32 (s .args .variable))
+
+abbrev second-word : tie.Start Inv-loop μ-loop → ℤ
+second-word s = toZ w32 (ofZ w32 (s .args .value))
+
+abbrev cut : tie.Start Inv-loop μ-loop → Cut
+cut s = cutFrom (first-word s) (second-word s)
+
+abbrev given : tie.Start Inv-loop μ-loop → ℕ → Face
+given s = wallsFrom (s .args .n) (s .args .inv .now) (s .args .rate .now) (cut s) (present (s .args .bounds .now))
+
+ready : (s : tie.Start Inv-loop μ-loop) → WallsJoin (s .args .n) (s .args .inv .now) (s .args .rate .now) (s .args .bounds .now) (first-word s) (second-word s) (s .args .block .now)
+ready s = rw (toZ-ofZ (s .fits .variable), toZ-ofZ (s .fits .value)) (s .pre)
 
 mul-faces : tie.Need-mul-faces Inv-loop μ-loop
 mul-faces c = omega (arith, c .pre .n-small)
 
+pieces-by-requires : tie.Need-pieces-by-requires Inv-loop μ-loop
+pieces-by-requires c κs = tt
+
 face-size-requires : tie.Need-face-size-requires Inv-loop μ-loop
-face-size-requires c κs = omega (arith, c .pre .n-small)
+face-size-requires c κs = omega (arith, c .before .pre .n-small)
+
+-- the words of a face's pieces
+size-is : (c : tie.After-face-size Inv-loop μ-loop) → c .before .pieces-by .result * c .face-size .result ≡ piecesPerFace (cut (c .before .before)) * faceSize (c .before .before .args .n)
+size-is c = ap₂ (λ (p w : ℕ). p * w) (c .before .pieces-by .ensures (second-word (c .before .before))) (c .face-size .ensures)
+
+mul-size : tie.Need-mul-size Inv-loop μ-loop
+mul-size c = let s = c .before .before in record { fits = omega (arith, size-is c, group-few (s .args .n) (cut s) (s .pre .n-small)) }
 
 loop-holds : tie.Need-loop-holds Inv-loop μ-loop
 loop-holds c =
-    let a = c .before .args in
-    let h = wallsOf (a .n) (a .inv .now) (a .rate .now) (a .bounds .now) in
-    (omega arith, none-put (faceSize (a .n)) (joinedFace (a .n) (a .block .now) h) (joined-sized (a .n) (a .block .now) h) (a .block .now))
-
-face-within-requires : tie.Need-face-within-requires Inv-loop μ-loop
-face-within-requires c κs = let s = c .before .before .before in (s .pre .n-small, omega (arith, s .pre .n-small, c .loop-test .taken))
+    let s = c .before .before in
+    let a = s .args in
+    (omega arith, none-put (λ f. groupSize (a .n) (cut s) (a .block .now) (given s)) (joinedGroup (a .n) (cut s) (a .block .now) (given s)) (joined-sized (a .n) (cut s) (a .block .now) (given s)) (a .block .now))
 
 -- face f's place
-module _ (c : tie.After-face-within Inv-loop μ-loop) where
-  is-face : c .before .before .loop .f < 2 * c .before .before .before .before .args .n
-  is-face = omega (arith, c .before .loop-test .taken)
+module _ (c : tie.In-loop Inv-loop μ-loop) where
+  abbrev start : tie.Start Inv-loop μ-loop
+  start = c .before .before .before .before
 
-  end-is : c .face-within .result + c .before .before .before .face-size .result ≡ c .face-within .result + faceSize (c .before .before .before .before .args .n)
-  end-is = ap (λ (k : ℕ). c .face-within .result + k) (c .before .before .before .face-size .ensures)
+  abbrev size : ℕ
+  size = c .before .before .before .pieces-by .result * c .before .before .face-size .result
 
-  inside : let a = c .before .before .before .before .args in c .face-within .result + faceSize (a .n) ≤ length (a .block .now)
-  inside =
-      let s = c .before .before .before .before in
-      omega (arith, c .face-within .ensures, next-inside (s .args .n) (s .args .block .now) (s .pre .is-location) (c .before .before .loop .f) is-face)
+  is-face : c .before .loop .f < 2 * start .args .n
+  is-face = omega (arith, c .loop-test .taken)
 
-  small : c .face-within .result + c .before .before .before .face-size .result ≤ 156
-  small = let s = c .before .before .before .before in omega (arith, end-is, inside, words-few (s .args .n) (s .args .block .now) (s .pre .is-location) (s .pre .n-small))
+  at-is : c .before .loop .f * size ≡ c .before .loop .f * (piecesPerFace (cut start) * faceSize (start .args .n))
+  at-is = ap (λ (k : ℕ). c .before .loop .f * k) (size-is (c .before .before))
+
+  end-is : c .before .loop .f * size + size ≡ c .before .loop .f * size + piecesPerFace (cut start) * faceSize (start .args .n)
+  end-is = ap (λ (k : ℕ). c .before .loop .f * size + k) (size-is (c .before .before))
+
+  inside : c .before .loop .f * size + size ≤ length (start .args .block .now)
+  inside = omega (arith, end-is, at-is, next-inside (start .args .n) (cut start) (start .args .block .now) (given start) (ready start .are-pieces) (c .before .loop .f) is-face)
+
+  small : c .before .loop .f * size + size ≤ 312
+  small = omega (arith, inside, block-few (start .args .n) (cut start) (start .args .block .now) (given start) (ready start .are-pieces) (start .pre .n-small))
+
+  turn-long : length (c .before .loop .block) ≡ length (start .args .block .now)
+  turn-long =
+      let a = start .args in
+      put-length (λ f. groupSize (a .n) (cut start) (a .block .now) (given start)) (joinedGroup (a .n) (cut start) (a .block .now) (given start)) (joined-sized (a .n) (cut start) (a .block .now) (given start)) (a .block .now) (c .before .loop .f) (c .before .loop .inv .1)
+      (omega (arith, sum-same (c .before .loop .f) (piecesPerFace (cut start) * faceSize (a .n)), at-is, inside))
+
+mul-at : tie.Need-mul-at Inv-loop μ-loop
+mul-at c = record { fits = omega (arith, small c) }
 
 add-end : tie.Need-add-end Inv-loop μ-loop
 add-end c = omega (arith, small c)
 
 word-requires : tie.Need-word-requires Inv-loop μ-loop
 word-requires c κs =
-    let f = c .before .before .loop .f in
-    omega (arith, is-face c, c .before .before .before .before .pre .inv-in (f / 2) (omega (arith, is-face c)) .there)
+    let f = c .before .loop .f in
+    omega (arith, is-face c, start c .pre .inv-in (f / 2) (omega (arith, is-face c)) .there)
 
 mul-join-wall : tie.Need-mul-join-wall Inv-loop μ-loop
 mul-join-wall c = omega (arith, small (c .before))
@@ -76,70 +126,68 @@ part-join-wall-start : tie.Need-part-join-wall-start Inv-loop μ-loop
 part-join-wall-start c = search needs
 
 part-join-wall-end : tie.Need-part-join-wall-end Inv-loop μ-loop
-part-join-wall-end c =
-    let a = c .before .before .before .before .before .args in
-    let h = wallsOf (a .n) (a .inv .now) (a .rate .now) (a .bounds .now) in
-    let i = c .before .before .before .loop in
-    omega (arith, end-is (c .before), inside (c .before), put-length (faceSize (a .n)) (joinedFace (a .n) (a .block .now) h) (joined-sized (a .n) (a .block .now) h) (a .block .now) (i .f) (i .inv .1) (omega (arith, c .before .face-within .ensures, inside (c .before))))
+part-join-wall-end c = omega (arith, inside (c .before), turn-long (c .before))
 
 -- the wall of face f
-wall-is : (c : tie.After-word Inv-loop μ-loop) → toZ w64 (ofZ w64 (c .word .result)) ≡ word (c .before .before .before .before .before .args .inv .now) (c .before .before .before .loop .f)
+wall-is : (c : tie.After-word Inv-loop μ-loop) → toZ w64 (ofZ w64 (c .word .result)) ≡ word (start (c .before) .args .inv .now) (c .before .before .loop .f)
 wall-is c = got64 (c .word .result) (c .word .ok) ∙ c .word .ensures
 
 join-wall-requires : tie.Need-join-wall-requires Inv-loop μ-loop
 join-wall-requires c κs =
-    let s = c .before .before .before .before .before .before in
-    let a = s .args in
-    let h = wallsOf (a .n) (a .inv .now) (a .rate .now) (a .bounds .now) in
-    let i = c .before .before .before .before .loop in
     let w = c .before .before in
+    let s = start w in
+    let a = s .args in
+    let i = w .before .loop in
     record {
       n-small = s .pre .n-small;
       inv-in = s .pre .inv-in;
       rate-in = s .pre .rate-in;
       bounds-in = s .pre .bounds-in;
-      variable = omega (arith, is-face w);
+      d-below = omega (arith, is-face w);
       wall-in = rw (wall-is (c .before)) (level-at (a .n) (a .inv .now) (s .pre .inv-in) (i .f) (is-face w));
-      is-face = next-is-face (a .n) (a .block .now) h (s .pre .is-location) (i .f) (is-face w) (i .inv .1) (w .face-within .ensures) (end-is w);
+      cut-words = ready s .cut-words;
+      are-pieces = next-are-pieces (a .n) (cut s) (a .block .now) (given s) (ready s .are-pieces) (i .f) (is-face w) (i .inv .1) (at-is w) (end-is w);
     }
 
 add-f : tie.Need-add-f Inv-loop μ-loop
-add-f c = omega (arith, is-face (c .before .before .before .before), c .before .before .before .before .before .before .before .before .pre .n-small)
+add-f c = let w = c .before .before .before .before in omega (arith, is-face w, start w .pre .n-small)
 
 loop-less : tie.Need-loop-less Inv-loop μ-loop
-loop-less c = omega (arith, c .before .before .before .before .before .loop-test .taken)
+loop-less c = omega (arith, c .before .before .before .before .loop-test .taken)
 
 loop-again : tie.Need-loop-again Inv-loop μ-loop
 loop-again c =
-    let s = c .before .before .before .before .before .before .before .before in
-    let a = s .args in
-    let h = wallsOf (a .n) (a .inv .now) (a .rate .now) (a .bounds .now) in
-    let i = c .before .before .before .before .before .before .loop in
     let w = c .before .before .before .before in
-    let at = w .face-within .result in
-    let end = at + c .before .before .before .before .before .before .before .face-size .result in
-    let d = ap (λ (b : ℤ). joinedWith (a .n) (midOf at (end - at) (i .block)) (wallStep (a .n) (a .inv .now) (a .rate .now) (a .bounds .now) (i .f / 2) b)) (wall-is (c .before .before .before)) in (
+    let s = start w in
+    let a = s .args in
+    let i = w .before .loop in
+    let at = i .f * size w in
+    let end = at + size w in
+    let part = midOf at (end - at) (i .block) in
+    let d = ap (λ (b : ℤ). joinedEach (a .n) (piecesPerFace (cut s)) part (cutEach (a .n) (cut s) (i .f / 2) (wallStep (a .n) (a .inv .now) (a .rate .now) (a .bounds .now) (i .f / 2) b))) (wall-is (c .before .before .before)) in (
       omega (arith, is-face w),
-      one-put (faceSize (a .n)) (joinedFace (a .n) (a .block .now) h) (joined-sized (a .n) (a .block .now) h) (a .block .now) (i .f) (i .inv .1) (w .face-within .ensures) (end-is w) (omega (arith, end-is w, inside w))
-          (next-joined (a .n) (a .block .now) h (s .pre .is-location) (i .f) (is-face w) (i .inv .1) (w .face-within .ensures) (end-is w) (c .before .join-wall .ensures ∙ d)),
+      one-put (λ f. groupSize (a .n) (cut s) (a .block .now) (given s)) (joinedGroup (a .n) (cut s) (a .block .now) (given s)) (joined-sized (a .n) (cut s) (a .block .now) (given s)) (a .block .now) (i .f) (i .inv .1) (at-is w ∙ sym (sum-same (i .f) (piecesPerFace (cut s) * faceSize (a .n)))) (end-is w) (inside w)
+          (next-joined (a .n) (cut s) (a .block .now) (given s) (ready s .are-pieces) (i .f) (is-face w) (i .inv .1) (at-is w) (end-is w)
+          (c .before .join-wall .ensures ∙ d ∙ walls-given (a .n) (a .inv .now) (a .rate .now) (a .bounds .now) (cut s) (i .f) part)),
     )
 
 same-length : tie.Need-same-length Inv-loop μ-loop
 same-length c =
-    let s = c .before .before .before in
+    let s = c .before .before .before .before in
     let a = s .args in
-    let h = wallsOf (a .n) (a .inv .now) (a .rate .now) (a .bounds .now) in
     let i = c .before .loop in
-    put-length (faceSize (a .n)) (joinedFace (a .n) (a .block .now) h) (joined-sized (a .n) (a .block .now) h) (a .block .now) (i .f) (i .inv .1) (omega (arith, block-length (a .n) (a .block .now) (s .pre .is-location), mul-le-mul-right (faceSize (a .n)) (i .inv .0)))
+    put-length (λ f. groupSize (a .n) (cut s) (a .block .now) (given s)) (joinedGroup (a .n) (cut s) (a .block .now) (given s)) (joined-sized (a .n) (cut s) (a .block .now) (given s)) (a .block .now) (i .f) (i .inv .1)
+    (omega (arith, block-length (a .n) (cut s) (a .block .now) (given s) (ready s .are-pieces), sum-same (i .f) (piecesPerFace (cut s) * faceSize (a .n)), mul-le-mul-right (piecesPerFace (cut s) * faceSize (a .n)) (i .inv .0)))
 
 returns : tie.Need-returns Inv-loop μ-loop
 returns c =
-    let s = c .before .before .before in
+    let s = c .before .before .before .before in
     let a = s .args in
-    let h = wallsOf (a .n) (a .inv .now) (a .rate .now) (a .bounds .now) in
     let i = c .before .loop in
     let e : i .f ≡ 2 * a .n = omega (arith, i .inv .0, c .loop-test .left) in
-    all-put (faceSize (a .n)) (joinedFace (a .n) (a .block .now) h) (joined-sized (a .n) (a .block .now) h) (a .block .now) (2 * a .n) (i .inv .1 ∙ ap (λ (k : ℕ). onto (cat k (joinedFace (a .n) (a .block .now) h)) (a .block .now)) e) (block-length (a .n) (a .block .now) (s .pre .is-location))
+    all-put (λ f. groupSize (a .n) (cut s) (a .block .now) (given s)) (joinedGroup (a .n) (cut s) (a .block .now) (given s)) (joined-sized (a .n) (cut s) (a .block .now) (given s)) (a .block .now) (2 * a .n) (i .inv .1 ∙ ap (λ (k : ℕ). onto (cat k (joinedGroup (a .n) (cut s) (a .block .now) (given s))) (a .block .now)) e) (block-sum (a .n) (cut s) (a .block .now) (given s) (ready s .are-pieces))
+    ∙ groups-joined (a .n) (cut s) (a .block .now) (given s)
+    ∙ ap₂ (λ (variable value : ℤ). joinedEach (a .n) (piecesWith (a .n) (cutFrom variable value)) (a .block .now) (wallsFrom (a .n) (a .inv .now) (a .rate .now) (cutFrom variable value) (present (a .bounds .now)))) (toZ-ofZ (s .fits .variable)) (toZ-ofZ (s .fits .value))
 
 pub join-walls-spec : {M : Type 1} → statement M
 join-walls-spec =
@@ -148,9 +196,11 @@ join-walls-spec =
     Inv-loop
     μ-loop
     mul-faces
+    pieces-by-requires
     face-size-requires
+    mul-size
     loop-holds
-    face-within-requires
+    mul-at
     add-end
     word-requires
     mul-join-wall

@@ -1,65 +1,127 @@
 -- After l turns the locations below l stand at the front of the table.
 use mathlib.Core.Path.{_≡_, refl, ap, _∙_}
+use mathlib.Core.List.{List}
 use native.Mathlib.Omega.{arith}
 use Prim.Native.Nat.{ℕ, _+_, _-_, _*_, _≤_, _<_}
+use lib.IntN.{ℤ}
+use lib.ListN.{length, getD}
 use Rattle.integers.specs.Words.{onto}
-use Rattle.integers.specs.Counted.{cat}
+use Rattle.integers.specs.Counted.{cat, sumBelow}
 use Rattle.plant.specs.Model.{n#, L#}
-use Rattle.plant.specs.Tables.{wordsPerLocation, tableSize}
+use Rattle.plant.specs.Tables.{tableSize, pieceAt}
+use Rattle.plant.proofs.Tables.{locationWords}
 use Rattle.records.specs.Whole.{Whole}
 use Rattle.passes.proofs.Blocks.{none-put, put-length, place-length, one-put, all-put}
-use Rattle.passes.proofs.Reading.{whole, locationsOf, locations-sized, all-locations, location-from, location-to, location-inside, table-small, table-within, table-sized}
+use Rattle.passes.proofs.PartWords.{place-is}
+use Rattle.passes.proofs.Reading.{whole, locationsOf, locations-sized, all-locations, place-there, place-small, location-from, location-to, location-inside, table-small, table-within, table-sized}
 use Rattle.passes.proofs.walls.walls.Statement.{statement}
 use Rattle.passes.proofs.walls.walls.Tie as tie
 
 abbrev Inv-loop : tie.InvT-loop
-Inv-loop model table out₀ locations l₀ out l = (l ≤ L# model) × (out ≡ onto (cat l (locationsOf model table)) out₀)
+Inv-loop model places table out₀ n locations l₀ out l = (l ≤ L# model) × (out ≡ onto (cat l (locationsOf model table)) out₀)
 
 abbrev μ-loop : tie.MeasureT-loop
-μ-loop model table out₀ locations l₀ out l = locations - l
+μ-loop model places table out₀ n locations l₀ out l = locations - l
 
 whole-at : (c : tie.Start Inv-loop μ-loop) → Whole (c .args .model .now)
 whole-at c = whole (c .args .model .now) (c .args .table .now) (c .pre .0)
 
+variables-requires : tie.Need-variables-requires Inv-loop μ-loop
+variables-requires c κs = whole-at (c .before) .head
+
 locations-requires : tie.Need-locations-requires Inv-loop μ-loop
-locations-requires c κs = whole-at c .head
+locations-requires c κs = whole-at (c .before .before) .head
 
 loop-holds : tie.Need-loop-holds Inv-loop μ-loop
 loop-holds c =
-    let s = c .before in
+    let s = c .before .before .before in
     let a = s .args in
     let m = a .model .now in
     let t = a .table .now in
-    (omega arith, none-put (wordsPerLocation (n# m)) (locationsOf m t) (locations-sized m t) (a .out .now))
+    (omega arith, none-put (locationWords m) (locationsOf m t) (locations-sized m t) (a .out .now))
 
-is-location : (c : tie.In-loop Inv-loop μ-loop) → c .before .loop .l < L# (c .before .before .before .args .model .now)
-is-location c = omega (arith, c .loop-test .taken, c .before .before .locations .ensures)
+-- location l
+module _ (c : tie.In-loop Inv-loop μ-loop) where
+  abbrev start : tie.Start Inv-loop μ-loop
+  start = c .before .before .before .before .before
 
-faces-at-requires : tie.Need-faces-at-requires Inv-loop μ-loop
-faces-at-requires c κs = let h = whole-at (c .before .before .before) .head in (h, omega (arith, is-location c, h .L-small))
+  abbrev model : List ℤ
+  model = start .args .model .now
 
-add-faces-at : tie.Need-add-faces-at Inv-loop μ-loop
-add-faces-at c = omega (arith, is-location (c .before), whole-at (c .before .before .before .before) .head .L-small)
+  abbrev places : List ℕ
+  places = start .args .places .now
 
-faces-at-requires-2 : tie.Need-faces-at-requires-2 Inv-loop μ-loop
-faces-at-requires-2 c κs = let h = whole-at (c .before .before .before .before) .head in (h, omega (arith, is-location (c .before), h .L-small))
+  is-location : c .before .loop .l < L# model
+  is-location = omega (arith, c .loop-test .taken, c .before .before .locations .ensures)
 
--- the words of location l
-module _ (c : tie.After-faces-at2 Inv-loop μ-loop) where
-  from : let a = c .before .before .before .before .before .args in c .before .faces-at .result ≡ c .before .before .before .loop .l * wordsPerLocation (n# (a .model .now))
-  from = let s = c .before .before .before .before .before in location-from (s .args .model .now) (c .before .before .before .loop .l) (c .before .faces-at .ensures) (c .faces-at2 .ensures)
+  n-is : c .before .before .before .variables .result ≡ n# model
+  n-is = c .before .before .before .variables .ensures
 
-  to : let a = c .before .before .before .before .before .args in c .faces-at2 .result ≡ c .before .faces-at .result + wordsPerLocation (n# (a .model .now))
-  to = let s = c .before .before .before .before .before in location-to (s .args .model .now) (c .before .before .before .loop .l) (c .before .faces-at .ensures) (c .faces-at2 .ensures)
+  n-small : c .before .before .before .variables .result ≤ 6
+  n-small = omega (arith, n-is, whole-at start .head .n-small)
 
-  inside : c .faces-at2 .result ≤ tableSize (c .before .before .before .before .before .args .model .now)
-  inside = let s = c .before .before .before .before .before in location-inside (s .args .model .now) (c .before .before .before .loop .l) (c .before .faces-at .ensures) (c .faces-at2 .ensures) (is-location (c .before .before)) refl
+  few : c .before .loop .l < 64
+  few = omega (arith, is-location, whole-at start .head .L-small)
 
-  small : c .faces-at2 .result ≤ 9984
-  small = let s = c .before .before .before .before .before in omega (arith, inside, table-small (s .args .model .now) (s .args .table .now) (s .pre .0))
+  -- how many pieces stand before it, and before the next
+  before-there : c .before .loop .l < length places
+  before-there = place-there model (start .args .table .now) (start .pre .0) places (start .pre .1) (c .before .loop .l) (omega (arith, is-location))
+
+  before-small : getD places (c .before .loop .l) 0 ≤ 1536
+  before-small = place-small model (start .args .table .now) (start .pre .0) places (start .pre .1) (c .before .loop .l) (omega (arith, is-location))
+
+  next-there : c .before .loop .l + 1 < length places
+  next-there = place-there model (start .args .table .now) (start .pre .0) places (start .pre .1) (c .before .loop .l + 1) (omega (arith, is-location))
+
+  next-small : getD places (c .before .loop .l + 1) 0 ≤ 1536
+  next-small = place-small model (start .args .table .now) (start .pre .0) places (start .pre .1) (c .before .loop .l + 1) (omega (arith, is-location))
+
+mul-before : tie.Need-mul-before Inv-loop μ-loop
+mul-before c = record { fits = omega (arith, few c) }
+
+shared-slice-read-before : tie.Need-shared-slice-read-before Inv-loop μ-loop
+shared-slice-read-before c = before-there (c .before)
+
+piece-at-requires : tie.Need-piece-at-requires Inv-loop μ-loop
+piece-at-requires c κs = (before-small (c .before), omega arith, n-small (c .before))
+
+add-piece-at : tie.Need-add-piece-at Inv-loop μ-loop
+add-piece-at c = omega (arith, few (c .before .before))
+
+mul-piece-at : tie.Need-mul-piece-at Inv-loop μ-loop
+mul-piece-at c = record { fits = omega (arith, few (c .before .before)) }
+
+shared-slice-read-piece-at : tie.Need-shared-slice-read-piece-at Inv-loop μ-loop
+shared-slice-read-piece-at c = next-there (c .before .before .before)
+
+piece-at-requires-2 : tie.Need-piece-at-requires-2 Inv-loop μ-loop
+piece-at-requires-2 c κs = (next-small (c .before .before .before), omega arith, n-small (c .before .before .before))
+
+-- its words
+module _ (c : tie.After-piece-at2 Inv-loop μ-loop) where
+  abbrev turn : tie.In-loop Inv-loop μ-loop
+  turn = c .before .before .before .before
+
+  at-is : c .before .before .piece-at .result ≡ pieceAt (model turn) (turn .before .loop .l) 0
+  at-is = place-is (model turn) (turn .before .loop .l) 0 (n-is turn) (start turn .pre .1 .each (turn .before .loop .l) (omega (arith, is-location turn))) (c .before .before .piece-at .ensures)
+
+  end-at : c .piece-at2 .result ≡ pieceAt (model turn) (turn .before .loop .l + 1) 0
+  end-at = place-is (model turn) (turn .before .loop .l + 1) 0 (n-is turn) (start turn .pre .1 .each (turn .before .loop .l + 1) (omega (arith, is-location turn))) (c .piece-at2 .ensures)
+
+  from : c .before .before .piece-at .result ≡ sumBelow (turn .before .loop .l) (locationWords (model turn))
+  from = location-from (model turn) (turn .before .loop .l) at-is end-at
+
+  to : c .piece-at2 .result ≡ c .before .before .piece-at .result + locationWords (model turn) (turn .before .loop .l)
+  to = location-to (model turn) (turn .before .loop .l) at-is end-at
+
+  inside : c .piece-at2 .result ≤ tableSize (model turn)
+  inside = omega (arith, to, location-inside (model turn) (turn .before .loop .l) at-is (is-location turn) refl)
+
+  small : c .piece-at2 .result ≤ 19968
+  small = omega (arith, inside, table-small (model turn) (start turn .args .table .now) (start turn .pre .0))
 
 mul-walls-location : tie.Need-mul-walls-location Inv-loop μ-loop
-mul-walls-location c = omega (arith, from c, to c, small c)
+mul-walls-location c = omega (arith, to c, small c)
 
 sub-walls-location : tie.Need-sub-walls-location Inv-loop μ-loop
 sub-walls-location c = omega (arith, to c)
@@ -69,58 +131,59 @@ part-walls-location-start c = omega (arith, to c)
 
 part-walls-location-end : tie.Need-part-walls-location-end Inv-loop μ-loop
 part-walls-location-end c =
+    let s = start (turn c) in
+    let a = s .args in
+    let m = a .model .now in
+    let t = a .table .now in
+    let i = turn c .before .loop in
+    omega (arith, inside c, s .pre .2, put-length (locationWords m) (locationsOf m t) (locations-sized m t) (a .out .now) (i .l) (i .inv .1) (table-within m (i .l) (i .inv .0) (s .pre .2)))
+
+walls-location-requires : tie.Need-walls-location-requires Inv-loop μ-loop
+walls-location-requires c κs =
+    let w = c .before in
+    let s = start (turn w) in
+    let a = s .args in
+    let m = a .model .now in
+    let t = a .table .now in
+    let i = turn w .before .loop in
+    let ok = s .pre .0 in
+    let u = is-location (turn w) in
+    (ok, u, s .pre .1 .each (i .l) (omega (arith, u)), place-length (locationWords m) (locationsOf m t) (locations-sized m t) (a .out .now) (i .l) (i .inv .1) (from w) (to w) (omega (arith, inside w, s .pre .2)))
+
+add-l : tie.Need-add-l Inv-loop μ-loop
+add-l c = omega (arith, few (turn (c .before .before .before)))
+
+loop-less : tie.Need-loop-less Inv-loop μ-loop
+loop-less c = omega (arith, turn (c .before .before .before) .loop-test .taken)
+
+loop-again : tie.Need-loop-again Inv-loop μ-loop
+loop-again c =
+    let w = c .before .before .before in
+    let s = start (turn w) in
+    let a = s .args in
+    let m = a .model .now in
+    let t = a .table .now in
+    let i = turn w .before .loop in
+    (omega (arith, is-location (turn w)), one-put (locationWords m) (locationsOf m t) (locations-sized m t) (a .out .now) (i .l) (i .inv .1) (from w) (to w) (omega (arith, inside w, s .pre .2)) (c .before .walls-location .ensures))
+
+same-length : tie.Need-same-length Inv-loop μ-loop
+same-length c =
     let s = c .before .before .before .before .before in
     let a = s .args in
     let m = a .model .now in
     let t = a .table .now in
-    let i = c .before .before .before .loop in
-    omega (arith, inside c, s .pre .1, put-length (wordsPerLocation (n# m)) (locationsOf m t) (locations-sized m t) (a .out .now) (i .l) (i .inv .1) (omega (arith, from c, to c, inside c, s .pre .1)))
-
-walls-location-requires : tie.Need-walls-location-requires Inv-loop μ-loop
-walls-location-requires c κs =
-    let s = c .before .before .before .before .before .before in
-    let a = s .args in
-    let m = a .model .now in
-    let t = a .table .now in
-    let ok = s .pre .0 in
-    let i = c .before .before .before .before .loop in
-    let w = c .before in
-    (ok, is-location (w .before .before), w .before .faces-at .ensures, place-length (wordsPerLocation (n# m)) (locationsOf m t) (locations-sized m t) (a .out .now) (i .l) (i .inv .1) (from w) (to w) (omega (arith, inside w, s .pre .1)))
-
-add-l : tie.Need-add-l Inv-loop μ-loop
-add-l c = omega (arith, is-location (c .before .before .before .before .before), whole-at (c .before .before .before .before .before .before .before .before) .head .L-small)
-
-loop-less : tie.Need-loop-less Inv-loop μ-loop
-loop-less c = omega (arith, c .before .before .before .before .before .loop-test .taken)
-
-loop-again : tie.Need-loop-again Inv-loop μ-loop
-loop-again c =
-    let s = c .before .before .before .before .before .before .before .before in
-    let a = s .args in
-    let m = a .model .now in
-    let t = a .table .now in
-    let i = c .before .before .before .before .before .before .loop in
-    let w = c .before .before .before in
-    (omega (arith, is-location (w .before .before)), one-put (wordsPerLocation (n# m)) (locationsOf m t) (locations-sized m t) (a .out .now) (i .l) (i .inv .1) (from w) (to w) (omega (arith, inside w, s .pre .1)) (c .before .walls-location .ensures))
-
-same-length : tie.Need-same-length Inv-loop μ-loop
-same-length c =
-    let s = c .before .before .before in
-    let a = s .args in
-    let m = a .model .now in
-    let t = a .table .now in
     let i = c .before .loop in
-    put-length (wordsPerLocation (n# m)) (locationsOf m t) (locations-sized m t) (a .out .now) (i .l) (i .inv .1) (table-within m (i .l) (i .inv .0) (s .pre .1))
+    put-length (locationWords m) (locationsOf m t) (locations-sized m t) (a .out .now) (i .l) (i .inv .1) (table-within m (i .l) (i .inv .0) (s .pre .2))
 
 returns : tie.Need-returns Inv-loop μ-loop
 returns c =
-    let s = c .before .before .before in
+    let s = c .before .before .before .before .before in
     let a = s .args in
     let m = a .model .now in
     let t = a .table .now in
     let i = c .before .loop in
     let e : i .l ≡ L# m = omega (arith, i .inv .0, c .loop-test .left, c .before .before .locations .ensures) in
-    all-put (wordsPerLocation (n# m)) (locationsOf m t) (locations-sized m t) (a .out .now) (L# m) (i .inv .1 ∙ ap (λ (k : ℕ). onto (cat k (locationsOf m t)) (a .out .now)) e) (table-sized m (s .pre .1)) ∙ all-locations m t
+    all-put (locationWords m) (locationsOf m t) (locations-sized m t) (a .out .now) (L# m) (i .inv .1 ∙ ap (λ (k : ℕ). onto (cat k (locationsOf m t)) (a .out .now)) e) (table-sized m (s .pre .2)) ∙ all-locations m t
 
 pub walls-spec : {M : Type 1} → statement M
 walls-spec =
@@ -128,11 +191,16 @@ walls-spec =
     (tie.spec
     Inv-loop
     μ-loop
+    variables-requires
     locations-requires
     loop-holds
-    faces-at-requires
-    add-faces-at
-    faces-at-requires-2
+    mul-before
+    shared-slice-read-before
+    piece-at-requires
+    add-piece-at
+    mul-piece-at
+    shared-slice-read-piece-at
+    piece-at-requires-2
     mul-walls-location
     sub-walls-location
     part-walls-location-start

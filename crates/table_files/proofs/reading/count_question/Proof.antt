@@ -1,7 +1,6 @@
 -- The head field, then the count in it.
-use mathlib.Core.Bool.{Bool}
 use mathlib.Core.Path.{_≡_, sym, ap, ap₂, _∙_}
-use Prim.Native.Nat.{ℕ, _+_, _*_}
+use Prim.Native.Nat.{ℕ}
 use native.Mathlib.Omega.{arith}
 use borrow.Author.Tests.{not-true, not-false}
 use borrow.Author.Needs.{needs}
@@ -10,7 +9,7 @@ use Rattle.integers.specs.Words.{within}
 use Rattle.wire.specs.Bytes.{wordAt}
 use Rattle.wire.specs.Fields.{fieldAt, isField}
 use Rattle.wire.specs.declared.Field.{Field}
-use Rattle.table_files.proofs.TableWriting.{most-few}
+use Rattle.table_files.proofs.TableWriting.{pieces-few}
 use Rattle.table_files.proofs.TableReading.{count-refused, head-there, count-asked}
 use Rattle.table_files.proofs.reading.count_question.Statement.{statement}
 use Rattle.table_files.proofs.reading.count_question.Tie as tie
@@ -31,29 +30,19 @@ is-field-requires c κs = search needs
 returns : tie.Need-returns
 returns c = count-refused _ _ (tested (c .before) ∙ not-true _ (c .if1 .taken))
 
-variables-requires : tie.Need-variables-requires
-variables-requires c κs = search needs
-
-mul-most : tie.Need-mul-most
-mul-most c = search needs
-
-locations-requires : tie.Need-locations-requires
-locations-requires c κs = search needs
-
-mul-most-2 : tie.Need-mul-most-2
-mul-most-2 c = record { fits = omega (arith, most-few _ (c .before .before .before .before .before .before .before .pre) (c .locations .ensures) (c .before .variables .ensures)) }
+piece-count-requires : tie.Need-piece-count-requires
+piece-count-requires c κs = search needs
 
 number-within-requires : tie.Need-number-within-requires
-number-within-requires c κs =
-    (head-there (c .before .before .before .before .before .before .before .args .model .now) _ (tested (c .before .before .before) ∙ not-false _ (c .before .before .if1 .left)), most-few _ (c .before .before .before .before .before .before .before .pre) (c .locations .ensures) (c .before .variables .ensures))
+number-within-requires c κs = (head-there (c .before .before .before .before .before .before .args .model .now) _ (tested (c .before .before) ∙ not-false _ (c .before .if1 .left)), omega (arith, c .piece-count .ensures, pieces-few _ (c .before .before .before .before .before .before .pre)))
 
 ask-requires : tie.Need-ask-requires
 ask-requires c κs = search needs
 
 returns-2 : tie.Need-returns-2
 returns-2 c =
-    let most = ap₂ (λ (l n : ℕ). within (pos 0) (pos (2 * n * l)) (wordAt (c .before .before .before .before .before .before .before .before .before .args .file .now) 3)) (c .before .before .locations .ensures) (c .before .before .before .variables .ensures) in
-    count-asked _ _ (tested (c .before .before .before .before .before) ∙ not-false _ (c .before .before .before .before .if1 .left)) (sym (c .before .number-within .ensures ∙ most)) (c .ask .ensures)
+    let most = ap (λ (k : ℕ). within (pos 0) (pos k) (wordAt (c .before .before .before .before .before .before .before .before .args .file .now) 3)) (c .before .before .piece-count .ensures) in
+    count-asked _ _ (tested (c .before .before .before .before) ∙ not-false _ (c .before .before .before .if1 .left)) (sym (c .before .number-within .ensures ∙ most)) (c .ask .ensures)
 
 pub count-question-spec : {M : Type 1} → statement M
 count-question-spec =
@@ -63,10 +52,7 @@ count-question-spec =
     payload-length-requires
     is-field-requires
     returns
-    variables-requires
-    mul-most
-    locations-requires
-    mul-most-2
+    piece-count-requires
     number-within-requires
     ask-requires
     returns-2)

@@ -1,27 +1,46 @@
--- Location and face exist; then the key is compared.
+-- Location, face and piece exist; then the key is compared.
 use mathlib.Core.Path.{_≡_, sym, ap, _∙_}
+use mathlib.Core.Bool.{true}
 use Prim.Native.Nat.{ℕ, _*_, _-_}
+use native.Mathlib.Omega.{arith}
 use borrow.Author.Tests.{not-true, not-false}
 use borrow.Author.Needs.{needs}
-use lib.IntN.{pos}
+use lib.IntN.{pos, natAbs}
 use Rattle.integers.specs.Words.{within}
+use Rattle.integers.proofs.Tests.{true-is}
+use Rattle.integers.proofs.Counted.{within-abs}
 use Rattle.plant.specs.Model.{n#, L#}
-use Rattle.table_files.specs.TableRoom.{locationWord, faceWord}
-use Rattle.table_files.proofs.TableReading.{place-no-location, place-no-face, place-by-key, key-there}
+use Rattle.plant.specs.Pieces.{perFace}
+use Rattle.plant.proofs.Passed.{within-nonneg}
+use Rattle.plant.proofs.Pieces.{per-face-most}
+use Rattle.table_files.specs.TableRoom.{locationWord, faceWord, indexWord}
+use Rattle.table_files.proofs.PlaceWords.{place-least, per-face-least}
+use Rattle.table_files.proofs.TableReading.{place-no-location, place-no-face, place-no-piece, place-by-key, key-there}
 use Rattle.table_files.proofs.reading.place_ok.Statement.{statement}
 use Rattle.table_files.proofs.reading.place_ok.Tie as tie
 
--- the two tests
+-- the three tests
 location-tested : (c : tie.After-number-within) → let a = c .before .before .before .before .args in within (pos 0) (pos (L# (a .model .now) - 1)) (locationWord (a .file .now) (a .start)) ≡ c .number-within .result
 location-tested c = let a = c .before .before .before .before .args in
     sym (c .number-within .ensures ∙ ap (λ (x : ℕ). within (pos 0) (pos (x - 1)) (locationWord (a .file .now) (a .start))) (c .before .locations .ensures))
 
-face-tested : (c : tie.After-number-within2) → let a = c .before .before .before .before .before .before .args in within (pos 0) (pos (2 * n# (a .model .now) - 1)) (faceWord (a .file .now) (a .start)) ≡ c .number-within2 .result
-face-tested c = let a = c .before .before .before .before .before .before .args in
-    sym (c .number-within2 .ensures ∙ ap (λ (x : ℕ). within (pos 0) (pos (2 * x - 1)) (faceWord (a .file .now) (a .start))) (c .before .before .before .before .variables .ensures))
+face-tested : (c : tie.After-number-within2) → let a = c .before .before .before .before .before .before .before .args in within (pos 0) (pos (2 * n# (a .model .now) - 1)) (faceWord (a .file .now) (a .start)) ≡ c .number-within2 .result
+face-tested c = let a = c .before .before .before .before .before .before .before .args in
+    sym (c .number-within2 .ensures ∙ ap (λ (x : ℕ). within (pos 0) (pos (2 * x - 1)) (faceWord (a .file .now) (a .start))) (c .before .variables .ensures))
 
-variables-requires : tie.Need-variables-requires
-variables-requires c κs = search needs
+piece-tested : (c : tie.After-index-within) → let a = c .before .before .before .before .before .before .before .before .before .before .before .args in within (pos 0) (pos (perFace (a .model .now) (natAbs (locationWord (a .file .now) (a .start))) - 1)) (indexWord (a .file .now) (a .start) (a .width)) ≡ c .index-within .result
+piece-tested c = let a = c .before .before .before .before .before .before .before .before .before .before .before .args in
+    sym (c .index-within .ensures ∙ ap (λ (x : ℕ). within (pos 0) (pos (x - 1)) (indexWord (a .file .now) (a .start) (a .width))) (c .before .per-face .ensures ∙ ap (perFace (a .model .now)) (c .before .before .number-at .ensures)))
+
+-- which said yes
+is-location : (c : tie.Else1) → let a = c .before .before .before .before .before .args in within (pos 0) (pos (L# (a .model .now) - 1)) (locationWord (a .file .now) (a .start)) ≡ true
+is-location c = location-tested (c .before) ∙ not-false _ (c .if1 .left)
+
+is-face : (c : tie.Else2) → let a = c .before .before .before .before .before .before .before .before .args in within (pos 0) (pos (2 * n# (a .model .now) - 1)) (faceWord (a .file .now) (a .start)) ≡ true
+is-face c = face-tested (c .before) ∙ not-false _ (c .if2 .left)
+
+is-piece : (c : tie.Else3) → let a = c .before .before .before .before .before .before .before .before .before .before .before .before .args in within (pos 0) (pos (perFace (a .model .now) (natAbs (locationWord (a .file .now) (a .start))) - 1)) (indexWord (a .file .now) (a .start) (a .width)) ≡ true
+is-piece c = piece-tested (c .before) ∙ not-false _ (c .if3 .left)
 
 locations-requires : tie.Need-locations-requires
 locations-requires c κs = search needs
@@ -30,45 +49,68 @@ sub-number-within : tie.Need-sub-number-within
 sub-number-within c = search needs
 
 number-within-requires : tie.Need-number-within-requires
-number-within-requires c κs = search needs
+number-within-requires c κs = (omega (arith, c .before .before .before .pre .1, c .before .before .before .pre .0 .width-is, place-least (c .before .before .before .args .model .now)), omega (arith, c .locations .ensures, c .before .before .before .pre .0 .whole .head .L-small))
 
 returns : tie.Need-returns
 returns c = place-no-location _ _ _ _ (location-tested (c .before) ∙ not-true _ (c .if1 .taken))
 
+variables-requires : tie.Need-variables-requires
+variables-requires c κs = search needs
+
+mul-faces : tie.Need-mul-faces
+mul-faces c = search needs
+
 add-number-within : tie.Need-add-number-within
 add-number-within c = search needs
-
-mul-number-within : tie.Need-mul-number-within
-mul-number-within c = search needs
 
 sub-number-within-2 : tie.Need-sub-number-within-2
 sub-number-within-2 c = search needs
 
 number-within-requires-2 : tie.Need-number-within-requires-2
-number-within-requires-2 c κs = search needs
+number-within-requires-2 c κs = (omega (arith, c .before .before .before .before .before .before .pre .1, c .before .before .before .before .before .before .pre .0 .width-is, place-least (c .before .before .before .before .before .before .args .model .now)), omega (arith, c .variables .ensures, c .before .before .before .before .before .before .pre .0 .whole .head .n-small))
 
 returns-2 : tie.Need-returns-2
-returns-2 c = place-no-face _ _ _ _ (location-tested (c .before .before .before) ∙ not-false _ (c .before .before .if1 .left)) (face-tested (c .before) ∙ not-true _ (c .if2 .taken))
+returns-2 c = place-no-face _ _ _ _ (is-location (c .before .before .before)) (face-tested (c .before) ∙ not-true _ (c .if2 .taken))
 
-key-at-requires : tie.Need-key-at-requires
-key-at-requires c κs = key-there _ _ _ (c .before .before .before .before .before .before .before .pre .0) (c .before .before .before .before .before .before .before .pre .1) (location-tested (c .before .before .before) ∙ not-false _ (c .before .before .if1 .left)) (face-tested (c .before) ∙ not-false _ (c .if2 .left)) (c .before .before .before .before .before .variables .ensures)
+number-at-requires : tie.Need-number-at-requires
+number-at-requires c κs = (omega (arith, c .before .before .before .before .before .before .before .before .pre .1, c .before .before .before .before .before .before .before .before .pre .0 .width-is, place-least (c .before .before .before .before .before .before .before .before .args .model .now)), within-nonneg (L# (c .before .before .before .before .before .before .before .before .args .model .now) - 1) (locationWord (c .before .before .before .before .before .before .before .before .args .file .now) (c .before .before .before .before .before .before .before .before .args .start)) (true-is (is-location (c .before .before .before))))
+
+per-face-requires : tie.Need-per-face-requires
+per-face-requires c κs = (c .before .before .before .before .before .before .before .before .before .pre .0 .whole, omega (arith, c .number-at .ensures, within-abs (locationWord (c .before .before .before .before .before .before .before .before .before .args .file .now) (c .before .before .before .before .before .before .before .before .before .args .start)) (L# (c .before .before .before .before .before .before .before .before .before .args .model .now) - 1) (true-is (is-location (c .before .before .before .before))), c .before .before .before .before .before .before .before .before .before .pre .0 .whole .head .L-positive))
+
+sub-index-within : tie.Need-sub-index-within
+sub-index-within c = omega (arith, c .per-face .ensures, per-face-least (c .before .before .before .before .before .before .before .before .before .before .args .model .now) (c .before .number-at .result))
+
+index-within-requires : tie.Need-index-within-requires
+index-within-requires c κs = (c .before .before .before .before .before .before .before .before .before .before .pre .1, omega (arith, c .per-face .ensures, per-face-most (c .before .before .before .before .before .before .before .before .before .before .args .model .now) (c .before .number-at .result)))
 
 returns-3 : tie.Need-returns-3
-returns-3 c = place-by-key _ _ _ _ (location-tested (c .before .before .before .before) ∙ not-false _ (c .before .before .before .if1 .left)) (face-tested (c .before .before) ∙ not-false _ (c .before .if2 .left)) (c .before .before .before .before .before .before .variables .ensures) (c .key-at .ensures)
+returns-3 c = place-no-piece _ _ _ _ (is-location (c .before .before .before .before .before .before .before)) (is-face (c .before .before .before .before)) (c .before .before .before .before .before .before .before .before .before .before .before .before .pre .0 .width-is) (piece-tested (c .before) ∙ not-true _ (c .if3 .taken))
+
+key-at-requires : tie.Need-key-at-requires
+key-at-requires c κs = key-there _ _ _ (c .before .before .before .before .before .before .before .before .before .before .before .before .args .least) (is-location (c .before .before .before .before .before .before .before)) (is-face (c .before .before .before .before)) (c .before .before .before .before .before .before .before .before .before .before .before .before .pre .0 .width-is) (c .before .before .before .before .before .before .before .before .before .before .before .before .pre .0) (c .before .before .before .before .before .before .before .before .before .before .before .before .pre .1) (is-piece c)
+
+returns-4 : tie.Need-returns-4
+returns-4 c = place-by-key _ _ _ _ (is-location (c .before .before .before .before .before .before .before .before)) (is-face (c .before .before .before .before .before)) (c .before .before .before .before .before .before .before .before .before .before .before .before .before .pre .0 .width-is) (is-piece (c .before)) (c .key-at .ensures)
 
 pub place-ok-spec : {M : Type 1} → statement M
 place-ok-spec =
     tie.close
     (tie.spec
-    variables-requires
     locations-requires
     sub-number-within
     number-within-requires
     returns
+    variables-requires
+    mul-faces
     add-number-within
-    mul-number-within
     sub-number-within-2
     number-within-requires-2
     returns-2
+    number-at-requires
+    per-face-requires
+    sub-index-within
+    index-within-requires
+    returns-3
     key-at-requires
-    returns-3)
+    returns-4)

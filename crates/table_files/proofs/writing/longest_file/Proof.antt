@@ -1,46 +1,39 @@
--- A field for each face, behind the head field.
-use mathlib.Core.Path.{_≡_, ap₂, _∙_}
+-- A field for each piece, behind the head field.
 use native.Mathlib.Omega.{arith}
 use borrow.Author.Needs.{needs}
-use Rattle.table_files.proofs.TableWriting.{faces-fit, longest-made}
+use Rattle.table_files.proofs.TableWriting.{pieces-few, sizes-fit, size-few, longest-made}
 use Rattle.table_files.proofs.writing.longest_file.Statement.{statement}
 use Rattle.table_files.proofs.writing.longest_file.Tie as tie
+
+place-size-requires : tie.Need-place-size-requires
+place-size-requires c κs = search needs
 
 variables-requires : tie.Need-variables-requires
 variables-requires c κs = search needs
 
-locations-requires : tie.Need-locations-requires
-locations-requires c κs = search needs
+field-size-requires : tie.Need-field-size-requires
+field-size-requires c κs = sizes-fit _ (c .before .before .pre) (c .before .place-size .ensures) (c .variables .ensures)
 
-mul-faces : tie.Need-mul-faces
-mul-faces c = search needs
+pieces-from-requires : tie.Need-pieces-from-requires
+pieces-from-requires c κs = search needs
 
-mul-faces-2 : tie.Need-mul-faces-2
-mul-faces-2 c = record { fits = omega (arith, faces-fit _ (c .before .before .pre) (c .locations .ensures) (c .before .variables .ensures)) }
-
-faces-from-requires : tie.Need-faces-from-requires
-faces-from-requires c κs = search needs
-
-face-field-size-requires : tie.Need-face-field-size-requires
-face-field-size-requires c κs = search needs
+piece-count-requires : tie.Need-piece-count-requires
+piece-count-requires c κs = search needs
 
 field-place-requires : tie.Need-field-place-requires
-field-place-requires c κs =
-    (omega (arith, c .before .faces-from .ensures), omega (arith, c .face-field-size .ensures, c .before .before .before .variables .ensures, c .before .before .before .before .pre .n-small), faces-fit _ (c .before .before .before .before .pre) (c .before .before .locations .ensures) (c .before .before .before .variables .ensures))
+field-place-requires c κs = (omega (arith, c .before .pieces-from .ensures), omega (arith, size-few _ (c .before .before .before .before .before .pre) (c .before .before .before .before .place-size .ensures) (c .before .before .before .variables .ensures) (c .before .before .field-size .ensures)), omega (arith, c .piece-count .ensures, pieces-few _ (c .before .before .before .before .before .pre)))
 
 returns : tie.Need-returns
-returns c =
-    longest-made _ (c .before .before .before .before .before .pre) (c .before .before .before .locations .ensures) (c .before .before .before .before .variables .ensures) (c .before .before .faces-from .ensures) (c .before .face-field-size .ensures) (c .field-place .ensures)
+returns c = longest-made _ (c .before .before .before .before .before .before .pre) (c .before .before .before .before .before .place-size .ensures) (c .before .before .before .before .variables .ensures) (c .before .before .pieces-from .ensures) (c .before .before .before .field-size .ensures) (c .before .piece-count .ensures) (c .field-place .ensures)
 
 pub longest-file-spec : {M : Type 1} → statement M
 longest-file-spec =
     tie.close
     (tie.spec
+    place-size-requires
     variables-requires
-    locations-requires
-    mul-faces
-    mul-faces-2
-    faces-from-requires
-    face-field-size-requires
+    field-size-requires
+    pieces-from-requires
+    piece-count-requires
     field-place-requires
     returns)
