@@ -74,7 +74,7 @@
  *                             box, reset box
  *                 forbidden   location, box
  *                 cut         one for each location: variable and value, or -1 and 0 where the
- *                             location is not cut
+ *                             location is not cut (always there: two zeros are a cut, not none)
  *     Wall      Wall (d, side) of a location is the low or high end of d in its invariant. Its face
  *               has the number 2d + side.
  *     Cut       The value lies strictly inside the location's invariant. Each face of a cut
@@ -348,7 +348,7 @@ uint32_t qii_write_table(const int32_t *model, size_t model_len, const int32_t *
 enum qii_answer {
     /* No run meets a forbidden box; the table is accepted; what was to be read or written is. */
     QII_SAFE = 100,
-    /* A part of the table touches a forbidden box. */
+    /* A part of the table touches a forbidden box. With other cuts the plant may be safe. */
     QII_UNKNOWN = 101,
     /* The limit came before an answer. */
     QII_UNFINISHED = 102
@@ -477,10 +477,10 @@ enum qii_refusal {
 #define QII_TABLE_BYTES_MAX 96775
 
 /* The stack of a thread that makes any call, and of one that makes any but decide and check. Of it
-   decide and check use 201,000 bytes, qii_check 88,000, each of the others less than 3,000 (measured
-   by tests/c/stack.c); the rest is for the thread itself and for the caller. */
-#define QII_STACK_BYTES (256 * 1024)
-#define QII_STACK_BYTES_ON_WORDS (128 * 1024)
+   decide and check use 281,000 bytes, qii_check 127,000, each of the others less than 3,000
+   (measured by tests/c/stack.c); the rest is for the thread itself and for the caller. */
+#define QII_STACK_BYTES (320 * 1024)
+#define QII_STACK_BYTES_ON_WORDS (160 * 1024)
 
 /* The code in decide's number: of enum qii_answer or enum qii_refusal. */
 static inline uint32_t qii_code(uint64_t decided)

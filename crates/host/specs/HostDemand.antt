@@ -72,7 +72,7 @@ pub record HostDemand : Type 0 where
   pub model-passes : (m : List ℤ) → modelQuestions m ≡ 0 → AreWords m → (modelFileQuestions (modelFile m) ≡ 0) × (modelOf (modelFile m) ≡ take (modelSize m) m)
   -- and bytes that pass are the file of the model that they are taken for
   pub is-model : (s : List ℕ) → AreBytes s → modelFileQuestions s ≡ 0 → IsModelFile s (modelOf s)
-  -- no model file is longer than 28,947 bytes, and 45,319 bytes are room for every table file
+  -- no model file is longer than 29,907 bytes, and 96,775 bytes are room for every table file
   pub longest-model : (s : List ℕ) → modelFileQuestions s ≡ 0 → length s ≤ 29907
   pub longest-table : (s : List ℕ) → modelFileQuestions s ≡ 0 → longestTableFile (modelOf s) ≤ 96775
   -- whatever table file check accepts, no run of the model meets a forbidden box

@@ -17,7 +17,7 @@ use Rattle.table_files.specs.TableFile.{tableFile, tableFileQuestions, fileTabl
 unfoldable pub modelOf : List ℕ → List ℤ
 modelOf s = fileWords s (headWords s)
 
--- the questions of a model file without 5: 1 to 4, then 6 to 8 and 11 to 19
+-- the questions of a model file without 5: 1 to 4, then 6 to 8 and 46 of the fields, 11 to 19 and 46 of the words
 unfoldable pub modelFileQuestions : List ℕ → ℕ
 modelFileQuestions s = headQuestions s then recordsFileQuestions s (headWords s)
 

@@ -1,6 +1,6 @@
-// The listing program: reads a model file from standard input, and writes its answer and the faces of the answer's table
+// The listing program: reads a model file from standard input, and writes its answer and the pieces of the answer's table
 // (document 01, "Plant P and other cases"). Decide gives both, the table as a file. That file's fields are the lines, so which
-// faces are present, how many and in which order is proved where the file is written.
+// pieces are present, how many and in which order is proved where the file is written.
 ghost use mathlib.Core.Path.{_≡_};
 ghost use Prim.Native.Nat.{ℕ, _+_, _≤_, _<_};
 ghost use lib.ListN.{length};
@@ -71,11 +71,11 @@ fn print_line(file: &[u8], from: usize, count: usize)
     }
 }
 
-// How many words the first field of a table's file has: the count of its faces.
+// How many words the first field of a table's file has: the count of its pieces.
 const COUNT_SIZE: usize = 1;
 
 // A line for each of as many fields of a table's file behind the first.
-fn print_faces(file: &[u8], count: u64) {
+fn print_pieces(file: &[u8], count: u64) {
     let mut at = wire::field_length(COUNT_SIZE);
     let mut i: u64 = 0;
     while i < count {
@@ -95,13 +95,13 @@ fn print_faces(file: &[u8], count: u64) {
     }
 }
 
-// How many faces a table's file has, which its first field says, as the end of line one; then their lines.
+// How many pieces a table's file has, which its first field says, as the end of line one; then their lines.
 fn print_table(file: &[u8])
     requires { ⌜ fieldLength 1 ≤ length (now file) ⌝ }
 {
     print_line(file, wire::HEADER_SIZE, COUNT_SIZE);
-    let faces = integers::magnitude(wire::word_at(file, wire::HEADER_SIZE) as i64);
-    print_faces(file, faces);
+    let pieces = integers::magnitude(wire::word_at(file, wire::HEADER_SIZE) as i64);
+    print_pieces(file, pieces);
 }
 
 // The word for an answer's code.
@@ -130,7 +130,7 @@ fn print_listing(number: u64, table: &[u8])
 }
 
 fn main() {
-    // One byte more than the longest model file has is read, so that every longer file is refused by 8 if by nothing before.
+    // One byte more than the longest model file has is read, so that every longer file is refused, by 8 or 46 if by nothing before.
     let mut model = [0u8; host::LONGEST_MODEL_FILE + 1];
     let n = io::read_full(STDIN_FILENO, &mut model);
     let mut table = [0u8; host::LONGEST_TABLE_FILE];

@@ -5,3 +5,4 @@ pub mod Cases
 pub mod ModelReading
 pub mod Beginning
 pub mod ModelRoundTrip
+pub mod UncutFile

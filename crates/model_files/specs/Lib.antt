@@ -1,3 +1,4 @@
 pub mod ModelFile
 pub mod Room
 pub mod ModelFilesExact
+pub mod UncutFile

@@ -1,7 +1,6 @@
 -- Lists that stand one after the other, of which some are replaced, or the next one is put after those before it.
 use mathlib.Core.Path.{_≡_, refl, sym, ap, ap₂, _∙_}
-use mathlib.Core.Logic.{⊎-elim}
-use mathlib.Core.List.{List, [], _++_, append-assoc, append-nil}
+use mathlib.Core.List.{List, _++_, append-assoc, append-nil}
 use Prim.Native.Nat.{ℕ, zero, suc, _+_, _*_, _-_, _<_, _≤_}
 use native.Mathlib.Omega.{arith}
 use lib.IntN.{ℤ}
@@ -10,7 +9,6 @@ use lib.Seq.{take-at, drop-at, drop-drop}
 use borrow.Rule.Slice.PartMut.{midOf, putMid, mid-len}
 use Rattle.integers.specs.Words.{onto}
 use Rattle.integers.specs.Counted.{cat, sumBelow}
-use Rattle.integers.proofs.Counted.{split}
 use Rattle.integers.proofs.Buffers.{onto-none, onto-all, length-onto, cat-none, cat-more, length-cat-sum, cat-ext}
 
 -- a part in a list that is put together

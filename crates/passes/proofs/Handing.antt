@@ -93,7 +93,7 @@ module _ (n : ℕ) (inv rate part : List ℤ) (variable value : ℤ) (block : Li
     part-joins e = e ∙ ap partJoined (ap present is-box ∙ sym (read-present n part flag))
 
 module _ (n mask : ℕ) (guard reset inv from : List ℤ) (d : ℕ) (variable value : ℤ) (pieces : List ℤ) (ok : SwitchJoin n guard reset inv from variable value pieces) where
-  abbrev switchJoined : Face → List ℤ
+  abbrev pub switchJoined : Face → List ℤ
   switchJoined g = joinedEach n (piecesPerFace (cutFrom variable value)) pieces (cutEach n (cutFrom variable value) d g)
 
   from-absent : switchStep n mask guard reset inv absent ≡ absent

@@ -16,12 +16,12 @@ use Rattle.integers.proofs.Counted.{sum-part}
 use Rattle.integers.proofs.Buffers.{length-cat-sum, cat-ext}
 use Rattle.plant.specs.Box.{Face, absent, onBox, faceWords, join, joins}
 use Rattle.plant.specs.Model.{n#, L#, E#, source, target, wallVariable, targetSide, Cut, uncut, cutBy, cutOf, variableOf}
-use Rattle.plant.specs.Pieces.{Extent, extentBy, cutToExtent, piecesPerFace, perFace, pieces, pieceNumber, pieceFace, pieceExtent}
-use Rattle.plant.specs.Tables.{faceSize, pieceCount, tableSize, pieceAt, tableBy, pieceOf, targetFace, toPiece, switchOnto, wallsJoined, switchesJoined, newPiece, pass}
-use Rattle.plant.proofs.Boxes.{length-face}
+use Rattle.plant.specs.Pieces.{Extent, extentBy, cutToExtent, piecesPerFace, perFace, pieces, pieceNumber, pieceFace}
+use Rattle.plant.specs.Steps.{switchStep}
+use Rattle.plant.specs.Tables.{faceSize, pieceCount, tableSize, pieceAt, tableBy, pieceOf, partOf, sourcePiece, targetFace, switchStepAt, toPiece, switchOnto, wallsJoined, switchesJoined, newPiece, pass}
 use Rattle.plant.proofs.Pieces.{per-face-most, number-face, extent-number}
-use Rattle.plant.proofs.Tables.{locationWords, words-before, piece-place, location-length, words-ends, begins-itself, piece-read, piece-inside, table-ext, table-length}
-use Rattle.tables.specs.Room.{facesBy, AreFaces, joinedEach, cutEach}
+use Rattle.plant.proofs.Tables.{locationWords, words-before, piece-place, location-length, words-ends, begins-itself, piece-read, table-ext, table-length}
+use Rattle.tables.specs.Room.{facesBy, AreFaces, cutEach}
 use Rattle.tables.proofs.Faces.{join-absent}
 use Rattle.passes.specs.Joining.{IsTable, locationBy, landing, landedOn, withSwitch, joinedBelow}
 use Rattle.passes.proofs.Joined.{join-ends}
@@ -213,3 +213,33 @@ module _ (m t : List ℤ) where
       rw (h, add-one k) (table-ext m (λ l q. join (n# m) (pieceOf m (tableBy m g) l q) (switchOnto m t l q e k)) (joinedFrom m t e (suc k))
       (λ l q u v. ap (λ (x : Face). faceWords (n# m) (join (n# m) x (switchOnto m t l q e k))) (piece-read m (tableBy m g) g (begins-itself m g) l q u v)
       ∙ join-ends (n# m) (g l q) (switchOnto m t l q e k)))
+
+  -- from a face of one piece
+  pub from-one : (e : ℕ) → perFace m (source m e) ≡ 1 → {out : List ℤ} → out ≡ tableBy m (joinedBelow m t e) → withSwitch m t e 0 out ≡ tableBy m (joinedBelow m t (e + 1))
+  from-one e one h = from-more e 0 (h ∙ from-none e) ∙ ap (λ (k : ℕ). tableBy m (joinedFrom m t e k)) all ∙ from-all e
+    where
+      all : 0 + 1 ≡ perFace m (source m e)
+      all = omega (arith, one)
+
+-- ---- an absent piece lands nothing
+
+module _ (m t : List ℤ) (e k : ℕ) (gone : partOf m t (source m e) (sourcePiece m e k + 1) ≡ absent) where
+  piece-gone : pieceOf m t (source m e) (sourcePiece m e k) ≡ absent
+  unfolding partOf
+  piece-gone = ap (partOf m t (source m e)) (sym (add-one (sourcePiece m e k))) ∙ gone
+
+  onto-gone : (l q : ℕ) → switchOnto m t l q e k ≡ absent
+  unfolding switchOnto switchStepAt switchStep toPiece
+  onto-gone l q =
+      ap (λ (g : Face). cond (eqb (target m e) l && eqb (targetFace m e) (pieceFace m l q)) (toPiece m l q (switchStepAt m e g)) absent) piece-gone
+      ∙ either (eqb (target m e) l && eqb (targetFace m e) (pieceFace m l q))
+    where
+      either : (b : Bool) → cond b (toPiece m l q (switchStepAt m e absent)) absent ≡ absent
+      either true = refl
+      either false = refl
+
+  pub nothing-landed : {out : List ℤ} → IsTable m out → out ≡ withSwitch m t e k out
+  nothing-landed {out} is =
+      sym is
+      ∙ table-ext m (pieceOf m out) (λ l q. join (n# m) (pieceOf m out l q) (switchOnto m t l q e k))
+      (λ l q u v. ap (faceWords (n# m)) (sym (ap (join (n# m) (pieceOf m out l q)) (onto-gone l q) ∙ join-absent (n# m) (pieceOf m out l q))))

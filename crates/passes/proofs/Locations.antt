@@ -1,6 +1,6 @@
 -- Faces that stand one after the other: each is read back from its place, and there it is joined with what leads to it. In a
 -- location they are the pieces of its faces, as many for each.
-use mathlib.Core.Path.{_≡_, refl, sym, ap, _∙_}
+use mathlib.Core.Path.{_≡_, sym, ap, _∙_}
 use mathlib.Core.List.{List, _++_}
 use Prim.Native.Nat.{ℕ, _+_, _*_, _-_, _/_, _%_, _<_, _≤_}
 use native.Mathlib.Nat.{mul-le-mul, mul-le-mul-right}
@@ -46,9 +46,6 @@ module _ (n k : ℕ) (g : ℕ → Face) where
     pub each-joined : (h : ℕ → Face) → joinedEach n k words h ≡ facesBy n k (λ q. join n (g q) (h q))
     each-joined h = rw e (cat-ext k (λ q. faceWords n (join n (faceIn n (facesBy n k g) q) (h q))) (λ q. faceWords n (join n (g q) (h q)))
         (λ q u. ap (λ (x : Face). faceWords n (join n x (h q))) (face-back q u) ∙ join-ends n (g q) (h q)))
-
-pub words-length : (n k : ℕ) (words : List ℤ) → AreFaces n k words → length words ≡ k * faceSize n
-words-length n k words e = ap length (sym e) ∙ faces-length n k (faceIn n words)
 
 -- the same faces, joined with the same
 pub same-joined : (n k : ℕ) (words : List ℤ) (h h′ : ℕ → Face) → ((q : ℕ) → q < k → h q ≡ h′ q) → joinedEach n k words h ≡ joinedEach n k words h′

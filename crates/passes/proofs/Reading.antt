@@ -4,25 +4,24 @@ use mathlib.Core.Path.{_≡_, refl, sym, ap, _∙_}
 use mathlib.Core.Logic.{inl, inr, ⊎-elim}
 use mathlib.Core.List.{List}
 use Prim.Native.Nat.{ℕ, _+_, _*_, _<_, _≤_}
-use native.Mathlib.Nat.{mul-le-mul-right}
 use native.Mathlib.Numerals.{add-one}
 use native.Mathlib.Omega.{arith}
-use lib.IntN.{ℤ}
+use lib.IntN.{ℤ, pos, negsuc}
 use lib.ListN.{length, take, drop, getD}
 use Rattle.integers.specs.Words.{word}
 use Rattle.integers.specs.Counted.{cat, allBelow, sumBelow}
 use Rattle.integers.proofs.Tests.{true-is}
-use Rattle.integers.proofs.Counted.{split, all-yes, sum-part}
+use Rattle.integers.proofs.Counted.{split, all-yes, sum-back, sum-part, sum-same}
 use Rattle.integers.proofs.Buffers.{cat-parts, cat-ext}
 use Rattle.plant.specs.Box.{Face, faceWords, join, joins}
-use Rattle.plant.specs.Model.{n#, L#, E#, invariant, rate, source, target, wallVariable, resetMask, guard, reset, variableOf, sideOf, faceWall, cutVariable, cutValue, cutFrom, cutOf}
-use Rattle.plant.specs.Pieces.{piecesPerFace, perFace, pieces, pieceNumber, pieceFace, pieceIndex, pieceVariable, pieceWall, pieceExtent}
+use Rattle.plant.specs.Model.{n#, L#, E#, invariant, rate, source, target, wallVariable, resetMask, guard, reset, variableOf, sideOf, faceWall, cutVariable, cutValue, Cut, uncut, cutBy, cutFrom, cutOf}
+use Rattle.plant.specs.Pieces.{piecesPerFace, perFace, pieces, pieceFace, pieceIndex, pieceVariable, pieceWall, pieceExtent}
 use Rattle.plant.specs.Steps.{switchStep}
 use Rattle.plant.specs.Tables.{faceSize, piecesBefore, pieceCount, tableSize, pieceAt, tableBy, faceRead, pieceOf, pieceOk, tableOk, startPart, partOf, toPiece, wallStepAt, wallFrom, wallsJoined, switchStepAt, sourceFace, sourcePiece, targetFace}
-use Rattle.plant.proofs.Passed.{SwitchPassed, Passed, passed}
-use Rattle.plant.proofs.PieceCases.{before-more}
+use Rattle.plant.proofs.Passed.{SwitchPassed, IsUncut, CutPassed, Passed, passed}
+use Rattle.plant.proofs.PieceCases.{cut-some, two-per-face, before-more}
 use Rattle.plant.proofs.Pieces.{number-below}
-use Rattle.plant.proofs.Tables.{locationWords, words-before, piece-place, location-length, piece-inside, wordsOf}
+use Rattle.plant.proofs.Tables.{locationWords, words-before, piece-place, location-length, wordsOf}
 use Rattle.tables.specs.Places.{Places}
 use Rattle.tables.specs.Room.{AreFaces, joinedEach, cutEach, CutVariable}
 use Rattle.tables.proofs.Faces.{table-most}
@@ -33,7 +32,7 @@ use Rattle.records.proofs.Walls.{wall-at}
 use Rattle.model.proofs.Passing.{whole-passed, switch-placed}
 use Rattle.passes.specs.Checked.{Checked}
 use Rattle.passes.specs.Parts.{IsPart}
-use Rattle.passes.specs.Joining.{PartOk, piecesWith, PartJoin, SwitchJoin, wallsFrom, locationBy, landing, landedOn}
+use Rattle.passes.specs.Joining.{PartOk, Located, LandsOn, NoCut, piecesWith, PartJoin, SwitchJoin, wallsFrom, locationBy, landedOn}
 use Rattle.passes.proofs.PartWords.{levels-from, invariant-in, rate-in, piece-part, part-levels, is-part-ok}
 use Rattle.passes.proofs.Joined.{words-kept}
 use Rattle.passes.proofs.Locations.{are-faces, each-joined}
@@ -50,6 +49,41 @@ pub record LocationRead (m : List ℤ) (l n : ℕ) (inv rates : List ℤ) (varia
   pub rate-is : rates ≡ rate m l
   pub variable-is : variable ≡ cutVariable m l
   pub value-is : value ≡ cutValue m l
+
+-- the words of the cut of a location that passed its questions, by its number of pieces
+uncut-words : (m : List ℤ) (l : ℕ) → CutPassed m l → perFace m l ≡ 1 → IsUncut m l
+uncut-words m l ok e = ⊎-elim (λ h. h) (λ h. absurd (omega (arith, e, two-per-face m l (cut-some m l (h .not-negative))))) (ok .words)
+
+one-of : (n : ℕ) (c : Cut) → 1 ≤ n → 2 * n * piecesPerFace c ≡ 2 * n → piecesPerFace c ≡ 1
+unfolding piecesPerFace
+one-of n uncut u e = refl
+one-of n (cutBy v x) u e = absurd (omega arith)
+
+at-least : (n : ℕ) (c : Cut) → 2 * n ≤ 2 * n * piecesPerFace c
+unfolding piecesPerFace
+at-least n uncut = omega arith
+at-least n (cutBy v x) = omega arith
+
+-- of a model with 2n pieces for each location none is cut
+pub no-cut : (m : List ℤ) → 1 ≤ n# m → piecesBefore m (L# m) ≡ 2 * n# m * L# m → NoCut m
+unfolding piecesBefore pieces perFace
+no-cut m u e = record {
+  one-each = λ l v.
+      let a : 2 * n# m ≤ pieces m l = at-least (n# m) (cutOf m l) in
+      let b : pieces m l ≤ 2 * n# m = sum-back (L# m) (λ l. 2 * n# m) (pieces m) (λ l _. at-least (n# m) (cutOf m l)) (omega (arith, e, sum-same (L# m) (2 * n# m))) l v in
+      one-of (n# m) (cutOf m l) u (omega arith);
+}
+
+module _ (m : List ℤ) (l : ℕ) {n count : ℕ} (k : Located m l n count) (e : count ≡ 2 * n) where
+  one-piece : perFace m l ≡ 1
+  unfolding pieces perFace
+  one-piece = one-of (n# m) (cutOf m l) (passed m (k .passes) .n-positive) (sym (k .count-is) ∙ e ∙ ap (λ (x : ℕ). 2 * x) (k .n-is))
+
+  pub uncut-variable : cutVariable m l ≡ negsuc 0
+  uncut-variable = uncut-words m l (passed m (k .passes) .of-cut l (k .below)) one-piece .no-variable
+
+  pub uncut-value : cutValue m l ≡ pos 0
+  uncut-value = uncut-words m l (passed m (k .passes) .of-cut l (k .below)) one-piece .no-value
 
 module _ (m t : List ℤ) (ok : Checked m t) where
   pub model-passed : Passed m
@@ -149,6 +183,13 @@ module _ (m t : List ℤ) (ok : Checked m t) where
   pub target-face : (e : ℕ) → e < E# m → targetFace m e < 2 * n# m
   target-face e l = let p : Placed m e = placed e l in omega (arith, p .variable-is, p .target-side)
 
+  -- in a model without a cut it lands on a face of one piece
+  pub lands-uncut : NoCut m → (e : ℕ) → e < E# m → LandsOn m e (negsuc 0) (pos 0)
+  lands-uncut none e u =
+      let p : Placed m e = placed e u in
+      let w : IsUncut m (target m e) = uncut-words m (target m e) (model-passed .of-cut (target m e) (p .target-is)) (none .one-each (target m e) (p .target-is)) in
+      record { variable-is = sym (w .no-variable); value-is = sym (w .no-value) }
+
   module _ (e k : ℕ) (u : e < E# m) (v : k < perFace m (source m e)) {n : ℕ} {gs rs inv from : List ℤ} {variable value : ℤ} (n-is : n ≡ n# m) (guard-is : gs ≡ guard m e) (reset-is : rs ≡ reset m e) (inv-is : inv ≡ invariant m (target m e))
       (from-is : IsPart (n# m) from (partOf m t (source m e) (sourcePiece m e k + 1))) (variable-is : variable ≡ cutVariable m (target m e)) (value-is : value ≡ cutValue m (target m e)) where
     pub switch-join : {words : List ℤ} → AreFaces (n# m) (perFace m (target m e)) words → SwitchJoin n gs rs inv from variable value words
@@ -187,9 +228,6 @@ locations-sized m t l = location-length m (wallsJoined m t) l
 module _ (m t : List ℤ) (ok : Checked m t) where
   pub table-small : tableSize m ≤ 19968
   table-small = table-most m (whole m t ok .head)
-
-  pub piece-small : (l q : ℕ) → l < L# m → q < pieces m l → pieceAt m l q + faceSize (n# m) ≤ 19968
-  piece-small l q u v = omega (arith, piece-inside m l q u v, table-small)
 
 -- how many pieces stand before location l, as code has it
 module _ (m t : List ℤ) (ok : Checked m t) (places : List ℕ) (p : Places m places) (l : ℕ) (u : l ≤ L# m) where

@@ -7,7 +7,8 @@ use lib.IntN.{ℤ, pos}
 use lib.ListN.{length}
 use Rattle.integers.specs.Words.{word}
 use Rattle.plant.specs.Box.{boxAt, Face, onBox, join}
-use Rattle.plant.specs.Model.{n#, source, target, wallVariable, Cut, cutFrom, cutOf, variableOf}
+use Rattle.plant.specs.Model.{n#, L#, E#, source, target, wallVariable, cutVariable, cutValue, Cut, cutFrom, cutOf, variableOf}
+use Rattle.plant.specs.Questions.{modelQuestions}
 use Rattle.plant.specs.Pieces.{piecesPerFace, perFace, pieces}
 use Rattle.plant.specs.Steps.{wallStep}
 use Rattle.plant.specs.Tables.{faceSize, tableBy, pieceOf, sourcePiece, switchStepAt, switchOnto, switchesJoined}
@@ -60,6 +61,28 @@ pub record SwitchJoin (n : ℕ) (guard reset inv from : List ℤ) (variable valu
   pub from-ok : PartOk n from
   pub cut-words : CutVariable n variable
   pub are-pieces : AreFaces n (piecesPerFace (cutFrom variable value)) pieces
+
+-- what is known of location l by its number of pieces
+pub record Located (m : List ℤ) (l n count : ℕ) : Type 0 where
+  pub passes : modelQuestions m ≡ 0
+  pub below : l < L# m
+  pub n-is : n ≡ n# m
+  pub count-is : count ≡ pieces m l
+
+-- piece k of the face that switch e leaves, which has so many pieces
+pub record Leaves (m : List ℤ) (e count k : ℕ) : Type 0 where
+  pub is-switch : e < E# m
+  pub count-is : count ≡ perFace m (source m e)
+  pub is-piece : k < perFace m (source m e)
+
+-- the cut of the location on which switch e lands
+pub record LandsOn (m : List ℤ) (e : ℕ) (variable value : ℤ) : Type 0 where
+  pub variable-is : variable ≡ cutVariable m (target m e)
+  pub value-is : value ≡ cutValue m (target m e)
+
+-- no location is cut
+pub record NoCut (m : List ℤ) : Type 0 where
+  pub one-each : (l : ℕ) → l < L# m → perFace m l ≡ 1
 
 -- what the wall steps from a part give to each piece q of a location with the cut c
 abbrev pub wallsFrom : (n : ℕ) (inv rate : List ℤ) → Cut → Face → ℕ → Face

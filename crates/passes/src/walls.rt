@@ -4,14 +4,14 @@ ghost use mathlib.Core.Path.{_≡_};
 ghost use Prim.Native.Nat.{_*_, _<_};
 ghost use lib.ListN.{length};
 ghost use Rattle.plant.specs.Box.{present};
-ghost use Rattle.plant.specs.Model.{n#, L#, cutFrom};
+ghost use Rattle.plant.specs.Model.{n#, L#, cutVariable, cutValue, cutFrom};
 ghost use Rattle.plant.specs.Pieces.{piecesPerFace, pieces};
 ghost use Rattle.plant.specs.Steps.{wallStep};
 ghost use Rattle.plant.specs.Tables.{faceSize, piecesBefore, tableSize, faceRead, pieceOf, tableBy, wallsJoined};
 ghost use Rattle.tables.specs.Places.{Places};
 ghost use Rattle.tables.specs.Room.{joinedEach, cutEach};
 ghost use Rattle.passes.specs.Checked.{Checked};
-ghost use Rattle.passes.specs.Joining.{piecesWith, WallJoin, WallsJoin, PartJoin, wallsFrom, locationBy};
+ghost use Rattle.passes.specs.Joining.{Located, piecesWith, WallJoin, WallsJoin, PartJoin, wallsFrom, locationBy};
 use super::parts;
 
 // Joins to the pieces of a face the wall step from a box to the value b of variable d.
@@ -32,7 +32,12 @@ fn join_wall(
     let mut after = [0i32; 12];
     let end = 2 * n;
     if steps::wall_step(n, inv, rate, bounds, d, b, &mut after) {
-        tables::join_pieces(n, d, variable, value, &after[..end], pieces);
+        if integers::same(variable, -1) {
+            tables::join(n, &after[..end], pieces);
+        } else {
+            let v = integers::natural(variable);
+            tables::join_both(n, d, v, value, &after[..end], pieces);
+        }
     }
 }
 
@@ -96,18 +101,48 @@ fn join_part(
     }
 }
 
-// Joins to the pieces of location l, before which so many pieces stand in the table, the wall steps from all parts of the
-// location: its start box, and its pieces. The start box comes before the loop, so that the compiler keeps join_part as one
+// The words of the cut of location l with so many pieces: they are read only where it is cut.
+fn cut_variable(model: &[i32], l: usize, n: usize, count: usize) -> i32
+    requires { ⌜ Located (now model) l n count ⌝ }
+    ensures { λ r. ⌜ r ≡ cutVariable (now (model .entry)) l ⌝ }
+{
+    if count == 2 * n {
+        -1
+    } else {
+        records::cut_variable(model, l)
+    }
+}
+
+fn cut_value(model: &[i32], l: usize, n: usize, count: usize) -> i32
+    requires { ⌜ Located (now model) l n count ⌝ }
+    ensures { λ r. ⌜ r ≡ cutValue (now (model .entry)) l ⌝ }
+{
+    if count == 2 * n {
+        0
+    } else {
+        records::cut_value(model, l)
+    }
+}
+
+// Joins to the pieces of location l, `count` of them, before which so many stand in the table, the wall steps from all parts of
+// the location: its start box, and its pieces. The start box comes before the loop, so that the compiler keeps join_part as one
 // function.
-fn join_parts<'a>(model: &'a [i32], table: &'a [i32], l: usize, before: usize, block: &mut [i32])
-    requires { ⌜ Checked (now model) (now table) × (l < L# (now model)) × (before ≡ piecesBefore (now model) l) × (now block ≡ locationBy (now model) l (pieceOf (now model) (now table) l)) ⌝ }
+fn join_parts<'a>(
+    model: &'a [i32],
+    table: &'a [i32],
+    l: usize,
+    before: usize,
+    count: usize,
+    block: &mut [i32],
+)
+    requires { ⌜ Checked (now model) (now table) × (l < L# (now model)) × (before ≡ piecesBefore (now model) l) × (now block ≡ locationBy (now model) l (pieceOf (now model) (now table) l)) × (count ≡ pieces (now model) l) ⌝ }
     ensures { λ _. ⌜ now (block .exit) ≡ locationBy (now (model .entry)) l (wallsJoined (now (model .entry)) (now (table .entry)) l) ⌝ }
 {
     let n = records::variables(model);
     let inv = records::invariant(model, l);
     let rate = records::rate(model, l);
-    let variable = records::cut_variable(model, l);
-    let value = records::cut_value(model, l);
+    let variable = cut_variable(model, l, n, count);
+    let value = cut_value(model, l, n, count);
     join_part(
         n,
         inv,
@@ -117,7 +152,6 @@ fn join_parts<'a>(model: &'a [i32], table: &'a [i32], l: usize, before: usize, b
         value,
         block,
     );
-    let count = tables::pieces(model, l);
     let mut q = 0;
     while q < count {
         let piece = tables::face(table, tables::piece_at(before, q, n), n);
@@ -126,21 +160,22 @@ fn join_parts<'a>(model: &'a [i32], table: &'a [i32], l: usize, before: usize, b
     }
 }
 
-// The pieces of location l, before which so many pieces stand in the table, with all their wall steps.
+// The pieces of location l, `count` of them, before which so many stand in the table, with all their wall steps.
 fn walls_location<'a>(
     model: &'a [i32],
     table: &'a [i32],
     l: usize,
     before: usize,
+    count: usize,
     block: &mut [i32],
 )
-    requires { ⌜ Checked (now model) (now table) × (l < L# (now model)) × (before ≡ piecesBefore (now model) l) × (length (now block) ≡ pieces (now model) l * faceSize (n# (now model))) ⌝ }
+    requires { ⌜ Checked (now model) (now table) × (l < L# (now model)) × (before ≡ piecesBefore (now model) l) × (length (now block) ≡ pieces (now model) l * faceSize (n# (now model))) × (count ≡ pieces (now model) l) ⌝ }
     ensures { λ _. ⌜ now (block .exit) ≡ locationBy (now (model .entry)) l (wallsJoined (now (model .entry)) (now (table .entry)) l) ⌝ }
 {
     let at = tables::piece_at(before, 0, records::variables(model));
     let end = at + block.len();
     integers::copy(&table[at..end], block);
-    join_parts(model, table, l, before, block);
+    join_parts(model, table, l, before, count, block);
 }
 
 // The whole table.
@@ -153,9 +188,10 @@ pub fn walls<'a>(model: &'a [i32], places: &[usize], table: &'a [i32], out: &mut
     let mut l = 0;
     while l < locations {
         let before = places[l];
+        let next = places[l + 1];
         let at = tables::piece_at(before, 0, n);
-        let end = tables::piece_at(places[l + 1], 0, n);
-        walls_location(model, table, l, before, &mut out[at..end]);
+        let end = tables::piece_at(next, 0, n);
+        walls_location(model, table, l, before, next - before, &mut out[at..end]);
         l = l + 1;
     }
 }

@@ -1,5 +1,5 @@
-// The words of a table: faces, each a flag and a box (document 01, "Pass, ceiling"). These functions serve the crates above
-// and are no calls of outsiders: what they are lent has passed its questions.
+// The words of a table: faces, or their pieces, each a flag and a box (document 01, "Pass, ceiling"; document 02, T-12). These
+// functions serve the crates above and are no calls of outsiders: what they are lent has passed its questions.
 ghost use mathlib.Core.Path.{_≡_};
 ghost use Prim.Native.Nat.{_+_, _*_, _<_, _≤_};
 ghost use lib.IntN.{pos};
@@ -8,17 +8,19 @@ ghost use Rattle.integers.specs.Words.{word};
 ghost use Rattle.integers.specs.Counted.{sumBelow};
 ghost use Rattle.plant.specs.Box as B;
 ghost use Rattle.plant.specs.Box.{hull, boxAt, present, faceWords};
-ghost use Rattle.plant.specs.Model.{L#, cutBy, cutFrom};
+ghost use Rattle.plant.specs.Model.{L#, cutBy};
 ghost use Rattle.plant.specs.Pieces as P;
-ghost use Rattle.plant.specs.Pieces.{upToValue, fromValue, cutToExtent, piecesPerFace, perFace};
+ghost use Rattle.plant.specs.Pieces.{upToValue, fromValue, cutToExtent, perFace};
 ghost use Rattle.plant.specs.Tables.{wordsPerLocation, faceSize, pieceCount, tableSize, faceRead};
 ghost use Rattle.records.specs.Whole.{Whole};
 ghost use Rattle.tables.specs.Places.{Places};
-ghost use Rattle.tables.specs.Room.{Joinable, IsFace, joinedWith, AreFaces, joinedEach, PiecesBy, cutEach, Cuttable, PiecesJoinable};
+ghost use Rattle.tables.specs.Room.{Joinable, IsFace, joinedWith, AreFaces, joinedEach, PiecesBy, cutEach, Cuttable};
 
-// How many words are held for tables: room for a small table (64 locations of two variables, eight of six), and for the largest
-// (64 locations of six, all cut).
+// How many words are held for tables: room for a small table (uncut: 64 locations of two variables, eight of six), for any table
+// without cuts (64 locations of six), and for the largest (all of these cut).
 pub const FEW_WORDS: usize = 1280;
+
+pub const MANY_WORDS: usize = 9984;
 
 pub const MOST_WORDS: usize = 19968;
 
@@ -30,7 +32,7 @@ pub fn face_size(n: usize) -> usize
     1 + 2 * n
 }
 
-// Words per location of n variables: 2n faces of 1 + 2n words. Stated for n 7 too, though models have up to 6 variables
+// Words per uncut location of n variables: 2n faces of 1 + 2n words. Stated for n 7 too, though models have up to 6 variables
 // (document 02, T-04).
 fn words_per_location(n: usize) -> usize
     requires { ⌜ n ≤ 7 ⌝ }
@@ -217,7 +219,7 @@ fn join_from(n: usize, v: usize, x: i32, from: &[i32], piece: &mut [i32])
 
 // Joins a box to the two pieces of a face of wall variable d, cut at the value x of variable v. On the walls of v the first piece
 // is the whole face, and the second is absent.
-fn join_both(n: usize, d: usize, v: usize, x: i32, from: &[i32], pieces: &mut [i32])
+pub fn join_both(n: usize, d: usize, v: usize, x: i32, from: &[i32], pieces: &mut [i32])
     requires { ⌜ Cuttable n v (now from) × AreFaces n 2 (now pieces) ⌝ }
     ensures { λ _. ⌜ now (pieces .exit) ≡ joinedEach n 2 (now (pieces .entry)) (cutEach n (cutBy v x) d (present (now (from .entry)))) ⌝ }
 {
@@ -228,18 +230,5 @@ fn join_both(n: usize, d: usize, v: usize, x: i32, from: &[i32], pieces: &mut [i
     } else {
         join_up_to(n, v, x, from, &mut pieces[..size]);
         join_from(n, v, x, from, &mut pieces[size..end]);
-    }
-}
-
-// Joins a box to the pieces of a face of wall variable d, cut to each, by the cut of its location: variable and value, -1 and 0
-// where it is uncut.
-pub fn join_pieces(n: usize, d: usize, variable: i32, value: i32, from: &[i32], pieces: &mut [i32])
-    requires { ⌜ PiecesJoinable n variable value (now from) (now pieces) ⌝ }
-    ensures { λ _. ⌜ now (pieces .exit) ≡ joinedEach n (piecesPerFace (cutFrom variable value)) (now (pieces .entry)) (cutEach n (cutFrom variable value) d (present (now (from .entry)))) ⌝ }
-{
-    if integers::same(variable, -1) {
-        join(n, from, pieces);
-    } else {
-        join_both(n, d, integers::natural(variable), value, from, pieces);
     }
 }

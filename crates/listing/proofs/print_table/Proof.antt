@@ -18,8 +18,8 @@ cast-magnitude c = rw (toZ-ofZ {w = w32} (sfits-of (c .word-at .ok))) (widened (
 magnitude-requires : tie.Need-magnitude-requires
 magnitude-requires c κs = search needs
 
-print-faces-requires : tie.Need-print-faces-requires
-print-faces-requires c κs = search needs
+print-pieces-requires : tie.Need-print-pieces-requires
+print-pieces-requires c κs = search needs
 
 returns : tie.Need-returns
 returns c = search needs
@@ -32,5 +32,5 @@ print-table-spec =
     word-at-requires
     cast-magnitude
     magnitude-requires
-    print-faces-requires
+    print-pieces-requires
     returns)

@@ -1,15 +1,13 @@
 -- Each of the two pieces is joined with its own part of the box, the second behind the first.
-use mathlib.Core.Path.{_≡_, sym, ap, _∙_, subst}
+use mathlib.Core.Path.{_≡_, sym, _∙_, subst}
 use mathlib.Core.List.{List}
-use Prim.Native.Nat.{ℕ, _+_, _*_, _-_, _≤_}
+use Prim.Native.Nat.{_*_, _-_}
 use native.Mathlib.Omega.{arith}
 use lib.IntN.{ℤ}
-use lib.ListN.{length, take, drop}
+use lib.ListN.{length, take}
 use lib.Seq.{length-take-le}
 use mir.Facts.{toZ-ofZ}
-use Rattle.plant.specs.Pieces.{upToValue, fromValue, cutToExtent}
-use Rattle.plant.specs.Tables.{faceSize}
-use Rattle.tables.specs.Room.{IsFace, joinedWith}
+use Rattle.tables.specs.Room.{IsFace}
 use Rattle.tables.proofs.Faces.{face-long}
 use Rattle.tables.proofs.Cutting.{two-long, first-is-face, second-is-face, behind-long, behind-first, behind-put, own-joined, other-joined}
 use borrow.Author.Needs.{needs}

@@ -1,6 +1,6 @@
 -- The high of v becomes the smaller of itself and the value; where the low of v is above the value nothing is left.
-use mathlib.Core.Path.{_≡_, sym, _∙_, subst}
-use mathlib.Core.Bool.{true, false}
+use mathlib.Core.Path.{_≡_, sym, subst}
+use mathlib.Core.Bool.{true}
 use native.Mathlib.Omega.{arith}
 use Prim.Native.Nat.{_+_, _*_, _<_}
 use lib.IntN.{ℤ}

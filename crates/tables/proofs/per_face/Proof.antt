@@ -1,6 +1,5 @@
 -- By the first word of the location's cut.
-use mathlib.Core.Path.{_≡_, _∙_}
-use lib.IntN.{ℤ}
+use mathlib.Core.Path.{_∙_}
 use Rattle.integers.proofs.Signed.{got32}
 use Rattle.plant.specs.Model.{cutFrom, cutOf, cutValue}
 use Rattle.plant.specs.Pieces.{piecesPerFace, perFace}

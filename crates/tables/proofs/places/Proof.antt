@@ -1,7 +1,7 @@
 -- After l turns the places of the locations up to l are written.
 use mathlib.Core.Path.{_≡_, sym}
 use native.Mathlib.Omega.{arith}
-use Prim.Native.Nat.{ℕ, _+_, _-_, _≤_, _<_}
+use Prim.Native.Nat.{_+_, _-_, _≤_, _<_}
 use Rattle.plant.specs.Model.{L#}
 use Rattle.plant.specs.Tables.{piecesBefore}
 use Rattle.plant.proofs.PieceCases.{before-none, before-more}

@@ -1,7 +1,7 @@
 -- The words stand behind the rate box.
 use mathlib.Core.Path.{_≡_, _∙_}
 use native.Mathlib.Omega.{arith}
-use Prim.Native.Nat.{ℕ, _+_, _*_, _-_, _≤_}
+use Prim.Native.Nat.{_+_, _*_, _-_, _≤_}
 use Rattle.plant.proofs.Passed.{Passed, passed}
 use Rattle.records.proofs.Positions.{location-small}
 use Rattle.passes.proofs.PartWords.{whole, start-end, start-part}

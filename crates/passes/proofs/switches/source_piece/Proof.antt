@@ -19,7 +19,7 @@ whole-at : (c : tie.Start) → Whole (c .args .model .now)
 whole-at c = whole (c .args .model .now) (c .args .table .now) (c .pre .0)
 
 placed-at : (c : tie.Start) → Placed (c .args .model .now) (c .args .e)
-placed-at c = placed (c .args .model .now) (c .args .table .now) (c .pre .0) (c .args .e) (c .pre .2)
+placed-at c = placed (c .args .model .now) (c .args .table .now) (c .pre .0) (c .args .e) (c .pre .2 .is-switch)
 
 -- the number of the piece, by what was read of the switch
 number-is : (m : List ℤ) (e k : ℕ) {d s p : ℕ} → d ≡ wallVariable m e → s ≡ sourceSide m e → p ≡ perFace m (source m e) → (2 * d + s) * p + k ≡ sourcePiece m e k
@@ -47,42 +47,37 @@ add-f c =
     let p = placed-at s in
     omega (arith, c .before .wall-variable .ensures, c .source-side .ensures, p .variable-is, p .source-side, whole-at s .head .n-small)
 
-per-face-requires : tie.Need-per-face-requires
-per-face-requires c κs =
-    let s = c .before .before .before .before .before in
-    (whole-at s, omega (arith, c .before .before .source .ensures, placed-at s .source-is))
-
 -- what was read
-module _ (c : tie.After-per-face) where
+module _ (c : tie.After-source-side) where
   abbrev start : tie.Start
-  start = c .before .before .before .before .before .before
+  start = c .before .before .before .before .before
 
   abbrev model : List ℤ
   model = start .args .model .now
 
   abbrev q : ℕ
-  q = (2 * c .before .before .wall-variable .result + c .before .source-side .result) * c .per-face .result + start .args .k
+  q = (2 * c .before .wall-variable .result + c .source-side .result) * start .args .count + start .args .k
 
-  l-is : c .before .before .before .source .result ≡ source model (start .args .e)
-  l-is = c .before .before .before .source .ensures
+  l-is : c .before .before .source .result ≡ source model (start .args .e)
+  l-is = c .before .before .source .ensures
 
   q-is : q ≡ sourcePiece model (start .args .e) (start .args .k)
-  q-is = number-is model (start .args .e) (start .args .k) (c .before .before .wall-variable .ensures) (c .before .source-side .ensures) (c .per-face .ensures ∙ ap (perFace model) l-is)
+  q-is = number-is model (start .args .e) (start .args .k) (c .before .wall-variable .ensures) (c .source-side .ensures) (start .pre .2 .count-is)
 
   q-below : q < pieces model (source model (start .args .e))
-  q-below = omega (arith, q-is, source-below model (start .args .table .now) (start .pre .0) (start .args .e) (start .args .k) (start .pre .2) (start .pre .3))
+  q-below = omega (arith, q-is, source-below model (start .args .table .now) (start .pre .0) (start .args .e) (start .args .k) (start .pre .2 .is-switch) (start .pre .2 .is-piece))
 
   q-small : q ≤ 24
   q-small = omega (arith, q-below, pieces-most model (source model (start .args .e)) (whole-at start .head .n-small))
 
-  l-below : c .before .before .before .source .result < 64
+  l-below : c .before .before .source .result < 64
   l-below = omega (arith, l-is, placed-at start .source-is, whole-at start .head .L-small)
 
-  before-is : getD (start .args .places .now) (c .before .before .before .source .result) 0 ≡ piecesBefore model (source model (start .args .e))
+  before-is : getD (start .args .places .now) (c .before .before .source .result) 0 ≡ piecesBefore model (source model (start .args .e))
   before-is = ap (λ (l : ℕ). getD (start .args .places .now) l 0) l-is ∙ start .pre .1 .each (source model (start .args .e)) (omega (arith, placed-at start .source-is))
 
-  n-is : c .before .before .before .before .variables .result ≡ n# model
-  n-is = c .before .before .before .before .variables .ensures
+  n-is : c .before .before .before .variables .result ≡ n# model
+  n-is = c .before .before .before .variables .ensures
 
 mul-q : tie.Need-mul-q
 mul-q c = record { fits = omega (arith, q-small c) }
@@ -111,7 +106,7 @@ place c =
     place-is (model r) (source (model r) (start r .args .e)) (q r) (n-is r) (before-is r) (c .piece-at .ensures) ∙ ap (pieceAt (model r) (source (model r) (start r .args .e))) (q-is r)
 
 below : (c : tie.Start) → sourcePiece (c .args .model .now) (c .args .e) (c .args .k) < pieces (c .args .model .now) (source (c .args .model .now) (c .args .e))
-below c = source-below (c .args .model .now) (c .args .table .now) (c .pre .0) (c .args .e) (c .args .k) (c .pre .2) (c .pre .3)
+below c = source-below (c .args .model .now) (c .args .table .now) (c .pre .0) (c .args .e) (c .args .k) (c .pre .2 .is-switch) (c .pre .2 .is-piece)
 
 face-requires : tie.Need-face-requires
 face-requires c κs =
@@ -135,7 +130,6 @@ source-piece-spec =
     mul-f
     source-side-requires
     add-f
-    per-face-requires
     mul-q
     add-q
     mul-piece-at

@@ -1,79 +1,93 @@
--- After e turns each piece is joined with its wall steps and the steps of the switches below e.
-use mathlib.Core.Path.{_≡_, ap, _∙_}
+-- A model with 2n pieces for each location has no cut.
+use mathlib.Core.Path.{_≡_, sym, ap, ap₂, _∙_}
 use native.Mathlib.Omega.{arith}
-use Prim.Native.Nat.{ℕ, _+_, _-_, _≤_, _<_}
-use lib.ListN.{length}
-use Rattle.plant.specs.Model.{E#}
-use Rattle.plant.specs.Tables.{tableBy, wallsJoined}
-use Rattle.plant.proofs.Tables.{table-length}
+use native.Mathlib.Nat.{mul-le-mul}
+use Prim.Native.Nat.{ℕ, _*_, _≤_}
+use lib.ListN.{getD}
+use Rattle.plant.specs.Model.{L#}
+use Rattle.plant.specs.Tables.{piecesBefore}
 use Rattle.records.specs.Whole.{Whole}
-use Rattle.passes.specs.Joining.{joinedBelow}
-use Rattle.passes.proofs.Reading.{whole}
-use Rattle.passes.proofs.Landing.{switches-none, switches-all}
+use Rattle.passes.specs.Joining.{NoCut}
+use Rattle.passes.proofs.Reading.{whole, no-cut}
+use borrow.Author.Needs.{needs}
 use Rattle.passes.proofs.switches.switches.Statement.{statement}
 use Rattle.passes.proofs.switches.switches.Tie as tie
 
-abbrev Inv-loop : tie.InvT-loop
-Inv-loop model places table out₀ count e₀ out e = (e ≤ E# model) × (out ≡ tableBy model (joinedBelow model table e))
-
-abbrev μ-loop : tie.MeasureT-loop
-μ-loop model places table out₀ count e₀ out e = count - e
-
-whole-at : (c : tie.Start Inv-loop μ-loop) → Whole (c .args .model .now)
+whole-at : (c : tie.Start) → Whole (c .args .model .now)
 whole-at c = whole (c .args .model .now) (c .args .table .now) (c .pre .0)
 
-switches-requires : tie.Need-switches-requires Inv-loop μ-loop
-switches-requires c κs = whole-at (c .before) .head
+locations-requires : tie.Need-locations-requires
+locations-requires c κs = whole-at (c .before) .head
 
-loop-holds : tie.Need-loop-holds Inv-loop μ-loop
-loop-holds c = let s = c .before .before in (omega arith, s .pre .2 ∙ switches-none (s .args .model .now) (s .args .table .now))
+few : (c : tie.After-locations) → c .locations .result ≤ 64
+few c = omega (arith, c .locations .ensures, whole-at (c .before .before) .head .L-small)
 
--- switch e
-module _ (c : tie.In-loop Inv-loop μ-loop) where
-  abbrev start : tie.Start Inv-loop μ-loop
+mul-if1 : tie.Need-mul-if1
+mul-if1 c = record { fits = omega (arith, few c) }
+
+shared-slice-read-if1 : tie.Need-shared-slice-read-if1
+shared-slice-read-if1 c = omega (arith, few (c .before), c .before .before .before .pre .1 .long)
+
+variables-requires : tie.Need-variables-requires
+variables-requires c κs = whole-at (c .before .before .before) .head
+
+-- what the test compares
+module _ (c : tie.After-variables) where
+  abbrev start : tie.Start
   start = c .before .before .before .before
 
-  is-switch : c .before .loop .e < E# (start .args .model .now)
-  is-switch = omega (arith, c .loop-test .taken, c .before .before .switches .ensures)
+  n-small : c .variables .result ≤ 6
+  n-small = omega (arith, c .variables .ensures, whole-at start .head .n-small)
 
-land-each-requires : tie.Need-land-each-requires Inv-loop μ-loop
-land-each-requires c κs = let w = c .before in let s = start w in (s .pre .0, s .pre .1, is-switch w, w .before .loop .inv .1)
+  product-small : 2 * c .variables .result * c .before .before .locations .result ≤ 768
+  product-small = let a : 2 * c .variables .result ≤ 12 = omega (arith, n-small) in let g : 2 * c .variables .result * c .before .before .locations .result ≤ 12 * 64 = mul-le-mul a (few (c .before .before)) in omega arith
 
-add-e : tie.Need-add-e Inv-loop μ-loop
-add-e c = let w = c .before .before .before in omega (arith, is-switch w, whole-at (start w) .head .E-small)
+  count-is : getD (start .args .places .now) (c .before .before .locations .result) 0 ≡ piecesBefore (start .args .model .now) (L# (start .args .model .now))
+  count-is = ap (λ (l : ℕ). getD (start .args .places .now) l 0) (c .before .before .locations .ensures) ∙ start .pre .1 .each (L# (start .args .model .now)) (omega arith)
 
-loop-less : tie.Need-loop-less Inv-loop μ-loop
-loop-less c = omega (arith, c .before .before .before .loop-test .taken)
+mul-if1-2 : tie.Need-mul-if1-2
+mul-if1-2 c = omega (arith, n-small c)
 
-loop-again : tie.Need-loop-again Inv-loop μ-loop
-loop-again c = (omega (arith, is-switch (c .before .before .before)), c .before .land-each .ensures)
+mul-if1-3 : tie.Need-mul-if1-3
+mul-if1-3 c = record { fits = omega (arith, product-small c) }
 
-same-length : tie.Need-same-length Inv-loop μ-loop
-same-length c =
-    let s = c .before .before .before .before in
-    let m = s .args .model .now in
-    let t = s .args .table .now in
-    omega (arith, ap length (c .before .loop .inv .1), table-length m (joinedBelow m t (c .before .loop .e)), ap length (s .pre .2), table-length m (wallsJoined m t))
+none : (c : tie.Then1) → NoCut (start (c .before) .args .model .now)
+none c =
+    let v = c .before in
+    let s = start v in
+    no-cut (s .args .model .now) (whole-at s .head .n-positive) (sym (count-is v) ∙ c .if1 .taken ∙ ap₂ (λ (n l : ℕ). 2 * n * l) (v .variables .ensures) (v .before .before .locations .ensures))
 
-returns : tie.Need-returns Inv-loop μ-loop
-returns c =
-    let s = c .before .before .before .before in
-    let m = s .args .model .now in
-    let t = s .args .table .now in
-    let e : c .before .loop .e ≡ E# m = omega (arith, c .before .loop .inv .0, c .loop-test .left, c .before .before .switches .ensures) in
-    c .before .loop .inv .1 ∙ ap (λ (k : ℕ). tableBy m (joinedBelow m t k)) e ∙ switches-all m t
+switches-uncut-requires : tie.Need-switches-uncut-requires
+switches-uncut-requires c κs = let s = start (c .before .before) in (s .pre .0, s .pre .1, s .pre .2, none (c .before))
+
+switches-cut-requires : tie.Need-switches-cut-requires
+switches-cut-requires c κs = search needs
+
+same-length : tie.Need-same-length
+same-length c = search needs
+
+returns : tie.Need-returns
+returns c = search needs
+
+same-length-2 : tie.Need-same-length-2
+same-length-2 c = search needs
+
+returns-2 : tie.Need-returns-2
+returns-2 c = search needs
 
 pub switches-spec : {M : Type 1} → statement M
 switches-spec =
     tie.close
     (tie.spec
-    Inv-loop
-    μ-loop
-    switches-requires
-    loop-holds
-    land-each-requires
-    add-e
-    loop-less
-    loop-again
+    locations-requires
+    mul-if1
+    shared-slice-read-if1
+    variables-requires
+    mul-if1-2
+    mul-if1-3
+    switches-uncut-requires
+    switches-cut-requires
     same-length
-    returns)
+    returns
+    same-length-2
+    returns-2)

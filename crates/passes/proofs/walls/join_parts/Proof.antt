@@ -1,8 +1,7 @@
 -- At piece q the location's pieces are joined with the wall steps from the start part, before the loop, and from the pieces below q.
 use mathlib.Core.Path.{_≡_, ap, _∙_}
 use native.Mathlib.Omega.{arith}
-use Prim.Native.Nat.{_+_, _-_, _*_, _≤_, _<_}
-use lib.IntN.{ℤ}
+use Prim.Native.Nat.{ℕ, _+_, _-_, _≤_, _<_}
 use lib.ListN.{length}
 use mir.Syntax.{w32}
 use mir.Val.{toZ, ofZ}
@@ -10,11 +9,11 @@ use Rattle.integers.proofs.Signed.{got32}
 use Rattle.plant.specs.Model.{n#}
 use Rattle.plant.specs.Box.{joins}
 use Rattle.plant.specs.Pieces.{pieces}
-use Rattle.plant.specs.Tables.{faceSize, tableSize, pieceAt, pieceOf, partOf, wallFrom}
+use Rattle.plant.specs.Tables.{pieceAt, pieceOf, partOf, wallFrom}
 use Rattle.plant.proofs.Tables.{pieces-most}
 use Rattle.records.specs.Whole.{Whole}
 use Rattle.tables.proofs.Sizes.{before-most}
-use Rattle.passes.specs.Joining.{locationBy}
+use Rattle.passes.specs.Joining.{Located, locationBy}
 use Rattle.passes.specs.Parts.{IsPart}
 use Rattle.passes.proofs.PartWords.{place-is, piece-end}
 use Rattle.passes.proofs.Reading.{LocationRead, whole, start-is-part, piece-is-part, joinedTo, joined-none, joined-all, joined-length, part-join, joined-more}
@@ -22,11 +21,14 @@ use Rattle.passes.proofs.walls.join_parts.Statement.{statement}
 use Rattle.passes.proofs.walls.join_parts.Tie as tie
 
 abbrev Inv-loop : tie.InvT-loop
-Inv-loop model table l before block₀ n inv rate variable value count q₀ block q =
+Inv-loop model table l before count block₀ n inv rate variable value q₀ block q =
     (q ≤ pieces model l) × (block ≡ locationBy model l (λ i. joins (n# model) (q + 1) (wallFrom model table l i) (pieceOf model table l i)))
 
 abbrev μ-loop : tie.MeasureT-loop
-μ-loop model table l before block₀ n inv rate variable value count q₀ block q = count - q
+μ-loop model table l before count block₀ n inv rate variable value q₀ block q = count - q
+
+less : (count q : ℕ) → q < count → count - (q + 1) < count - q
+less count q u = omega arith
 
 whole-at : (c : tie.Start Inv-loop μ-loop) → Whole (c .args .model .now)
 whole-at c = whole (c .args .model .now) (c .args .table .now) (c .pre .0)
@@ -40,11 +42,14 @@ invariant-requires c κs = let s = c .before in let u = s .pre .1 in (whole-at s
 rate-requires : tie.Need-rate-requires Inv-loop μ-loop
 rate-requires c κs = let s = c .before .before in let u = s .pre .1 in (whole-at s, u)
 
+located : (c : tie.After-rate Inv-loop μ-loop) → let a = c .before .before .before .args in Located (a .model .now) (a .l) (c .before .before .variables .result) (a .count)
+located c = let s = c .before .before .before in record { passes = s .pre .0 .ready .passes; below = s .pre .1; n-is = c .before .before .variables .ensures; count-is = s .pre .4 }
+
 cut-variable-requires : tie.Need-cut-variable-requires Inv-loop μ-loop
-cut-variable-requires c κs = let s = c .before .before .before in let u = s .pre .1 in (whole-at s, u)
+cut-variable-requires c κs = located c
 
 cut-value-requires : tie.Need-cut-value-requires Inv-loop μ-loop
-cut-value-requires c κs = let s = c .before .before .before .before in let u = s .pre .1 in (whole-at s, u)
+cut-value-requires c κs = located (c .before)
 
 -- what was read of the location
 module _ (c : tie.After-cut-value Inv-loop μ-loop) where
@@ -66,23 +71,20 @@ join-part-requires c κs =
     let a = s .args in
     part-join (a .model .now) (a .table .now) (s .pre .0) (a .l) (s .pre .1) (read (c .before .before)) 0 (start-is-part (a .model .now) (a .table .now) (s .pre .0) (a .l) (c .before .start-part .ensures)) (joined-none (a .model .now) (a .table .now) (s .pre .0) (a .l) (s .pre .1) (s .pre .3)) (omega arith)
 
-pieces-requires : tie.Need-pieces-requires Inv-loop μ-loop
-pieces-requires c κs = let s = start (c .before .before .before .before) in let u = s .pre .1 in (whole-at s, u)
-
 loop-holds : tie.Need-loop-holds Inv-loop μ-loop
 loop-holds c =
-    let r = c .before .before .before .before .before in
+    let r = c .before .before .before .before in
     let s = start r in
     let a = s .args in
-    (omega arith, joined-more (a .model .now) (a .table .now) (s .pre .0) (a .l) (s .pre .1) (read r) 0 (start-is-part (a .model .now) (a .table .now) (s .pre .0) (a .l) (c .before .before .before .before .start-part .ensures)) (joined-none (a .model .now) (a .table .now) (s .pre .0) (a .l) (s .pre .1) (s .pre .3)) (c .before .before .join-part .ensures))
+    (omega arith, joined-more (a .model .now) (a .table .now) (s .pre .0) (a .l) (s .pre .1) (read r) 0 (start-is-part (a .model .now) (a .table .now) (s .pre .0) (a .l) (c .before .before .before .start-part .ensures)) (joined-none (a .model .now) (a .table .now) (s .pre .0) (a .l) (s .pre .1) (s .pre .3)) (c .before .join-part .ensures))
 
 -- piece q of the location
 module _ (c : tie.In-loop Inv-loop μ-loop) where
   abbrev reading : tie.After-cut-value Inv-loop μ-loop
-  reading = c .before .before .before .before .before .before .before
+  reading = c .before .before .before .before .before .before
 
   is-piece : c .before .loop .q < pieces (start reading .args .model .now) (start reading .args .l)
-  is-piece = omega (arith, c .loop-test .taken, c .before .before .pieces .ensures)
+  is-piece = let u : c .before .loop .q < start reading .args .count = c .loop-test .taken in omega (arith, u, start reading .pre .4)
 
   n-is : reading .before .before .before .before .variables .result ≡ n# (start reading .args .model .now)
   n-is = reading .before .before .before .before .variables .ensures
@@ -126,7 +128,7 @@ add-q c =
     omega (arith, is-piece w, pieces-most (s .args .model .now) (s .args .l) (whole-at s .head .n-small))
 
 loop-less : tie.Need-loop-less Inv-loop μ-loop
-loop-less c = omega (arith, c .before .before .before .before .before .loop-test .taken)
+loop-less c = let w = c .before .before .before .before .before in less (start (reading w) .args .count) (w .before .loop .q) (w .loop-test .taken)
 
 loop-again : tie.Need-loop-again Inv-loop μ-loop
 loop-again c =
@@ -138,17 +140,18 @@ loop-again c =
 
 same-length : tie.Need-same-length Inv-loop μ-loop
 same-length c =
-    let s = start (c .before .before .before .before .before .before .before) in
+    let s = start (c .before .before .before .before .before .before) in
     let a = s .args in
     let k = joined-length (a .model .now) (a .table .now) (s .pre .0) (a .l) (s .pre .1) in
     omega (arith, ap length (c .before .loop .inv .1), k (c .before .loop .q + 1), ap length (joined-none (a .model .now) (a .table .now) (s .pre .0) (a .l) (s .pre .1) (s .pre .3)), k 0)
 
 returns : tie.Need-returns Inv-loop μ-loop
 returns c =
-    let s = start (c .before .before .before .before .before .before .before) in
+    let s = start (c .before .before .before .before .before .before) in
     let a = s .args in
     let i = c .before .loop in
-    let e : i .q + 1 ≡ pieces (a .model .now) (a .l) + 1 = omega (arith, i .inv .0, c .loop-test .left, c .before .before .pieces .ensures) in
+    let u : a .count ≤ i .q = c .loop-test .left in
+    let e : i .q + 1 ≡ pieces (a .model .now) (a .l) + 1 = omega (arith, i .inv .0, u, s .pre .4) in
     i .inv .1 ∙ ap (joinedTo (a .model .now) (a .table .now) (s .pre .0) (a .l) (s .pre .1)) e ∙ joined-all (a .model .now) (a .table .now) (s .pre .0) (a .l) (s .pre .1)
 
 pub join-parts-spec : {M : Type 1} → statement M
@@ -164,7 +167,6 @@ join-parts-spec =
     cut-value-requires
     start-part-requires
     join-part-requires
-    pieces-requires
     loop-holds
     piece-at-requires
     face-requires

@@ -2,13 +2,15 @@
 use mathlib.Core.Path.{_≡_, refl, ap, _∙_}
 use mathlib.Core.List.{List}
 use native.Mathlib.Omega.{arith}
-use Prim.Native.Nat.{ℕ, _+_, _-_, _*_, _≤_, _<_}
+use Prim.Native.Nat.{ℕ, _+_, _-_, _≤_, _<_}
 use lib.IntN.{ℤ}
 use lib.ListN.{length, getD}
 use Rattle.integers.specs.Words.{onto}
 use Rattle.integers.specs.Counted.{cat, sumBelow}
 use Rattle.plant.specs.Model.{n#, L#}
+use Rattle.plant.specs.Pieces.{pieces}
 use Rattle.plant.specs.Tables.{tableSize, pieceAt}
+use Rattle.plant.proofs.PieceCases.{before-more}
 use Rattle.plant.proofs.Tables.{locationWords}
 use Rattle.records.specs.Whole.{Whole}
 use Rattle.passes.proofs.Blocks.{none-put, put-length, place-length, one-put, all-put}
@@ -82,17 +84,17 @@ mul-before c = record { fits = omega (arith, few c) }
 shared-slice-read-before : tie.Need-shared-slice-read-before Inv-loop μ-loop
 shared-slice-read-before c = before-there (c .before)
 
+add-next : tie.Need-add-next Inv-loop μ-loop
+add-next c = omega (arith, few (c .before))
+
+mul-next : tie.Need-mul-next Inv-loop μ-loop
+mul-next c = record { fits = omega (arith, few (c .before)) }
+
+shared-slice-read-next : tie.Need-shared-slice-read-next Inv-loop μ-loop
+shared-slice-read-next c = next-there (c .before .before)
+
 piece-at-requires : tie.Need-piece-at-requires Inv-loop μ-loop
-piece-at-requires c κs = (before-small (c .before), omega arith, n-small (c .before))
-
-add-piece-at : tie.Need-add-piece-at Inv-loop μ-loop
-add-piece-at c = omega (arith, few (c .before .before))
-
-mul-piece-at : tie.Need-mul-piece-at Inv-loop μ-loop
-mul-piece-at c = record { fits = omega (arith, few (c .before .before)) }
-
-shared-slice-read-piece-at : tie.Need-shared-slice-read-piece-at Inv-loop μ-loop
-shared-slice-read-piece-at c = next-there (c .before .before .before)
+piece-at-requires c κs = (before-small (c .before .before), omega arith, n-small (c .before .before))
 
 piece-at-requires-2 : tie.Need-piece-at-requires-2 Inv-loop μ-loop
 piece-at-requires-2 c κs = (next-small (c .before .before .before), omega arith, n-small (c .before .before .before))
@@ -102,16 +104,16 @@ module _ (c : tie.After-piece-at2 Inv-loop μ-loop) where
   abbrev turn : tie.In-loop Inv-loop μ-loop
   turn = c .before .before .before .before
 
-  at-is : c .before .before .piece-at .result ≡ pieceAt (model turn) (turn .before .loop .l) 0
-  at-is = place-is (model turn) (turn .before .loop .l) 0 (n-is turn) (start turn .pre .1 .each (turn .before .loop .l) (omega (arith, is-location turn))) (c .before .before .piece-at .ensures)
+  at-is : c .before .piece-at .result ≡ pieceAt (model turn) (turn .before .loop .l) 0
+  at-is = place-is (model turn) (turn .before .loop .l) 0 (n-is turn) (start turn .pre .1 .each (turn .before .loop .l) (omega (arith, is-location turn))) (c .before .piece-at .ensures)
 
   end-at : c .piece-at2 .result ≡ pieceAt (model turn) (turn .before .loop .l + 1) 0
   end-at = place-is (model turn) (turn .before .loop .l + 1) 0 (n-is turn) (start turn .pre .1 .each (turn .before .loop .l + 1) (omega (arith, is-location turn))) (c .piece-at2 .ensures)
 
-  from : c .before .before .piece-at .result ≡ sumBelow (turn .before .loop .l) (locationWords (model turn))
+  from : c .before .piece-at .result ≡ sumBelow (turn .before .loop .l) (locationWords (model turn))
   from = location-from (model turn) (turn .before .loop .l) at-is end-at
 
-  to : c .piece-at2 .result ≡ c .before .before .piece-at .result + locationWords (model turn) (turn .before .loop .l)
+  to : c .piece-at2 .result ≡ c .before .piece-at .result + locationWords (model turn) (turn .before .loop .l)
   to = location-to (model turn) (turn .before .loop .l) at-is end-at
 
   inside : c .piece-at2 .result ≤ tableSize (model turn)
@@ -120,11 +122,28 @@ module _ (c : tie.After-piece-at2 Inv-loop μ-loop) where
   small : c .piece-at2 .result ≤ 19968
   small = omega (arith, inside, table-small (model turn) (start turn .args .table .now) (start turn .pre .0))
 
+-- how many pieces it has
+module _ (c : tie.In-loop Inv-loop μ-loop) where
+  abbrev count : ℕ
+  count = getD (places c) (c .before .loop .l + 1) 0 - getD (places c) (c .before .loop .l) 0
+
+  next-is : getD (places c) (c .before .loop .l + 1) 0 ≡ getD (places c) (c .before .loop .l) 0 + pieces (model c) (c .before .loop .l)
+  next-is =
+      let p = start c .pre .1 in
+      let l = c .before .loop .l in
+      omega (arith, p .each l (omega (arith, is-location c)), p .each (l + 1) (omega (arith, is-location c)), before-more (model c) l)
+
+  count-is : count ≡ pieces (model c) (c .before .loop .l)
+  count-is = omega (arith, next-is)
+
+sub-walls-location : tie.Need-sub-walls-location Inv-loop μ-loop
+sub-walls-location c = omega (arith, next-is (turn c))
+
 mul-walls-location : tie.Need-mul-walls-location Inv-loop μ-loop
 mul-walls-location c = omega (arith, to c, small c)
 
-sub-walls-location : tie.Need-sub-walls-location Inv-loop μ-loop
-sub-walls-location c = omega (arith, to c)
+sub-walls-location-2 : tie.Need-sub-walls-location-2 Inv-loop μ-loop
+sub-walls-location-2 c = omega (arith, to c)
 
 part-walls-location-start : tie.Need-part-walls-location-start Inv-loop μ-loop
 part-walls-location-start c = omega (arith, to c)
@@ -148,7 +167,7 @@ walls-location-requires c κs =
     let i = turn w .before .loop in
     let ok = s .pre .0 in
     let u = is-location (turn w) in
-    (ok, u, s .pre .1 .each (i .l) (omega (arith, u)), place-length (locationWords m) (locationsOf m t) (locations-sized m t) (a .out .now) (i .l) (i .inv .1) (from w) (to w) (omega (arith, inside w, s .pre .2)))
+    (ok, u, s .pre .1 .each (i .l) (omega (arith, u)), place-length (locationWords m) (locationsOf m t) (locations-sized m t) (a .out .now) (i .l) (i .inv .1) (from w) (to w) (omega (arith, inside w, s .pre .2)), count-is (turn w))
 
 add-l : tie.Need-add-l Inv-loop μ-loop
 add-l c = omega (arith, few (turn (c .before .before .before)))
@@ -196,13 +215,14 @@ walls-spec =
     loop-holds
     mul-before
     shared-slice-read-before
+    add-next
+    mul-next
+    shared-slice-read-next
     piece-at-requires
-    add-piece-at
-    mul-piece-at
-    shared-slice-read-piece-at
     piece-at-requires-2
-    mul-walls-location
     sub-walls-location
+    mul-walls-location
+    sub-walls-location-2
     part-walls-location-start
     part-walls-location-end
     walls-location-requires

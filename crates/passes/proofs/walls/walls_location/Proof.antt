@@ -58,7 +58,7 @@ join-parts-requires c κs =
     let p = c .before .before .before .before .before in
     let s = p .before .before in
     let a = s .args in
-    (s .pre .0, s .pre .1, s .pre .2, c .before .before .copy .ensures ∙ old-location (a .model .now) (a .table .now) (s .pre .0) (a .l) (s .pre .1) {k = p .piece-at .result + length (a .block .now) - p .piece-at .result} (at-is p) (omega (arith, s .pre .3)))
+    (s .pre .0, s .pre .1, s .pre .2, c .before .before .copy .ensures ∙ old-location (a .model .now) (a .table .now) (s .pre .0) (a .l) (s .pre .1) {k = p .piece-at .result + length (a .block .now) - p .piece-at .result} (at-is p) (omega (arith, s .pre .3)), s .pre .4)
 
 same-length : tie.Need-same-length
 same-length c = search needs

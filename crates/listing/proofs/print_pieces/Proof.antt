@@ -4,8 +4,8 @@ use Prim.Native.Nat.{_-_, _≤_}
 use native.Mathlib.Omega.{arith}
 use borrow.Author.Needs.{needs}
 use Rattle.wire.proofs.Fields.{Lies, field-lies}
-use Rattle.listing.proofs.print_faces.Statement.{statement}
-use Rattle.listing.proofs.print_faces.Tie as tie
+use Rattle.listing.proofs.print_pieces.Statement.{statement}
+use Rattle.listing.proofs.print_pieces.Tie as tie
 
 abbrev Inv-loop : tie.InvT-loop
 Inv-loop file count at₀ i₀ at i = i ≤ count
@@ -47,8 +47,8 @@ loop-again c = omega arith
 returns-2 : tie.Need-returns-2 Inv-loop μ-loop
 returns-2 c = search needs
 
-pub print-faces-spec : {M : Type 1} → statement M
-print-faces-spec =
+pub print-pieces-spec : {M : Type 1} → statement M
+print-pieces-spec =
     tie.close
     (tie.spec
     Inv-loop
