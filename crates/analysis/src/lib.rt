@@ -56,7 +56,7 @@ fn certificate_with<'a>(
     0
 }
 
-// The same. The words held for the pass are cleared at each call: few for a small table, many for any other without cuts.
+// The same. The words held for the pass are cleared at each call: few for a small table.
 fn certificate_held<'a>(model: &'a [i32], places: &[usize], table: &'a [i32]) -> u32
     requires { ⌜ Sized (now model) (now table) × Places (now model) (now places) × (tableOk (now model) (now table) ≡ true) ⌝ }
     ensures { λ r. ⌜ r ≡ certificateQuestions (now (model .entry)) (now (table .entry)) ⌝ }
@@ -64,10 +64,6 @@ fn certificate_held<'a>(model: &'a [i32], places: &[usize], table: &'a [i32]) ->
     let size = table.len();
     if size <= tables::FEW_WORDS {
         let mut after = [0i32; tables::FEW_WORDS];
-        return certificate_with(model, places, table, &mut after[..size]);
-    }
-    if size <= tables::MANY_WORDS {
-        let mut after = [0i32; tables::MANY_WORDS];
         return certificate_with(model, places, table, &mut after[..size]);
     }
     let mut after = [0i32; tables::MOST_WORDS];

@@ -54,20 +54,14 @@ fn answer_with(
     pack_answer(answer)
 }
 
-// The same with words held. They are cleared at each call: few for a small table, many for any other without cuts.
+// The same with words held. They are cleared at each call: few for a small table.
 fn answer_file(model: &[i32], file: &mut [u8], limit: u32) -> u64
     requires { ⌜ (modelQuestions (now model) ≡ 0) × (longestTableFile (now model) ≤ length (now file)) ⌝ }
     ensures { λ r. ⌜ record { number = r; file = now (file .exit) } ≡ decided (now (model .entry)) (C.analysis (now (model .entry)) limit) (now (file .entry)) ⌝ }
 {
-    let size = tables::table_size(model);
-    if size <= tables::FEW_WORDS {
+    if tables::table_size(model) <= tables::FEW_WORDS {
         let mut table = [0i32; tables::FEW_WORDS];
         let mut work = [0i32; tables::FEW_WORDS];
-        return answer_with(model, file, limit, &mut table, &mut work);
-    }
-    if size <= tables::MANY_WORDS {
-        let mut table = [0i32; tables::MANY_WORDS];
-        let mut work = [0i32; tables::MANY_WORDS];
         return answer_with(model, file, limit, &mut table, &mut work);
     }
     let mut table = [0i32; tables::MOST_WORDS];
@@ -115,18 +109,13 @@ fn check_with<'a>(model: &'a [i32], file: &'a [u8], table: &mut [i32]) -> u64
     }
 }
 
-// The same with words held: few for a small table, many for any other without cuts.
+// The same with words held: few for a small table.
 fn check_words<'a>(model: &'a [i32], file: &'a [u8]) -> u64
     requires { ⌜ modelQuestions (now model) ≡ 0 ⌝ }
     ensures { λ r. ⌜ r ≡ checkBy (certificateFileQuestions (now (model .entry)) (now (file .entry))) .code ⌝ }
 {
-    let size = tables::table_size(model);
-    if size <= tables::FEW_WORDS {
+    if tables::table_size(model) <= tables::FEW_WORDS {
         let mut table = [0i32; tables::FEW_WORDS];
-        return check_with(model, file, &mut table);
-    }
-    if size <= tables::MANY_WORDS {
-        let mut table = [0i32; tables::MANY_WORDS];
         return check_with(model, file, &mut table);
     }
     let mut table = [0i32; tables::MOST_WORDS];

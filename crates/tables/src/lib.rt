@@ -16,11 +16,9 @@ ghost use Rattle.records.specs.Whole.{Whole};
 ghost use Rattle.tables.specs.Places.{Places};
 ghost use Rattle.tables.specs.Room.{Joinable, IsFace, joinedWith, AreFaces, joinedEach, PiecesBy, cutEach, Cuttable};
 
-// How many words are held for tables: room for a small table (uncut: 64 locations of two variables, eight of six), for any table
-// without cuts (64 locations of six), and for the largest (all of these cut).
+// How many words are held for tables: room for a small table (uncut: 64 locations of two variables, eight of six), and for the
+// largest (64 locations of six, all cut).
 pub const FEW_WORDS: usize = 1280;
-
-pub const MANY_WORDS: usize = 9984;
 
 pub const MOST_WORDS: usize = 19968;
 
