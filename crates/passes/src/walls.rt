@@ -101,6 +101,33 @@ fn join_part(
     }
 }
 
+// The same from the start part: a function of its own, so that the compiler takes both tests of the flag to their callers and
+// keeps join_walls as one function.
+fn join_start(
+    n: usize,
+    inv: &[i32],
+    rate: &[i32],
+    part: &[i32],
+    variable: i32,
+    value: i32,
+    block: &mut [i32],
+)
+    requires { ⌜ PartJoin n (now inv) (now rate) (now part) variable value (now block) ⌝ }
+    ensures { λ _. ⌜ now (block .exit) ≡ joinedEach n (piecesWith n (cutFrom variable value)) (now (block .entry)) (wallsFrom n (now (inv .entry)) (now (rate .entry)) (cutFrom variable value) (faceRead n (now (part .entry)) 0)) ⌝ }
+{
+    if integers::same(part[0], 1) {
+        join_walls(
+            n,
+            inv,
+            rate,
+            records::box_at(part, 1, n),
+            variable,
+            value,
+            block,
+        );
+    }
+}
+
 // The words of the cut of location l with so many pieces: they are read only where it is cut.
 fn cut_variable(model: &[i32], l: usize, n: usize, count: usize) -> i32
     requires { ⌜ Located (now model) l n count ⌝ }
@@ -125,8 +152,7 @@ fn cut_value(model: &[i32], l: usize, n: usize, count: usize) -> i32
 }
 
 // Joins to the pieces of location l, `count` of them, before which so many stand in the table, the wall steps from all parts of
-// the location: its start box, and its pieces. The start box comes before the loop, so that the compiler keeps join_part as one
-// function.
+// the location: its start box, and its pieces.
 fn join_parts<'a>(
     model: &'a [i32],
     table: &'a [i32],
@@ -143,7 +169,7 @@ fn join_parts<'a>(
     let rate = records::rate(model, l);
     let variable = cut_variable(model, l, n, count);
     let value = cut_value(model, l, n, count);
-    join_part(
+    join_start(
         n,
         inv,
         rate,

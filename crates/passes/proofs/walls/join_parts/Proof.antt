@@ -65,8 +65,8 @@ module _ (c : tie.After-cut-value Inv-loop μ-loop) where
 start-part-requires : tie.Need-start-part-requires Inv-loop μ-loop
 start-part-requires c κs = let s = start c in (s .pre .0 .ready .passes, s .pre .1)
 
-join-part-requires : tie.Need-join-part-requires Inv-loop μ-loop
-join-part-requires c κs =
+join-start-requires : tie.Need-join-start-requires Inv-loop μ-loop
+join-start-requires c κs =
     let s = start (c .before .before) in
     let a = s .args in
     part-join (a .model .now) (a .table .now) (s .pre .0) (a .l) (s .pre .1) (read (c .before .before)) 0 (start-is-part (a .model .now) (a .table .now) (s .pre .0) (a .l) (c .before .start-part .ensures)) (joined-none (a .model .now) (a .table .now) (s .pre .0) (a .l) (s .pre .1) (s .pre .3)) (omega arith)
@@ -76,7 +76,7 @@ loop-holds c =
     let r = c .before .before .before .before in
     let s = start r in
     let a = s .args in
-    (omega arith, joined-more (a .model .now) (a .table .now) (s .pre .0) (a .l) (s .pre .1) (read r) 0 (start-is-part (a .model .now) (a .table .now) (s .pre .0) (a .l) (c .before .before .before .start-part .ensures)) (joined-none (a .model .now) (a .table .now) (s .pre .0) (a .l) (s .pre .1) (s .pre .3)) (c .before .join-part .ensures))
+    (omega arith, joined-more (a .model .now) (a .table .now) (s .pre .0) (a .l) (s .pre .1) (read r) 0 (start-is-part (a .model .now) (a .table .now) (s .pre .0) (a .l) (c .before .before .before .start-part .ensures)) (joined-none (a .model .now) (a .table .now) (s .pre .0) (a .l) (s .pre .1) (s .pre .3)) (c .before .join-start .ensures))
 
 -- piece q of the location
 module _ (c : tie.In-loop Inv-loop μ-loop) where
@@ -113,8 +113,8 @@ piece-is c =
     let s = start (reading (c .before .before)) in
     piece-is-part (s .args .model .now) (s .args .table .now) (s .pre .0) (s .args .l) (c .before .before .before .loop .q) (s .pre .1) (is-piece (c .before .before)) (n-is (c .before .before)) (place (c .before)) (c .face .ensures)
 
-join-part-requires-2 : tie.Need-join-part-requires-2 Inv-loop μ-loop
-join-part-requires-2 c κs =
+join-part-requires : tie.Need-join-part-requires Inv-loop μ-loop
+join-part-requires c κs =
     let w = c .before .before .before in
     let s = start (reading w) in
     let a = s .args in
@@ -136,7 +136,7 @@ loop-again c =
     let s = start (reading w) in
     let a = s .args in
     let i = w .before .loop in
-    (omega (arith, is-piece w), joined-more (a .model .now) (a .table .now) (s .pre .0) (a .l) (s .pre .1) (read (reading w)) (i .q + 1) (piece-is (c .before .before .before)) (i .inv .1) (c .before .join-part2 .ensures))
+    (omega (arith, is-piece w), joined-more (a .model .now) (a .table .now) (s .pre .0) (a .l) (s .pre .1) (read (reading w)) (i .q + 1) (piece-is (c .before .before .before)) (i .inv .1) (c .before .join-part .ensures))
 
 same-length : tie.Need-same-length Inv-loop μ-loop
 same-length c =
@@ -166,11 +166,11 @@ join-parts-spec =
     cut-variable-requires
     cut-value-requires
     start-part-requires
-    join-part-requires
+    join-start-requires
     loop-holds
     piece-at-requires
     face-requires
-    join-part-requires-2
+    join-part-requires
     add-q
     loop-less
     loop-again
