@@ -1,6 +1,8 @@
--- What reading a model file into the host's words tells. They hold the longest model, so 5 is always yes, and the number that
--- the reader gives is that of the file's questions without it.
+-- What reading a model file into the host's words tells. A call reads into few words first. Where the reader gives another number
+-- than 5, it is that of the file's questions without 5; where it gives 5, the call reads again, into words that hold the longest
+-- model.
 use mathlib.Core.Path.{_≡_, refl, sym, ap, subst, _∙_}
+use mathlib.Core.Bool.{Bool, true, false}
 use mathlib.Core.List.{List}
 use Prim.Native.Nat.{ℕ, zero, suc, _≤_}
 use native.Mathlib.Omega.{arith}
@@ -10,7 +12,7 @@ use lib.ListN.{length, take, replicate, length-replicate}
 use lib.Seq.{length-take-le}
 use Rattle.integers.specs.Words.{AreWords, AreBytes, onto}
 use Rattle.integers.proofs.Buffers.{take-onto}
-use Rattle.plant.specs.Ask.{_then_}
+use Rattle.plant.specs.Ask.{ask, _then_}
 use Rattle.plant.specs.Model.{headSize, modelSize}
 use Rattle.plant.specs.Questions.{rangesQuestions, recordsQuestions, modelQuestions}
 use Rattle.plant.specs.declared.Count.{Count}
@@ -26,16 +28,6 @@ use Rattle.model_files.proofs.ModelReading.{body-passed, most-words, most-bytes
 use Rattle.model_files.proofs.ModelRoundTrip.{head-le, records-file-le, read-passes, file-read, model-files-exact}
 use Rattle.host.specs.Hosts.{modelOf, modelFileQuestions}
 use Rattle.host.proofs.Held.{Front, front}
-
--- the words that a call holds for a model
-abbrev pub held : List ℤ
-held = replicate 7172 (pos 0)
-
--- ---- 5 is always yes
-
--- the head's numbers are allowed
-head : (h : List ℤ) → 4 ≤ length h → rangesQuestions h ≡ 0 → Head h
-head h there e = head-passed h there e
 
 -- ---- two chains of questions, one after the other
 
@@ -69,46 +61,48 @@ refused-number (suc k) words next v q d e = (ap (λ (c : Count). countReply c .c
 pub when : {r c : Count} {x : List ℤ} {o : ReadOutcome} → r ≡ c → _≡_ {A = ReadOutcome} (record { count = r; words = x }) o → _≡_ {A = ReadOutcome} (record { count = c; words = x }) o
 when {x = x} {o = o} e h = subst (λ (c : Count). _≡_ {A = ReadOutcome} (record { count = c; words = x }) o) e h
 
+-- ---- 5
+
+-- n, L, E and B are allowed
+head : (h : List ℤ) → 4 ≤ length h → rangesQuestions h ≡ 0 → Head h
+head h there e = head-passed h there e
+
+ranges-yes : (s : List ℕ) → headQuestions s ≡ 0 → rangesQuestions (headWords s) ≡ 0
+unfolding headQuestions
+ranges-yes s e = then-both _ (rangesQuestions (headWords s)) e .1
+
+-- whatever the file, these words have room for its model once 1 to 4 are yes
+abbrev pub Roomy : (s : List ℕ) (held : List ℤ) → Type 0
+Roomy s held = headQuestions s ≡ 0 → modelSize (headWords s) ≤ length held
+
+-- as many words as the longest model has
+pub most-roomy : (s : List ℕ) → Roomy s (replicate 7172 (pos 0))
+most-roomy s e = omega (arith, most-words (headWords s) (head (headWords s) (omega (arith, length-head s)) (ranges-yes s e)), length-replicate 7172 (pos 0))
+
+had-room : (a : ℕ) (b : Bool) (words : List ℤ) (next : ReadOutcome) → (readReply (unlessRefused (a then ask b 5) words next) .code ≡ 5 → ⊥) → a ≡ 0 → T b
+unfolding _then_ unlessRefused
+had-room zero true words next n z = tt
+had-room zero false words next n z = absurd (n refl)
+had-room (suc a) b words next n z = absurd (omega arith)
+
+-- a reader that does not give 5 had room
+pub other-roomy : (s : List ℕ) (held : List ℤ) {c : Count} {x : List ℤ} → _≡_ {A = ReadOutcome} (record { count = c; words = x }) (readModelCall s held) → (countReply c .code ≡ 5 → ⊥) → Roomy s held
+unfolding readModelCall
+other-roomy s held e n z =
+    let fits = leb (modelSize (headWords s)) (length held) in
+    leb→le (modelSize (headWords s)) (length held) (had-room (headQuestions s) fits held _ (λ five. n (ap (λ (o : ReadOutcome). readReply o .code) e ∙ five)) z)
+
 -- ---- what the reader of a model tells
 
 module _ (s : List ℕ) where
   abbrev h : List ℤ
   h = headWords s
 
-  abbrev all : ReadOutcome
-  all = record { count = Done (modelSize h); words = onto (fileWords s h) held }
-
-  -- 1 to 5
-  abbrev front-questions : ℕ
-  front-questions = headQuestions s then bufferQuestion h (length held)
-
-  -- n, L, E and B are allowed, so there is room for the words
-  ranges-yes : headQuestions s ≡ 0 → rangesQuestions h ≡ 0
-  unfolding headQuestions
-  ranges-yes e = then-both _ (rangesQuestions h) e .1
-
-  has-room : headQuestions s ≡ 0 → modelSize h ≤ length held
-  has-room e = omega (arith, most-words h (head h (omega (arith, length-head s)) (ranges-yes e)), length-replicate 7172 (pos 0))
-
-  questions-are : (front-questions then recordsFileQuestions s h) ≡ modelFileQuestions s
-  unfolding modelFileQuestions
-  questions-are =
-      left-out (headQuestions s) (bufferQuestion h (length held)) (recordsFileQuestions s h)
-      (λ e. ask-intro (leb (modelSize h) (length held)) 5 (le→leb (modelSize h) (length held) (has-room e)))
-
   pub questions-le : modelFileQuestions s ≤ 46
   unfolding modelFileQuestions
   questions-le = then-le _ _ 46 (head-le s) (records-file-le s h)
 
-  count-is : readModelCall s held .count ≡ unlessRefused (modelFileQuestions s) (zeroed held) all .count
-  unfolding readModelCall
-  count-is = one-chain front-questions (recordsFileQuestions s h) held (zeroed held) all ∙ ap (λ (q : ℕ). unlessRefused q (zeroed held) all .count) questions-are
-
-  -- a refusal is the number of the file's questions
-  pub read-refused : {q : ℕ} {x : List ℤ} → _≡_ {A = ReadOutcome} (record { count = Refused q; words = x }) (readModelCall s held) → (q ≡ modelFileQuestions s) × (modelFileQuestions s ≡ 0 → ⊥)
-  read-refused {q} e = refused-number (modelFileQuestions s) (zeroed held) all (modelSize h) q refl (ap (λ (o : ReadOutcome). o .count) e ∙ count-is)
-
-  -- where all of them are yes, the words are the model's
+  -- where all questions are yes
   module _ (yes : modelFileQuestions s ≡ 0) where
     each-yes : (headQuestions s ≡ 0) × (bodyQuestions s h ≡ 0) × (recordsQuestions (fileWords s h) ≡ 0)
     unfolding modelFileQuestions recordsFileQuestions
@@ -117,38 +111,65 @@ module _ (s : List ℕ) where
         let b : (bodyQuestions s h ≡ 0) × (recordsQuestions (fileWords s h) ≡ 0) = then-both (bodyQuestions s h) (recordsQuestions (fileWords s h)) (a .1) in
         (a .0, b .0, b .1)
 
-    fits : modelSize h ≤ length held
-    fits = has-room (each-yes .0)
-
-    reads : readModelCall s held ≡ all
-    unfolding readModelCall
-    reads = both-yes front-questions (recordsFileQuestions s h) held (zeroed held) all (questions-are ∙ yes)
-
     pub longest-model : length s ≤ 29907
-    longest-model = most-bytes s h (head h (omega (arith, length-head s)) (ranges-yes (each-yes .0))) (body-passed s h (each-yes .1))
+    longest-model = most-bytes s h (head h (omega (arith, length-head s)) (ranges-yes s (each-yes .0))) (body-passed s h (each-yes .1))
 
     pub model-asked : modelQuestions (modelOf s) ≡ 0
     unfolding modelOf
-    model-asked = read-passes s (ranges-yes (each-yes .0)) (each-yes .2)
+    model-asked = read-passes s (ranges-yes s (each-yes .0)) (each-yes .2)
 
-    pub is-model : AreBytes s → IsModelFile s (modelOf s)
-    unfolding modelOf
-    is-model bytes =
-        subst (IsModelFile s) (ap wordsRead reads ∙ take-onto (fileWords s h) held (modelSize h) (length-file s h (length-head s)))
-        (model-files-exact .read-is-file s held bytes (ap (λ (o : ReadOutcome). readReply o .code) reads))
+  -- into words that have room
+  module _ (held : List ℤ) (roomy : Roomy s held) where
+    abbrev all : ReadOutcome
+    all = record { count = Done (modelSize h); words = onto (fileWords s h) held }
 
-  module _ {size : ℕ} {x : List ℤ} (e : _≡_ {A = ReadOutcome} (record { count = Done size; words = x }) (readModelCall s held)) where
+    -- 1 to 5
+    abbrev front-questions : ℕ
+    front-questions = headQuestions s then bufferQuestion h (length held)
+
+    questions-are : (front-questions then recordsFileQuestions s h) ≡ modelFileQuestions s
+    unfolding modelFileQuestions
+    questions-are =
+        left-out (headQuestions s) (bufferQuestion h (length held)) (recordsFileQuestions s h)
+        (λ e. ask-intro (leb (modelSize h) (length held)) 5 (le→leb (modelSize h) (length held) (roomy e)))
+
+    count-is : readModelCall s held .count ≡ unlessRefused (modelFileQuestions s) (zeroed held) all .count
+    unfolding readModelCall
+    count-is = one-chain front-questions (recordsFileQuestions s h) held (zeroed held) all ∙ ap (λ (q : ℕ). unlessRefused q (zeroed held) all .count) questions-are
+
+    -- a refusal is the number of the file's questions
+    pub read-refused : {q : ℕ} {x : List ℤ} → _≡_ {A = ReadOutcome} (record { count = Refused q; words = x }) (readModelCall s held) → (q ≡ modelFileQuestions s) × (modelFileQuestions s ≡ 0 → ⊥)
+    read-refused {q} e = refused-number (modelFileQuestions s) (zeroed held) all (modelSize h) q refl (ap (λ (o : ReadOutcome). o .count) e ∙ count-is)
+
+    -- where all of them are yes, the words are the model's
+    pub reads : modelFileQuestions s ≡ 0 → readModelCall s held ≡ all
+    unfolding readModelCall
+    reads passed = both-yes front-questions (recordsFileQuestions s h) held (zeroed held) all (questions-are ∙ passed)
+
+  pub is-model : modelFileQuestions s ≡ 0 → AreBytes s → IsModelFile s (modelOf s)
+  unfolding modelOf
+  is-model passed bytes =
+      let held : List ℤ = replicate 7172 (pos 0) in
+      let e = reads held (most-roomy s) passed in
+      subst (IsModelFile s) (ap wordsRead e ∙ take-onto (fileWords s h) held (modelSize h) (length-file s h (length-head s)))
+      (model-files-exact .read-is-file s held bytes (ap (λ (o : ReadOutcome). readReply o .code) e))
+
+  -- a reader that is done
+  module _ (held : List ℤ) {size : ℕ} {x : List ℤ} (e : _≡_ {A = ReadOutcome} (record { count = Done size; words = x }) (readModelCall s held)) where
+    roomy : Roomy s held
+    roomy = other-roomy s held e (λ z. omega arith)
+
     pub read-yes : modelFileQuestions s ≡ 0
-    read-yes = done (modelFileQuestions s) (zeroed held) all (omega (arith, questions-le)) (sym (ap (λ (o : ReadOutcome). readReply o .code) e ∙ ap (λ (c : Count). countReply c .code) count-is)) .0
+    read-yes = done (modelFileQuestions s) (zeroed held) (all held roomy) (omega (arith, questions-le)) (sym (ap (λ (o : ReadOutcome). readReply o .code) e ∙ ap (λ (c : Count). countReply c .code) (count-is held roomy))) .0
 
-    read-all : _≡_ {A = ReadOutcome} (record { count = Done size; words = x }) all
-    read-all = e ∙ reads read-yes
+    read-all : _≡_ {A = ReadOutcome} (record { count = Done size; words = x }) (all held roomy)
+    read-all = e ∙ reads held roomy read-yes
 
     pub read-front : Front x size (modelOf s)
     unfolding modelOf
     read-front =
         let is-size : size ≡ modelSize h = ap (λ (o : ReadOutcome). readReply o .value) read-all in
-        front held (ap (λ (o : ReadOutcome). o .words) read-all) (length-file s h (length-head s) ∙ sym is-size) (omega (arith, is-size, fits read-yes))
+        front held (ap (λ (o : ReadOutcome). o .words) read-all) (length-file s h (length-head s) ∙ sym is-size) (omega (arith, is-size, roomy (each-yes read-yes .0)))
 
     pub model-passes : modelQuestions (take size x) ≡ 0
     model-passes = ap modelQuestions (read-front .are) ∙ model-asked read-yes
@@ -160,6 +181,7 @@ file-passes m asks words =
     let a : T (leb headSize (length m)) × _ = asked (leb headSize (length m)) 5 _ (omega arith) asks in
     let b : (rangesQuestions m ≡ 0) × _ = then-both (rangesQuestions m) _ (a .1) in
     let whole : modelSize m ≤ length m = leb→le (modelSize m) (length m) (asked (leb (modelSize m) (length m)) 5 _ (omega arith) (b .1) .0) in
+    let held : List ℤ = replicate 7172 (pos 0) in
     let fit : modelSize m ≤ length held = omega (arith, most-words m (head m (leb→le headSize (length m) (a .0)) (b .0)), length-replicate 7172 (pos 0)) in
     let e = file-read m held asks words fit in
-    (read-yes (modelFile m) e, sym (read-front (modelFile m) e .are) ∙ take-onto (take (modelSize m) m) held (modelSize m) (length-take-le (modelSize m) m whole))
+    (read-yes (modelFile m) held e, sym (read-front (modelFile m) held e .are) ∙ take-onto (take (modelSize m) m) held (modelSize m) (length-take-le (modelSize m) m whole))

@@ -81,10 +81,8 @@ fn decide_words(model: &[i32], file: &mut [u8], limit: u32) -> u64
     answer_file(model, file, limit)
 }
 
-// Decides a model file under a limit, and writes the answer's table file: the answer's code or a refusal's number, times 2^32,
-// plus the number of passes.
-#[no_mangle]
-pub extern "C" fn decide(model: &[u8], table: &mut [u8], limit: u32) -> u64
+// Decides a model file with as many words held for the model as any has.
+fn decide_most(model: &[u8], table: &mut [u8], limit: u32) -> u64
     ensures { λ r. ⌜ record { number = r; file = now (table .exit) } ≡ decideCall (now (model .entry)) (now (table .entry)) limit ⌝ }
 {
     let mut words = [0i32; records::MOST_WORDS];
@@ -92,6 +90,25 @@ pub extern "C" fn decide(model: &[u8], table: &mut [u8], limit: u32) -> u64
     match read {
         Count::Done(size) => decide_words(&words[..size], table, limit),
         Count::Refused(q) => pack(q, 0),
+    }
+}
+
+// Decides a model file under a limit, and writes the answer's table file: the answer's code or a refusal's number, times 2^32,
+// plus the number of passes. Few words are held for the model at first: 5 says that they are not enough.
+#[no_mangle]
+pub extern "C" fn decide(model: &[u8], table: &mut [u8], limit: u32) -> u64
+    ensures { λ r. ⌜ record { number = r; file = now (table .exit) } ≡ decideCall (now (model .entry)) (now (table .entry)) limit ⌝ }
+{
+    let mut words = [0i32; records::FEW_WORDS];
+    let read = model_files::read_model(model, &mut words);
+    match read {
+        Count::Done(size) => decide_words(&words[..size], table, limit),
+        Count::Refused(q) => {
+            if q == 5 {
+                return decide_most(model, table, limit);
+            }
+            pack(q, 0)
+        }
     }
 }
 
@@ -129,9 +146,8 @@ fn verdict_code(q: u32) -> u64
     if q == 0 { 100 } else { q as u64 }
 }
 
-// Checks a table file against a model file: 100 if it is accepted, else a refusal's number.
-#[no_mangle]
-pub extern "C" fn check(model: &[u8], table: &[u8]) -> u64
+// Checks a table file with as many words held for the model as any has.
+fn check_most(model: &[u8], table: &[u8]) -> u64
     ensures { λ r. ⌜ r ≡ hostCheckCall (now (model .entry)) (now (table .entry)) ⌝ }
 {
     let mut words = [0i32; records::MOST_WORDS];
@@ -139,5 +155,24 @@ pub extern "C" fn check(model: &[u8], table: &[u8]) -> u64
     match read {
         Count::Done(size) => check_words(&words[..size], table),
         Count::Refused(q) => q as u64,
+    }
+}
+
+// Checks a table file against a model file: 100 if it is accepted, else a refusal's number. Few words are held for the model at
+// first: 5 says that they are not enough.
+#[no_mangle]
+pub extern "C" fn check(model: &[u8], table: &[u8]) -> u64
+    ensures { λ r. ⌜ r ≡ hostCheckCall (now (model .entry)) (now (table .entry)) ⌝ }
+{
+    let mut words = [0i32; records::FEW_WORDS];
+    let read = model_files::read_model(model, &mut words);
+    match read {
+        Count::Done(size) => check_words(&words[..size], table),
+        Count::Refused(q) => {
+            if q == 5 {
+                return check_most(model, table);
+            }
+            q as u64
+        }
     }
 }

@@ -72,6 +72,9 @@ pub const CUT_SIZE: usize = 2;
 // The words of the largest model: 6 variables, 64 locations, 128 switches, 64 forbidden boxes.
 pub const MOST_WORDS: usize = 7172;
 
+// Words enough for small models: those that a call on files holds at first.
+pub const FEW_WORDS: usize = 512;
+
 // ---- where the records stand
 
 pub fn location_at(model: &[i32], l: usize) -> usize

@@ -1,7 +1,7 @@
 -- The file's number is the refusal, or its words are asked for.
 use mathlib.Core.Path.{_≡_, sym}
 use borrow.Author.Needs.{needs}
-use Rattle.host.proofs.Reading.{when, read-refused, read-yes, read-front, model-passes}
+use Rattle.host.proofs.Reading.{when, other-roomy, read-refused, read-yes, read-front, model-passes}
 use Rattle.host.proofs.Checking.{check-refused, check-words}
 use Rattle.host.proofs.check.Statement.{statement}
 use Rattle.host.proofs.check.Tie as tie
@@ -16,29 +16,36 @@ enum-known-read : tie.Need-enum-known-read
 enum-known-read c = search needs
 
 array-share-prefix-words : tie.Need-array-share-prefix-words
-array-share-prefix-words c = read-front _ (when (c .before .read .given .1) (c .before .before .before .before .read-model .ensures)) .there
+array-share-prefix-words c = read-front _ _ (when (c .before .read .given .1) (c .before .before .before .before .read-model .ensures)) .there
 
 slice-aggregate-check-words : tie.Need-slice-aggregate-check-words
-slice-aggregate-check-words c = read-front _ (when (c .before .before .read .given .1) (c .before .before .before .before .before .read-model .ensures)) .lent
+slice-aggregate-check-words c = read-front _ _ (when (c .before .before .read .given .1) (c .before .before .before .before .before .read-model .ensures)) .lent
 
 check-words-requires : tie.Need-check-words-requires
-check-words-requires c κs = model-passes _ (when (c .before .before .read .given .1) (c .before .before .before .before .before .read-model .ensures))
+check-words-requires c κs = model-passes _ _ (when (c .before .before .read .given .1) (c .before .before .before .before .before .read-model .ensures))
 
 enum-known-read-2 : tie.Need-enum-known-read-2
 enum-known-read-2 c = search needs
 
+check-most-requires : tie.Need-check-most-requires
+check-most-requires c κs = search needs
+
+returns : tie.Need-returns
+returns c = search needs
+
 cast-result : tie.Need-cast-result
 cast-result c = search needs
 
-returns : tie.Need-returns
-returns c =
-    let e = when (c .before .before .before .read .given .1) (c .before .before .before .before .before .before .read-model .ensures) in
-    check-words _ _ (read-yes _ e) (read-front _ e .are) (c .check-words .ensures)
-
 returns-2 : tie.Need-returns-2
 returns-2 c =
-    let e = read-refused _ (when (c .before .read2 .given .1) (c .before .before .before .before .read-model .ensures)) in
-    check-refused _ _ (e .0) (e .1)
+    let e = when (c .before .before .before .read .given .1) (c .before .before .before .before .before .before .read-model .ensures) in
+    check-words _ _ (read-yes _ _ e) (read-front _ _ e .are) (c .check-words .ensures)
+
+returns-3 : tie.Need-returns-3
+returns-3 c =
+    let e = when (c .before .before .read2 .given .1) (c .before .before .before .before .before .read-model .ensures) in
+    let k = read-refused _ _ (other-roomy _ _ e (c .if1 .left)) e in
+    check-refused _ _ (k .0) (k .1)
 
 pub check-spec : {M : Type 1} → statement M
 check-spec =
@@ -51,6 +58,8 @@ check-spec =
     slice-aggregate-check-words
     check-words-requires
     enum-known-read-2
-    cast-result
+    check-most-requires
     returns
-    returns-2)
+    cast-result
+    returns-2
+    returns-3)
