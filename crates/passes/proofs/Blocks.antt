@@ -1,7 +1,7 @@
 -- Lists that stand one after the other, of which some are replaced, or the next one is put after those before it.
 use mathlib.Core.Path.{_≡_, refl, sym, ap, ap₂, _∙_}
-use mathlib.Core.List.{List, _++_, append-assoc, append-nil}
-use Prim.Native.Nat.{ℕ, zero, suc, _+_, _*_, _-_, _<_, _≤_}
+use mathlib.Core.List.{List, _++_, append-assoc}
+use Prim.Native.Nat.{ℕ, _+_, _-_, _<_, _≤_}
 use native.Mathlib.Omega.{arith}
 use lib.IntN.{ℤ}
 use lib.ListN.{length, take, drop, length-append}
@@ -10,6 +10,7 @@ use borrow.Rule.Slice.PartMut.{midOf, putMid, mid-len}
 use Rattle.integers.specs.Words.{onto}
 use Rattle.integers.specs.Counted.{cat, sumBelow}
 use Rattle.integers.proofs.Buffers.{onto-none, onto-all, length-onto, cat-none, cat-more, length-cat-sum, cat-ext}
+use Rattle.integers.proofs.Rows.{cat-add}
 
 -- a part in a list that is put together
 pub put-between : (p x q z : List ℤ) (at k : ℕ) → length p ≡ at → length x ≡ k → putMid at k (p ++ (x ++ q)) z ≡ p ++ (z ++ q)
@@ -20,22 +21,6 @@ pub mid-between : (p x q : List ℤ) (at k : ℕ) → length p ≡ at → length
 mid-between p x q at k e f = ap (take k) (drop-at p (x ++ q) at e) ∙ take-at x q k f
 
 -- ---- lists taken together
-
--- k lists, and p more
-pub cat-add : (k p : ℕ) (g : ℕ → List ℤ) → cat (k + p) g ≡ cat k g ++ cat p (λ j. g (k + j))
-unfolding cat
-cat-add k zero g = let e : k + 0 ≡ k = omega arith in ap (λ (x : ℕ). cat x g) e ∙ sym (append-nil (cat k g))
-cat-add k (suc p) g =
-    let e : k + suc p ≡ suc (k + p) = omega arith in
-    ap (λ (x : ℕ). cat x g) e ∙ ap (λ (s : List ℤ). s ++ g (k + p)) (cat-add k p g) ∙ append-assoc (cat k g) (cat p (λ j. g (k + j))) (g (k + p))
-
--- k groups of p lists
-pub cat-groups : (k p : ℕ) (g : ℕ → List ℤ) → cat (k * p) g ≡ cat k (λ f. cat p (λ j. g (f * p + j)))
-unfolding cat
-cat-groups zero p g = let e : 0 * p ≡ 0 = omega arith in ap (λ (x : ℕ). cat x g) e
-cat-groups (suc k) p g =
-    let e : suc k * p ≡ k * p + p = omega arith in
-    ap (λ (x : ℕ). cat x g) e ∙ cat-add (k * p) p g ∙ ap (λ (s : List ℤ). s ++ cat p (λ j. g (k * p + j))) (cat-groups k p g)
 
 pub cat-one : (g : ℕ → List ℤ) → cat 1 g ≡ g 0
 unfolding cat

@@ -16,6 +16,7 @@ use Rattle.plant.specs.Pieces.{piecesPerFace}
 use Rattle.plant.specs.Steps.{wallStep, switchStep}
 use Rattle.plant.specs.Tables.{faceRead}
 use Rattle.plant.proofs.Boxes.{FaceAll}
+use Rattle.plant.proofs.Pieces.{face-of-number, index-of-number}
 use Rattle.tables.specs.Room.{faceIn, AreFaces, joinedEach, cutEach, CutVariable, PiecesJoinable}
 use Rattle.tables.proofs.Faces.{join-absent}
 use Rattle.steps.specs.Ready.{WallReady, SwitchReady}
@@ -23,7 +24,7 @@ use Rattle.steps.specs.Handing.{Handed}
 use Rattle.steps.proofs.Faces.{InInvariant, wall-in, switch-in}
 use Rattle.passes.specs.Joining.{piecesWith, WallJoin, WallsJoin, PartJoin, SwitchJoin, wallsFrom}
 use Rattle.passes.proofs.Joined.{read-present, read-absent}
-use Rattle.passes.proofs.Locations.{same-joined, piece-face, piece-index}
+use Rattle.passes.proofs.Locations.{same-joined}
 
 -- k faces joined with nothing stay
 pub none-joined : (n k : ℕ) (words : List ℤ) → AreFaces n k words → words ≡ joinedEach n k words (λ q. absent)
@@ -66,7 +67,7 @@ module _ (n : ℕ) (inv rate bounds : List ℤ) (d : ℕ) (b variable value : �
 -- the step to face f is what the location's pieces of that face are given
 pub walls-given : (n : ℕ) (inv rate bounds : List ℤ) (c : Cut) (f : ℕ) (words : List ℤ) → joinedEach n (piecesPerFace c) words (cutEach n c (variableOf f) (wallStep n inv rate bounds (variableOf f) (word inv f))) ≡ joinedEach n (piecesPerFace c) words (λ j. wallsFrom n inv rate c (present bounds) (f * piecesPerFace c + j))
 walls-given n inv rate bounds c f words = same-joined n (piecesPerFace c) words _ _
-    (λ j u i. cutEach n c (variableOf (sym (piece-face c f j u) i)) (wallStep n inv rate bounds (variableOf (sym (piece-face c f j u) i)) (word inv (sym (piece-face c f j u) i))) (sym (piece-index c f j u) i))
+    (λ j u i. cutEach n c (variableOf (sym (face-of-number c f j u) i)) (wallStep n inv rate bounds (variableOf (sym (face-of-number c f j u) i)) (word inv (sym (face-of-number c f j u) i))) (sym (index-of-number c f j u) i))
 
 -- the steps from a part to all pieces of a location
 module _ (n : ℕ) (inv rate part : List ℤ) (variable value : ℤ) (block : List ℤ) (ok : PartJoin n inv rate part variable value block) where

@@ -2,7 +2,7 @@
 -- location they are the pieces of its faces, as many for each.
 use mathlib.Core.Path.{_≡_, sym, ap, _∙_}
 use mathlib.Core.List.{List, _++_}
-use Prim.Native.Nat.{ℕ, _+_, _*_, _-_, _/_, _%_, _<_, _≤_}
+use Prim.Native.Nat.{ℕ, _+_, _*_, _-_, _<_, _≤_}
 use native.Mathlib.Nat.{mul-le-mul, mul-le-mul-right}
 use native.Mathlib.Omega.{arith}
 use lib.IntN.{ℤ}
@@ -12,6 +12,7 @@ use Rattle.integers.specs.Words.{onto}
 use Rattle.integers.specs.Counted.{cat, sumBelow}
 use Rattle.integers.proofs.Counted.{sum-same}
 use Rattle.integers.proofs.Buffers.{cat-at, length-cat, cat-ext}
+use Rattle.integers.proofs.Rows.{cat-groups}
 use Rattle.plant.specs.Box.{Face, faceWords, join}
 use Rattle.plant.specs.Model.{Cut, uncut, cutBy}
 use Rattle.plant.specs.Pieces.{piecesPerFace}
@@ -22,7 +23,7 @@ use Rattle.tables.specs.Room.{facesBy, faceIn, AreFaces, joinedEach}
 use Rattle.passes.specs.Joining.{piecesWith}
 use Rattle.passes.proofs.Joined.{read-words, join-ends}
 use Rattle.passes.proofs.PartWords.{face-there}
-use Rattle.passes.proofs.Blocks.{mid-between, cat-groups, place-rest}
+use Rattle.passes.proofs.Blocks.{mid-between, place-rest}
 
 -- ---- the k faces g
 
@@ -52,16 +53,6 @@ pub same-joined : (n k : ℕ) (words : List ℤ) (h h′ : ℕ → Face) → ((q
 same-joined n k words h h′ e = cat-ext k (λ q. faceWords n (join n (faceIn n words q) (h q))) (λ q. faceWords n (join n (faceIn n words q) (h′ q))) (λ q u. ap (λ (x : Face). faceWords n (join n (faceIn n words q) x)) (e q u))
 
 -- ---- the pieces of a location with the cut c: of face f those from f * p on, p for each
-
-pub piece-face : (c : Cut) (f j : ℕ) → j < piecesPerFace c → (f * piecesPerFace c + j) / piecesPerFace c ≡ f
-unfolding piecesPerFace
-piece-face uncut f j u = omega arith
-piece-face (cutBy v x) f j u = omega arith
-
-pub piece-index : (c : Cut) (f j : ℕ) → j < piecesPerFace c → (f * piecesPerFace c + j) % piecesPerFace c ≡ j
-unfolding piecesPerFace
-piece-index uncut f j u = omega arith
-piece-index (cutBy v x) f j u = omega arith
 
 pub pieces-few : (c : Cut) → piecesPerFace c ≤ 2
 unfolding piecesPerFace

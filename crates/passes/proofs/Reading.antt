@@ -11,8 +11,9 @@ use lib.ListN.{length, take, drop, getD}
 use Rattle.integers.specs.Words.{word}
 use Rattle.integers.specs.Counted.{cat, allBelow, sumBelow}
 use Rattle.integers.proofs.Tests.{true-is}
-use Rattle.integers.proofs.Counted.{split, all-yes, sum-back, sum-part, sum-same}
+use Rattle.integers.proofs.Counted.{all-yes, sum-back, sum-part, sum-same}
 use Rattle.integers.proofs.Buffers.{cat-parts, cat-ext}
+use Rattle.integers.proofs.Rows.{sum-upto}
 use Rattle.plant.specs.Box.{Face, faceWords, join, joins}
 use Rattle.plant.specs.Model.{n#, L#, E#, invariant, rate, source, target, wallVariable, resetMask, guard, reset, variableOf, sideOf, faceWall, cutVariable, cutValue, Cut, uncut, cutBy, cutFrom, cutOf}
 use Rattle.plant.specs.Pieces.{piecesPerFace, perFace, pieces, pieceFace, pieceIndex, pieceVariable, pieceWall, pieceExtent}
@@ -211,9 +212,6 @@ module _ (m t : List ℤ) (ok : Checked m t) where
     step-joined mask-is d-is words h = h ∙ rw (n-is, mask-is, d-is, guard-is, reset-is, inv-is, variable-is, value-is, from-is .gives, add-one (sourcePiece m e k)) refl
 
 -- ---- the locations, one after the other
-
-sum-upto : (k : ℕ) (f : ℕ → ℕ) (i : ℕ) → i ≤ k → sumBelow i f ≤ sumBelow k f
-sum-upto k f i u = ⊎-elim (λ v. omega (arith, sum-part k f i v)) (λ e. rw e (omega arith)) (split i k (omega arith))
 
 abbrev pub locationsOf : List ℤ → List ℤ → ℕ → List ℤ
 locationsOf m t l = locationBy m l (wallsJoined m t l)

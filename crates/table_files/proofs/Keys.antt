@@ -1,91 +1,20 @@
--- Rows of places, each row with its own number of them, by key: how many places stand before. Two loops, over rows and over the
--- places of a row, are one over the keys; and of the keys only the marked ones count, which stand in an ascending list.
+-- Keys of which only the marked ones count, which stand in an ascending list.
 use mathlib.Core.Path.{_≡_, refl, sym, ap, ap₂, _∙_, subst}
 use mathlib.Core.Bool.{Bool, true, false, not, cond}
-use mathlib.Core.Logic.{_⊎_, inl, inr, ⊎-elim}
-use mathlib.Core.List.{List, [], _++_, append-assoc, append-nil}
-use Prim.Native.Nat.{ℕ, zero, suc, _+_, _*_, _<_, _≤_}
+use mathlib.Core.Logic.{⊎-elim}
+use mathlib.Core.List.{List, [], _++_, append-nil}
+use Prim.Native.Nat.{ℕ, zero, suc, _+_, _<_, _≤_}
 use native.Mathlib.Decide.{decLt}
-use native.Mathlib.Nat.{add-zero, add-suc, zero-mul, suc-mul}
 use native.Mathlib.Omega.{arith}
-use borrow.Author.Tests.{le-leb, lt-leb, eq-eqb, ne-eqb}
-use lib.Dec.{T, eqb, leb}
-use lib.ListN.{replicate, replicate-append-replicate}
+use borrow.Author.Tests.{eq-eqb, ne-eqb}
+use lib.Dec.{T, eqb}
 use Rattle.integers.specs.Counted.{cat, sumBelow}
-use Rattle.integers.proofs.Counted.{split, sum-ext, sum-part}
-use Rattle.integers.proofs.Buffers.{cat-ext}
+use Rattle.integers.proofs.Counted.{split}
+use Rattle.integers.proofs.Rows.{either}
 
 not-both : (b : Bool) → T b → T (not b) → ⊥
 not-both true s t = t
 not-both false s t = s
-
-either : (x y : ℕ) → Dec (x < y) → (x < y) ⊎ (y ≤ x)
-either x y (yes h) = inl h
-either x y (no h) = inr (omega arith)
-
--- ---- a key is its row and a place in the row
-
-module _ (w : ℕ → ℕ) where
-  -- the row of key q, of n rows
-  unfoldable pub rowOf : (n q : ℕ) → ℕ
-  rowOf zero q = 0
-  rowOf (suc n) q = cond (leb (sumBelow n w) q) n (rowOf n q)
-
-  last-row : (n q : ℕ) → sumBelow n w ≤ q → rowOf (suc n) q ≡ n
-  unfolding rowOf
-  last-row n q h = rw (le-leb (sumBelow n w) q h) refl
-
-  row-before : (n q : ℕ) → q < sumBelow n w → rowOf (suc n) q ≡ rowOf n q
-  unfolding rowOf
-  row-before n q h = rw (lt-leb (sumBelow n w) q h) refl
-
-  pub row-is : (n l f : ℕ) → l < n → f < w l → rowOf n (sumBelow l w + f) ≡ l
-  row-is zero l f u v = absurd (omega arith)
-  row-is (suc n) l f u v = ⊎-elim
-      (λ k. row-before n (sumBelow l w + f) (omega (arith, sum-part n w l k)) ∙ row-is n l f k v)
-      (λ e. last-row n (sumBelow l w + f) (rw e (omega arith)) ∙ sym e)
-      (split l n u)
-
-  -- the row is one of them, and the place is one of the row's
-  pub record InRow (n q l : ℕ) : Type 0 where
-    pub row : l < n
-    pub begins : sumBelow l w ≤ q
-    pub ends : q < sumBelow l w + w l
-
-  pub in-row : (n q : ℕ) → q < sumBelow n w → InRow n q (rowOf n q)
-  unfolding sumBelow
-  in-row zero q h = absurd (omega arith)
-  in-row (suc n) q h = ⊎-elim
-      (λ u. let r : InRow n q (rowOf n q) = in-row n q u in rw (row-before n q u) (record { row = omega (arith, r .row); begins = r .begins; ends = r .ends }))
-      (λ u. rw (last-row n q u) (record { row = omega arith; begins = u; ends = h }))
-      (either q (sumBelow n w) (decLt q (sumBelow n w)))
-
--- ---- two loops as one
-
-module _ {A : Type 0} where
-  cat-add : (a b : ℕ) (g : ℕ → List A) → cat (a + b) g ≡ cat a g ++ cat b (λ i. g (a + i))
-  unfolding cat
-  cat-add a zero g = rw (add-zero a) (sym (append-nil (cat a g)))
-  cat-add a (suc b) g = rw (add-suc a b) (ap (λ (s : List A). s ++ g (a + b)) (cat-add a b g) ∙ append-assoc (cat a g) (cat b (λ i. g (a + i))) (g (a + b)))
-
-  pub cat-rows : (n : ℕ) (w : ℕ → ℕ) (g : ℕ → ℕ → List A) (h : ℕ → List A) → ((l f : ℕ) → l < n → f < w l → g l f ≡ h (sumBelow l w + f)) → cat n (λ l. cat (w l) (g l)) ≡ cat (sumBelow n w) h
-  unfolding cat sumBelow
-  cat-rows zero w g h e = refl
-  cat-rows (suc n) w g h e =
-      ap₂ (λ (a b : List A). a ++ b) (cat-rows n w g h (λ l f u v. e l f (omega arith) v)) (cat-ext (w n) (g n) (λ f. h (sumBelow n w + f)) (λ f v. e n f (omega arith) v))
-      ∙ sym (cat-add (sumBelow n w) (w n) h)
-
-sum-add : (a b : ℕ) (f : ℕ → ℕ) → sumBelow (a + b) f ≡ sumBelow a f + sumBelow b (λ i. f (a + i))
-unfolding sumBelow
-sum-add a zero f = rw (add-zero a) (omega arith)
-sum-add a (suc b) f = rw (add-suc a b) (omega (arith, sum-add a b f))
-
-pub sum-rows : (n : ℕ) (w : ℕ → ℕ) (g : ℕ → ℕ → ℕ) (h : ℕ → ℕ) → ((l f : ℕ) → l < n → f < w l → g l f ≡ h (sumBelow l w + f)) → sumBelow n (λ l. sumBelow (w l) (g l)) ≡ sumBelow (sumBelow n w) h
-unfolding sumBelow
-sum-rows zero w g h e = refl
-sum-rows (suc n) w g h e =
-    ap₂ _+_ (sum-rows n w g h (λ l f u v. e l f (omega arith) v)) (sum-ext (w n) (g n) (λ f. h (sumBelow n w + f)) (λ f v. e n f (omega arith) v))
-    ∙ sym (sum-add (sumBelow n w) (w n) h)
 
 -- ---- the marked keys below an end, in ascending order
 
@@ -242,10 +171,3 @@ no-longer end marked k key asc = by k refl
     by : (x : ℕ) → k ≡ x → k ≤ end
     by zero e = omega arith
     by (suc x) e = omega (arith, at-least x (omega arith), asc .below x (omega arith))
-
--- ---- zeros
-
-pub replicate-cat : {A : Type 0} (k w : ℕ) (v : A) → replicate (k * w) v ≡ cat k (λ i. replicate w v)
-unfolding cat
-replicate-cat zero w v = rw (zero-mul w)
-replicate-cat {A} (suc k) w v = rw (suc-mul k w) (sym (replicate-append-replicate (k * w) w v) ∙ ap (λ (s : List A). s ++ replicate w v) (replicate-cat k w v))

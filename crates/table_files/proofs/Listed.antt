@@ -14,6 +14,7 @@ use Rattle.integers.specs.Words.{num, AreWords}
 use Rattle.integers.specs.Counted.{cat, sumBelow}
 use Rattle.integers.proofs.Counted.{split}
 use Rattle.integers.proofs.Buffers.{cat-ext}
+use Rattle.integers.proofs.Rows.{cat-rows, sum-rows}
 use Rattle.integers.proofs.Signed.{fits32}
 use Rattle.wire.specs.Bytes.{wordsAt, wordBytes, wordsBytes}
 use Rattle.wire.specs.Fields.{lengthAt, fieldAt, field}
@@ -26,7 +27,7 @@ use Rattle.plant.specs.Pieces.{pieces}
 use Rattle.plant.specs.Tables.{piecesBefore, pieceCount, pieceOf}
 use Rattle.plant.proofs.Tables.{piece-counted}
 use Rattle.table_files.specs.TableFile.{placeSize, pieceFieldSize, placeWords, pieceField, presence, presentPieces, locationFields, pieceFields, tableFile, piecesFrom, fileLength, pieceFieldAt, countWord, pieceFieldWords, pieceNamed, pieceKey, fileFace}
-use Rattle.table_files.proofs.Keys.{cat-rows, sum-rows, Ascending, key-le, along, counted-all}
+use Rattle.table_files.proofs.Keys.{Ascending, key-le, along, counted-all}
 use Rattle.table_files.proofs.PieceKeys.{locationOf, pieceIn, key-location, key-piece, key-again, atKey, at-key}
 use Rattle.table_files.proofs.PlaceWords.{place-most}
 

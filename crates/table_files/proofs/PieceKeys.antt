@@ -8,12 +8,12 @@ use lib.IntN.{ℤ}
 use lib.ListN.{take, drop}
 use Rattle.integers.specs.Counted.{cat}
 use Rattle.integers.proofs.Buffers.{cat-ext, cat-parts}
+use Rattle.integers.proofs.Rows.{rowOf, row-is, InRow, in-row, cat-rows}
 use Rattle.plant.specs.Box.{Face, faceWords}
 use Rattle.plant.specs.Model.{n#, L#}
 use Rattle.plant.specs.Pieces.{pieces}
 use Rattle.plant.specs.Tables.{faceSize, piecesBefore, pieceCount, tableSize, pieceAt, tableBy, pieceOf}
 use Rattle.plant.proofs.Tables.{wordsOf}
-use Rattle.table_files.proofs.Keys.{rowOf, row-is, InRow, in-row, cat-rows}
 
 module _ (m : List ℤ) where
   -- the location of a key, and which piece of the location it is

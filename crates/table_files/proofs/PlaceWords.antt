@@ -2,14 +2,12 @@
 -- words are a place and a box.
 use mathlib.Core.Path.{_≡_, refl, sym, ap, _∙_}
 use mathlib.Core.Bool.{Bool, true, false}
-use mathlib.Core.Logic.{_⊎_, inl, inr, ⊎-elim}
 use mathlib.Core.List.{List, [], _∷_, _++_}
 use Prim.Native.Nat.{ℕ, _+_, _*_, _<_, _≤_}
-use native.Mathlib.Nat.{mod-lt, div-add-mod'}
 use native.Mathlib.Numerals.{add-one}
 use native.Mathlib.Omega.{arith}
 use borrow.Author.Tests.{eq-eqb, ne-eqb}
-use lib.Dec.{T, eqb}
+use lib.Dec.{eqb}
 use lib.IntN.{ℤ, pos, natAbs}
 use lib.ListN.{length, take}
 use lib.Seq.{take-all, drop-at}
@@ -18,46 +16,11 @@ use Rattle.integers.specs.Counted.{anyBelow}
 use Rattle.integers.proofs.Tests.{is-true, true-is}
 use Rattle.integers.proofs.Counted.{any-intro}
 use Rattle.plant.specs.Box.{boxAt}
-use Rattle.plant.specs.Model.{n#, L#, Cut, uncut, cutBy, cutOf}
-use Rattle.plant.specs.Pieces.{perFace, piecesPerFace, anyCut, pieces, pieceNumber, pieceFace, pieceIndex}
+use Rattle.plant.specs.Model.{n#, L#}
+use Rattle.plant.specs.Pieces.{perFace, anyCut, pieceFace, pieceIndex}
 use Rattle.plant.specs.Tables.{pieceCount, longestTableFile}
-use Rattle.plant.proofs.Pieces.{number-face, number-index}
+use Rattle.plant.proofs.Pieces.{number-again, number-face, number-index, index-below, one-piece}
 use Rattle.table_files.specs.TableFile.{placeSize, pieceFieldSize, placeWords, pieceFieldAt, pieceWord, pieceNamed}
-
--- ---- pieces per face
-
-one-or-two : (c : Cut) → (piecesPerFace c ≡ 1) ⊎ (piecesPerFace c ≡ 2)
-unfolding piecesPerFace
-one-or-two uncut = inl refl
-one-or-two (cutBy v x) = inr refl
-
-module _ (m : List ℤ) (l : ℕ) where
-  per-face-is : (perFace m l ≡ 1) ⊎ (perFace m l ≡ 2)
-  unfolding perFace
-  per-face-is = one-or-two (cutOf m l)
-
-  pub per-face-least : 1 ≤ perFace m l
-  per-face-least = ⊎-elim (λ e. omega arith) (λ e. omega arith) per-face-is
-
-  -- a piece number is its face and which piece of it
-  pub number-again : (q : ℕ) → pieceNumber m l (pieceFace m l q) (pieceIndex m l q) ≡ q
-  unfolding pieceNumber pieceFace pieceIndex
-  number-again q = div-add-mod' q (perFace m l)
-
-  pub index-below : (q : ℕ) → pieceIndex m l q < perFace m l
-  unfolding pieceIndex
-  index-below q = mod-lt q {m = perFace m l} (omega (arith, per-face-least))
-
-not-some : (b : Bool) → b ≡ false → T b → ⊥
-not-some true e h = absurd (true-is (sym e))
-not-some false e h = h
-
--- without any cut every face is one piece
-pub one-piece : (m : List ℤ) (l : ℕ) → anyCut m ≡ false → l < L# m → perFace m l ≡ 1
-unfolding anyCut
-one-piece m l e u = ⊎-elim (λ h. h)
-    (λ h. absurd (not-some (anyBelow (L# m) (λ l. eqb (perFace m l) 2)) e (any-intro (L# m) (λ l. eqb (perFace m l) 2) l u (true-is (eq-eqb (perFace m l) 2 h)))))
-    (per-face-is m l)
 
 -- ---- how many words a place has
 

@@ -22,9 +22,8 @@ use Rattle.plant.specs.Questions.{modelQuestions}
 use Rattle.plant.specs.Pieces.{perFace, pieces}
 use Rattle.plant.specs.Tables.{pieceCount, tableSize}
 use Rattle.plant.proofs.Asks.{ask-yes, asked, then-both, first-each}
-use Rattle.plant.proofs.Pieces.{number-below}
+use Rattle.plant.proofs.Pieces.{per-face-least, number-below}
 use Rattle.table_files.specs.TableFile.{pieceFieldSize, pieceFieldAt, countWord, countQuestion, pieceFieldWords, pieceWord, pieceNamed, pieceKey, leastKey, placeOk, pieceQuestion, pieceQuestions, count#, fieldsQuestions, roomQuestions}
-use Rattle.table_files.proofs.PlaceWords.{per-face-least}
 use Rattle.table_files.proofs.Listed.{listed, fieldWords, InOrder}
 
 -- ---- one question

@@ -34,7 +34,7 @@ use Rattle.plant.proofs.Asks.{ask-intro, ask-yes, asked, then-both, then-intro,
 use Rattle.plant.proofs.Numbers.{model-le}
 use Rattle.plant.proofs.Boxes.{length-boxBy, length-boxAt, box-ends}
 use Rattle.plant.proofs.Passed.{InRange, Passed, passed}
-use Rattle.plant.proofs.Pieces.{per-face-most, face-below}
+use Rattle.plant.proofs.Pieces.{per-face-most, face-below, index-below}
 use Rattle.plant.proofs.Tables.{ends, words-ends, piece-counted, count-most, table-length, table-ext, begins-itself, piece-read, OkFace, ok-valid, made-ok}
 use Rattle.plant.specs.Calls.{ReadOutcome, readReply, wordsRead, zeroed}
 use Rattle.passes.proofs.Reading.{old-words}
@@ -43,7 +43,7 @@ use Rattle.table_files.specs.TableFile.{placeSize, pieceFieldSize, place
 use Rattle.table_files.specs.TableBack.{bytesWritten, TableBack}
 use Rattle.table_files.proofs.Keys.{Among, Ascending, Listing, listing, no-longer}
 use Rattle.table_files.proofs.PieceKeys.{locationOf, pieceIn, key-location, key-piece, key-below, key-again, atKey, at-key, table-again}
-use Rattle.table_files.proofs.PlaceWords.{place-most, index-below, length-place, place-location, place-face, place-piece, place-named, place-box, place-and-box}
+use Rattle.table_files.proofs.PlaceWords.{place-most, length-place, place-location, place-face, place-piece, place-named, place-box, place-and-box}
 use Rattle.table_files.proofs.Listed.{isPresent, boxOf, entry, listed, file-listed, head-back, count-back, piece-field-back, piece-words-back, file-length, length-told, fieldWords, locationAt, pieceNamedAt, boxAtField, InOrder, keyOf, key-l, key-q, piece-of-field, in-order}
 use Rattle.table_files.proofs.TableAsked.{FieldsYes, fields-yes, fields-in-order, file-again, room-yes}
 

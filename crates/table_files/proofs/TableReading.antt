@@ -2,12 +2,13 @@
 -- tells, and how the table is filled piece by piece.
 use mathlib.Core.Path.{_≡_, refl, sym, ap, ap₂, _∙_, subst}
 use mathlib.Core.Bool.{Bool, true, false, cond}
+use mathlib.Core.Logic.{_⊎_, inl, inr, ⊎-elim}
 use mathlib.Core.List.{List, [], _∷_, _++_}
 use Prim.Native.Nat.{ℕ, _+_, _*_, _-_, _≤_, _<_}
 use native.Mathlib.Nat.{mul-le-mul}
 use native.Mathlib.Numerals.{add-one}
 use native.Mathlib.Omega.{arith}
-use borrow.Author.Tests.{eq-eqb, ne-eqb}
+use borrow.Author.Tests.{le-leb, lt-leb, eq-eqb, ne-eqb}
 use borrow.Rule.Slice.PartMut.{putMid}
 use lib.Dec.{T, eqb, leb, le→leb}
 use lib.IntN.{ℤ, pos, natAbs}
@@ -22,6 +23,7 @@ use Rattle.integers.proofs.Tests.{and-intro, is-true, true-is}
 use Rattle.integers.proofs.Counted.{within-abs}
 use Rattle.integers.proofs.Signed.{got32, widened, as-signed}
 use Rattle.integers.proofs.Buffers.{onto-all}
+use Rattle.integers.proofs.Rows.{replicate-cat}
 use Rattle.wire.specs.Bytes.{wordSize, wordAt, wordsAt}
 use Rattle.wire.specs.Fields.{headerSize, payloadLength, fieldAt, isField}
 use Rattle.wire.proofs.Words.{length-words, words-nth}
@@ -29,25 +31,24 @@ use Rattle.wire.proofs.Fields.{field-lies, due, whole-is}
 use Rattle.plant.specs.Ask.{ask, _then_, first}
 use Rattle.plant.specs.Box.{boxAt, present, faceWords}
 use Rattle.plant.specs.Model.{n#, L#}
-use Rattle.plant.specs.Pieces.{anyCut, perFace, pieces, pieceNumber}
+use Rattle.plant.specs.Pieces.{anyCut, perFace, pieceNumber}
 use Rattle.plant.specs.Tables.{faceSize, piecesBefore, pieceCount, tableSize, pieceAt, tableBy, tableOk}
 use Rattle.plant.specs.declared.Count.the-variants.{Done, Refused}
 use Rattle.plant.specs.Calls.{ReadOutcome, zeroed}
 use Rattle.plant.proofs.Asks.{or-left, go, halt, both}
 use Rattle.plant.proofs.Boxes.{length-boxAt, box-ends}
 use Rattle.plant.proofs.Passed.{within-nonneg}
-use Rattle.plant.proofs.Pieces.{per-face-most, number-below}
+use Rattle.plant.proofs.Pieces.{per-face-most, per-face-least, number-below}
 use Rattle.plant.proofs.Tables.{piece-counted, piece-inside, table-length}
 use Rattle.plant.proofs.Reading.{refused-at, past}
 use Rattle.records.specs.Whole.{Whole}
 use Rattle.passes.proofs.Landing.{piece-put}
 use Rattle.table_files.specs.TableFile.{placeSize, pieceFieldSize, pieceFieldAt, countWord, countQuestion, pieceFieldWords, pieceWord, pieceNamed, pieceKey, leastKey, placeOk, pieceQuestion, pieceQuestions, fileFace, count#, fileTable, fieldsQuestions, tableFileQuestions, readFaces, roomQuestions, readTableCall}
-use Rattle.table_files.specs.TableRoom.{FieldsReady, CountAt, locationWord, faceWord, indexWord, KeyAt}
-use Rattle.table_files.proofs.Keys.{replicate-cat}
+use Rattle.table_files.specs.TableRoom.{FieldsReady, CountAt, nextLeast, locationWord, faceWord, indexWord, KeyAt}
 use Rattle.table_files.proofs.PieceKeys.{table-keys}
-use Rattle.table_files.proofs.PlaceWords.{per-face-least, place-least, place-most, place-with, place-without}
+use Rattle.table_files.proofs.PlaceWords.{place-least, place-most, place-with, place-without}
 use Rattle.table_files.proofs.Listed.{not-named, fieldWords, locationAt, pieceNamedAt, boxAtField}
-use Rattle.table_files.proofs.TableAsked.{PlaceYes, place-yes, named-below, FieldsYes, count-yes}
+use Rattle.table_files.proofs.TableAsked.{PlaceYes, named-below, FieldsYes, count-yes}
 use Rattle.table_files.proofs.TableWriting.{pieces-few}
 
 -- ---- which piece of a face, by the word behind the face number
@@ -113,6 +114,36 @@ module _ {m : List ℤ} {places : List ℕ} {width : ℕ} (r : FieldsReady m pla
 
   pub in-places : (l : ℕ) → l < L# m → l < length places
   in-places l u = omega (arith, r .are-places .long, r .whole .head .L-small)
+
+-- the least key of the next field, by 37 of this one
+module _ (m w : List ℤ) (least : ℕ) where
+  pub least-no : false ≡ placeOk m w least → 0 ≡ nextLeast m w least
+  unfolding nextLeast
+  least-no e = rw (← e) refl
+
+  module _ {k : ℕ} (e : leb least k ≡ placeOk m w least) where
+    pub least-late : k < least → 0 ≡ nextLeast m w least
+    least-late h = least-no (sym (lt-leb least k h) ∙ e)
+
+    pub least-made : least ≤ k → k ≡ pieceKey m w → k + 1 ≡ nextLeast m w least
+    unfolding nextLeast
+    least-made h ek = rw (← e, le-leb least k h, ek) refl
+
+  -- what code learns of it
+  module _ {r : ℕ} (e : r ≡ nextLeast m w least) where
+    by-place : (b : Bool) → r ≡ cond b (pieceKey m w + 1) 0 → ((r ≡ 0) × (b ≡ false)) ⊎ ((r ≡ pieceKey m w + 1) × (b ≡ true))
+    by-place true h = inr (h, refl)
+    by-place false h = inl (h, refl)
+
+    cases : ((r ≡ 0) × (placeOk m w least ≡ false)) ⊎ ((r ≡ pieceKey m w + 1) × (placeOk m w least ≡ true))
+    unfolding nextLeast
+    cases = by-place (placeOk m w least) e
+
+    pub least-zero : r ≡ 0 → false ≡ placeOk m w least
+    least-zero z = ⊎-elim (λ c. sym (c .1)) (λ c. absurd (omega (arith, c .0))) cases
+
+    pub least-above : (r ≡ 0 → ⊥) → (true ≡ placeOk m w least) × (r ≡ pieceKey m w + 1)
+    least-above n = ⊎-elim (λ c. absurd (n (c .0))) (λ c. (sym (c .1), c .0)) cases
 
 module _ (m : List ℤ) (s : List ℕ) where
   pub count-refused : isField (fieldAt s 0) 6 4 ≡ false → 35 ≡ countQuestion m s
@@ -198,14 +229,11 @@ module _ (m : List ℤ) (s : List ℕ) where
           let w : isField (fieldAt s at) 5 len ≡ true = is-true whole in
           rw (w, ← es) (ap (λ (x : Bool). ask x 37) (sym e))
 
-      pub place-passed : {places : List ℕ} {width : ℕ} → FieldsReady m places width → T (placeOk m (wordsFrom m s start) least) → KeyAt m places s start width
-      place-passed r e = key-passed r (field-there (r .width-is)) (place-yes m (wordsFrom m s start) least (r .whole .head .n-positive) (r .whole .head .L-positive) e)
-
   -- the position and the least key after field i
   pub place-next : (i : ℕ) {at next : ℕ} → at ≡ pieceFieldAt m i → next ≡ at + headerSize + payloadLength (pieceFieldSize m) → next ≡ pieceFieldAt m (i + 1)
   place-next i e f = omega arith
 
-  pub least-next : (i : ℕ) {at start k : ℕ} → at ≡ pieceFieldAt m i → start ≡ at + headerSize → k ≡ pieceKey m (wordsFrom m s start) → k + 1 ≡ leastKey m s (i + 1)
+  pub least-next : (i : ℕ) {at start k : ℕ} → at ≡ pieceFieldAt m i → start ≡ at + headerSize → k ≡ pieceKey m (wordsFrom m s start) + 1 → k ≡ leastKey m s (i + 1)
   unfolding pieceFieldWords
   least-next i e es ek = rw (add-one i, ek, es, e) refl
 

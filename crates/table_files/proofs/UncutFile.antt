@@ -17,7 +17,7 @@ use Rattle.plant.specs.Meaning.{Uncut}
 use Rattle.plant.proofs.Uncut.{all-pieces, not-any}
 use Rattle.table_files.specs.TableFile.{placeWords, pieceField, presence, presentPieces, locationFields, pieceFields, tableFile}
 use Rattle.table_files.specs.UncutFile.{faceField, UncutFile}
-use Rattle.table_files.proofs.PlaceWords.{one-piece}
+use Rattle.plant.proofs.Pieces.{one-piece}
 
 module _ (m t : List ℤ) (none : Uncut m) where
   place-is : (l f : ℕ) → l < L# m → placeWords m l f ≡ pos l ∷ pos f ∷ []

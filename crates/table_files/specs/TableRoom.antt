@@ -14,7 +14,7 @@ use Rattle.plant.specs.Pieces.{perFace, pieces}
 use Rattle.plant.specs.Tables.{piecesBefore, tableSize, pieceAt, longestTableFile}
 use Rattle.records.specs.Whole.{Whole}
 use Rattle.tables.specs.Places.{Places}
-use Rattle.table_files.specs.TableFile.{countFieldSize, placeSize, pieceFieldSize, countWord}
+use Rattle.table_files.specs.TableFile.{countFieldSize, placeSize, pieceFieldSize, countWord, pieceKey, placeOk}
 
 -- ---- writing
 
@@ -76,6 +76,10 @@ indexWord s start width = cond (eqb width 3) (wordAt s (start + 2 * wordSize)) (
 pub record IndexAt (s : List ℕ) (start width : ℕ) : Type 0 where
   pub there : start + payloadLength width ≤ length s
   pub natural : T (nonNeg (indexWord s start width))
+
+-- one more than the key that the words w of a field name, or 0 where they don't pass 37
+unfoldable pub nextLeast : (m w : List ℤ) (least : ℕ) → ℕ
+nextLeast m w least = cond (placeOk m w least) (pieceKey m w + 1) 0
 
 -- all are there, and name a piece of the model
 pub record KeyAt (m : List ℤ) (places : List ℕ) (s : List ℕ) (start width : ℕ) : Type 0 where

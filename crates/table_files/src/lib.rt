@@ -1,7 +1,9 @@
 // Reading and writing a table's file (document 01, "Files", with pieces for faces: document 02, T-12). Outsiders call read_table
 // and write_table. The other public functions serve the host, on a model that has passed its questions.
 ghost use mathlib.Core.Path.{_≡_};
-ghost use Prim.Native.Nat.{_+_, _*_, _≤_};
+ghost use Prim.Native.Nat.{_+_, _*_, _≤_, _<_};
+ghost use Rattle.plant.specs.Model.{L#};
+ghost use Rattle.plant.specs.Pieces.{perFace};
 ghost use Rattle.records.specs.Whole.{Whole};
 ghost use Rattle.table_files.specs.TableFile.{placeSize, piecesFrom, roomQuestions};
 
@@ -36,6 +38,18 @@ fn place_size(model: &[i32]) -> usize
         l = l + 1;
     }
     PLACE_SIZE
+}
+
+// How many pieces a face of location l has: one where the places, by their width, don't name the piece.
+fn per_face(model: &[i32], width: usize, l: usize) -> usize
+    requires { ⌜ Whole (now model) × (width ≡ placeSize (now model)) × (l < L# (now model)) ⌝ }
+    ensures { λ r. ⌜ r ≡ perFace (now (model .entry)) l ⌝ }
+{
+    if width == CUT_PLACE_SIZE {
+        tables::per_face(model, l)
+    } else {
+        1
+    }
 }
 
 // How many words a piece's field has: its place, and a box of n variables.

@@ -2,6 +2,7 @@
 use crate::COUNT_FIELD_SIZE;
 use crate::CUT_PLACE_SIZE;
 use crate::field_size;
+use crate::per_face;
 use crate::pieces_from;
 use crate::place_size;
 use crate::room_questions;
@@ -20,8 +21,8 @@ ghost use Rattle.plant.specs.Ask.{first};
 ghost use Rattle.plant.specs.Tables.{faceSize, tableSize};
 ghost use Rattle.records.specs.Whole.{Whole};
 ghost use Rattle.passes.specs.Ready.{TableReady};
-ghost use Rattle.table_files.specs.TableFile.{pieceFieldSize, countQuestion, pieceKey, placeOk, pieceQuestions, count#, fieldsQuestions, fileTable, readFaces, readTableCall};
-ghost use Rattle.table_files.specs.TableRoom.{FieldsReady, CountAt, indexWord, IndexAt, KeyAt};
+ghost use Rattle.table_files.specs.TableFile.{pieceFieldSize, countQuestion, pieceKey, pieceQuestions, count#, fieldsQuestions, fileTable, readFaces, readTableCall};
+ghost use Rattle.table_files.specs.TableRoom.{FieldsReady, CountAt, nextLeast, indexWord, IndexAt, KeyAt};
 
 // ---- the questions of a file
 
@@ -97,33 +98,38 @@ fn key_at(model: &[i32], places: &[usize], width: usize, file: &[u8], start: usi
     let l = number_at(file, start);
     let f = number_at(file, start + wire::WORD_SIZE);
     let k = index_at(file, start, width);
-    places[l] + (f * tables::per_face(model, l) + k)
+    places[l] + (f * per_face(model, width, l) + k)
 }
 
-// Its location, face and piece exist, and its key is at least the least that is due.
-fn place_ok(
+// The least key that the next field may have, one more than this one's: its location, face and piece exist, and its key is at
+// least the least that is due. 0 if not.
+fn next_least(
     model: &[i32],
     places: &[usize],
     width: usize,
     file: &[u8],
     start: usize,
     least: usize,
-) -> bool
+) -> usize
     requires { ⌜ FieldsReady (now model) (now places) width × (start + payloadLength width ≤ length (now file)) ⌝ }
-    ensures { λ r. ⌜ r ≡ placeOk (now (model .entry)) (wordsAt (now (file .entry)) start (pieceFieldSize (now (model .entry)))) least ⌝ }
+    ensures { λ r. ⌜ r ≡ nextLeast (now (model .entry)) (wordsAt (now (file .entry)) start (pieceFieldSize (now (model .entry)))) least ⌝ }
 {
     if !number_within(file, start, records::locations(model) - 1) {
-        return false;
+        return 0;
     }
     let faces = 2 * records::variables(model);
     if !number_within(file, start + wire::WORD_SIZE, faces - 1) {
-        return false;
+        return 0;
     }
-    let per = tables::per_face(model, number_at(file, start));
+    let per = per_face(model, width, number_at(file, start));
     if !index_within(file, start, width, per - 1) {
-        return false;
+        return 0;
     }
-    least <= key_at(model, places, width, file, start)
+    let key = key_at(model, places, width, file, start);
+    if key < least {
+        return 0;
+    }
+    key + 1
 }
 
 // ---- the fields
@@ -145,10 +151,10 @@ fn pieces_questions(model: &[i32], places: &[usize], width: usize, file: &[u8], 
         let wire::Field::Whole { start, next, .. } = field else {
             return 36;
         };
-        if !place_ok(model, places, width, file, start, least) {
+        least = next_least(model, places, width, file, start, least);
+        if least == 0 {
             return 37;
         }
-        least = key_at(model, places, width, file, start) + 1;
         at = next;
         i = i + 1;
     }

@@ -3,6 +3,7 @@
 //! and check stand in `fixed_calls`, those of locations that are cut in `fixed_cuts`.
 
 use crate::compare::{hex, written_table, Comparison, Difference, MOST_ROOM};
+use crate::draft::{grid, Draft};
 use crate::examples;
 use crate::files::{field, file_of_words, model_file, model_of_file, table_file};
 use crate::model::{Plant, LEVEL, RATE};
@@ -94,6 +95,19 @@ fn p_up_to(level: i32) -> Vec<u8> {
     model_file(&draft.words())
 }
 
+/// A row of forty cells of one variable, of which some are filled from the one before, with as many
+/// switches and forbidden boxes as make a model of that many words, 480 or somewhat more.
+fn row_of_cells(size: usize) -> Draft {
+    let walls = vec![(0..=40).map(|wall| 10 * wall).collect()];
+    let mut draft = grid(&walls, |_| vec![1, 2]);
+    draft.locations[0].start = Some(vec![0, 5]);
+    let rest = size - (4 + 40 * 9);
+    let switches = (7..10).find(|switches| (rest - switches * 10) % 3 == 0).expect("three in a row have every rest");
+    draft.switches.truncate(switches);
+    draft.forbidden = vec![(30, vec![303, 304]); (rest - switches * 10) / 3];
+    draft
+}
+
 impl Comparison {
     /// All of them.
     pub fn fixed_cases(&mut self) -> Result<(), Difference> {
@@ -101,6 +115,7 @@ impl Comparison {
         self.other_answers()?;
         self.tables_of_p()?;
         self.largest_model()?;
+        self.words_held()?;
         self.source_000()?;
         self.sample_models()?;
         self.lengths_and_bits()?;
@@ -213,6 +228,34 @@ impl Comparison {
             ] {
                 self.decide_gives(label, model, MOST_ROOM, 3, answer(number, 0))?;
                 self.check_gives(label, model, &no_faces, number)?;
+            }
+        }
+        Ok(())
+    }
+
+    /// Models of about as many words as the library's calls on files hold at first, from some fewer
+    /// to some more: whole, short of one byte, with one more, and with every word of the head at every
+    /// edge.
+    fn words_held(&mut self) -> Result<(), Difference> {
+        for size in 500..=525 {
+            let words = row_of_cells(size).words();
+            assert_eq!(words.len(), size);
+            let plant = Plant::from_words(&words).expect("a row of cells passes its questions");
+            let whole = model_file(&words);
+            let (_, buffer) = self.decide("a row of cells", &whole, MOST_ROOM, 1_000)?;
+            let table = written_table(&plant, &buffer).to_vec();
+            let longer = [&whole[..], &[4]].concat();
+            let ends = [whole[..whole.len() - 1].to_vec(), longer, whole];
+            let heads = (0..4).flat_map(|index| EDGES.map(|edge| (index, edge)));
+            let others = heads.map(|(index, edge)| {
+                let mut changed = words.clone();
+                changed[index] = edge;
+                file_of_words(&plant.sizes, &changed)
+            });
+            for model in ends.into_iter().chain(others) {
+                self.decide("a row of cells, changed", &model, MOST_ROOM, 20)?;
+                self.check("a row of cells, changed", &model, &table)?;
+                self.counts.fixed += 2;
             }
         }
         Ok(())

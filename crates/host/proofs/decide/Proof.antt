@@ -1,5 +1,4 @@
 -- The file's number is the refusal, or its words are decided.
-use mathlib.Core.Path.{_≡_, sym}
 use borrow.Author.Needs.{needs}
 use Rattle.host.proofs.Reading.{when, other-roomy, read-refused, read-yes, read-front, model-passes}
 use Rattle.host.proofs.Deciding.{decide-refused, decide-words}

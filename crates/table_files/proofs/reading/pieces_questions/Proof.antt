@@ -7,15 +7,15 @@ use borrow.Author.Tests.{not-true, not-false}
 use borrow.Author.Needs.{needs}
 use lib.Dec.{T}
 use Rattle.integers.proofs.Tests.{true-is}
+use Rattle.wire.specs.Bytes.{wordsAt}
 use Rattle.wire.specs.Fields.{headerSize, payloadLength, fieldAt, isField}
 use Rattle.wire.specs.declared.Field.{Field}
 use Rattle.wire.proofs.Fields.{due-given, due-whole}
 use Rattle.plant.specs.Ask.{ask, first}
 use Rattle.plant.proofs.Asks.{first-none, run-stop, run-more, run-end}
-use Rattle.table_files.specs.TableFile.{pieceFieldSize, pieceFieldAt, leastKey, pieceQuestion, pieceQuestions}
-use Rattle.table_files.specs.TableRoom.{KeyAt}
+use Rattle.table_files.specs.TableFile.{pieceFieldSize, pieceFieldAt, leastKey, placeOk, pieceQuestion, pieceQuestions}
 use Rattle.table_files.proofs.TableWriting.{sizes-fit, size-is, size-few}
-use Rattle.table_files.proofs.TableReading.{piece-refused, field-there, piece-answered, place-passed, key-few, place-next, least-next}
+use Rattle.table_files.proofs.TableReading.{piece-refused, field-there, piece-answered, place-next, least-zero, least-above, least-next}
 use Rattle.table_files.proofs.reading.pieces_questions.Statement.{statement}
 use Rattle.table_files.proofs.reading.pieces_questions.Tie as tie
 
@@ -42,15 +42,11 @@ lies : (c : tie.After-known-told Inv-loop μ-loop) → let a = c .before .before
 lies c = due-given _ _ _ _ _ _ _ _ (whole (c .before .before .before)) (sym (c .before .before .before .before .before .next-field .ensures) ∙ c .before .field .given .1)
 
 -- the question's answer, by the test of the place
-answered : (c : tie.After-place-ok Inv-loop μ-loop) → let a = c .before .before .before .before .before .before .before .before .before .before .before .before .before .before .before .args in ask (c .place-ok .result) 37 ≡ pieceQuestions (a .model .now) (a .file .now) (c .before .before .before .before .before .before .before .before .loop .i)
-answered c = sym (piece-answered _ _ _ _ (whole (c .before .before .before .before)) (lies (c .before) .0) (c .place-ok .ensures)) ∙ asked (c .before .before .before .before .before .before .before)
+answered : (c : tie.After-next-least Inv-loop μ-loop) → let a = c .before .before .before .before .before .before .before .before .before .before .before .before .before .before .before .args in (b : Bool) → b ≡ placeOk (a .model .now) (wordsAt (a .file .now) (c .before .before .field .given .0 .1 .0) (pieceFieldSize (a .model .now))) (c .before .before .before .before .before .before .before .before .loop .least) → ask b 37 ≡ pieceQuestions (a .model .now) (a .file .now) (c .before .before .before .before .before .before .before .before .loop .i)
+answered c b e = sym (piece-answered _ _ _ _ (whole (c .before .before .before .before)) (lies (c .before) .0) e) ∙ asked (c .before .before .before .before .before .before .before)
 
 passed : (c : tie.Else2 Inv-loop μ-loop) → let a = c .before .before .before .before .before .before .before .before .before .before .before .before .before .before .before .before .args in 0 ≡ pieceQuestions (a .model .now) (a .file .now) (c .before .before .before .before .before .before .before .before .before .loop .i)
-passed c = ap (λ (t : Bool). ask t 37) (sym (not-false (c .before .place-ok .result) (c .if2 .left))) ∙ answered (c .before)
-
--- it names a piece
-is-key : (c : tie.Else2 Inv-loop μ-loop) → let a = c .before .before .before .before .before .before .before .before .before .before .before .before .before .before .before .before .args in KeyAt (a .model .now) (a .places .now) (a .file .now) (c .before .before .before .field .given .0 .1 .0) (a .width)
-is-key c = place-passed (c .before .before .before .before .before .before .before .before .before .before .before .before .before .before .before .before .args .model .now) (c .before .before .before .before .before .before .before .before .before .before .before .before .before .before .before .before .args .file .now) (c .before .before .before .before .before .before .before .before .before .loop .at) (c .before .before .before .before .before .before .before .before .before .loop .least) (whole (c .before .before .before .before .before)) (lies (c .before .before) .0) (c .before .before .before .before .before .before .before .before .before .before .before .before .before .before .before .before .pre) (true-is (sym (c .before .place-ok .ensures) ∙ not-false _ (c .if2 .left)))
+passed c = answered (c .before) _ (least-above _ _ _ (c .before .next-least .ensures) (c .if2 .left) .0)
 
 variables-requires : tie.Need-variables-requires Inv-loop μ-loop
 variables-requires c κs = search needs
@@ -84,17 +80,11 @@ returns-2 c =
     let a = c .before .before .before .before .before .before .before .before .before .before .before .before .args in
     absurd (due-whole (c .before .before .before .next-field .result) 5 (payloadLength (pieceFieldSize (a .model .now))) (rw (← (c .before .before .before .next-field .ensures)) at (whole (c .before))) (c .match .keys2))
 
-place-ok-requires : tie.Need-place-ok-requires Inv-loop μ-loop
-place-ok-requires c κs = (c .before .before .before .before .before .before .before .before .before .before .before .before .before .before .pre, field-there (c .before .before .before .before .before .before .before .before .before .before .before .before .before .before .args .model .now) (c .before .before .before .before .before .before .before .before .before .before .before .before .before .before .args .file .now) (c .before .before .before .before .before .before .before .loop .at) (c .before .before .before .before .before .before .before .loop .least) (whole (c .before .before .before)) (lies c .0) (c .before .before .before .before .before .before .before .before .before .before .before .before .before .before .pre .width-is))
+next-least-requires : tie.Need-next-least-requires Inv-loop μ-loop
+next-least-requires c κs = (c .before .before .before .before .before .before .before .before .before .before .before .before .before .before .pre, field-there (c .before .before .before .before .before .before .before .before .before .before .before .before .before .before .args .model .now) (c .before .before .before .before .before .before .before .before .before .before .before .before .before .before .args .file .now) (c .before .before .before .before .before .before .before .loop .at) (c .before .before .before .before .before .before .before .loop .least) (whole (c .before .before .before)) (lies c .0) (c .before .before .before .before .before .before .before .before .before .before .before .before .before .before .pre .width-is))
 
 returns-3 : tie.Need-returns-3 Inv-loop μ-loop
-returns-3 c = run-stop _ _ _ (ap (λ (t : Bool). ask t 37) (sym (not-true (c .before .place-ok .result) (c .if2 .taken))) ∙ answered (c .before)) (λ z. omega arith) (c .before .before .before .before .before .before .before .before .before .loop .inv .3) (c .before .before .before .before .before .before .before .before .loop-test .taken)
-
-key-at-requires : tie.Need-key-at-requires Inv-loop μ-loop
-key-at-requires c κs = is-key c
-
-add-least : tie.Need-add-least Inv-loop μ-loop
-add-least c = record { fits = omega (arith, c .key-at .ensures, key-few (is-key (c .before))) }
+returns-3 c = run-stop _ _ _ (answered (c .before) _ (least-zero _ _ _ (c .before .next-least .ensures) (c .if2 .taken))) (λ z. omega arith) (c .before .before .before .before .before .before .before .before .before .loop .inv .3) (c .before .before .before .before .before .before .before .before .loop-test .taken)
 
 add-i : tie.Need-add-i Inv-loop μ-loop
 add-i c = omega arith
@@ -104,10 +94,10 @@ loop-less c = omega arith
 
 loop-again : tie.Need-loop-again Inv-loop μ-loop
 loop-again c =
-    let a = c .before .before .before .before .before .before .before .before .before .before .before .before .before .before .before .before .before .args in
-    let p = c .before .before .before .before .before .before .before .before .before .before .loop in
-    let l = lies (c .before .before .before) in
-    (omega arith, place-next (a .model .now) (a .file .now) (p .i) (p .inv .1) (l .2), least-next (a .model .now) (a .file .now) (p .i) (p .inv .1) (l .0) (c .key-at .ensures), run-more _ (p .i) (passed (c .before)) refl (p .inv .3))
+    let a = c .before .before .before .before .before .before .before .before .before .before .before .before .before .before .before .before .args in
+    let p = c .before .before .before .before .before .before .before .before .before .loop in
+    let l = lies (c .before .before) in
+    (omega arith, place-next (a .model .now) (a .file .now) (p .i) (p .inv .1) (l .2), least-next (a .model .now) (a .file .now) (p .i) (p .inv .1) (l .0) (least-above _ _ _ (c .before .next-least .ensures) (c .if2 .left) .1), run-more _ (p .i) (passed c) refl (p .inv .3))
 
 returns-4 : tie.Need-returns-4 Inv-loop μ-loop
 returns-4 c = run-end _ _ _ (c .before .loop .inv .3) (omega arith)
@@ -128,10 +118,8 @@ pieces-questions-spec =
     returns
     enum-known-field
     returns-2
-    place-ok-requires
+    next-least-requires
     returns-3
-    key-at-requires
-    add-least
     add-i
     loop-less
     loop-again
