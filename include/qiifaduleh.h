@@ -477,7 +477,7 @@ enum qii_refusal {
 #define QII_TABLE_BYTES_MAX 96775
 
 /* The stack of a thread that makes any call, and of one that makes any but decide and check. Of it
-   decide and check use 201,000 bytes, qii_check 88,000, each of the others less than 3,000 (measured
+   decide and check use 203,000 bytes, qii_check 88,000, each of the others less than 3,000 (measured
    by tests/c/stack.c); the rest is for the thread itself and for the caller. */
 #define QII_STACK_BYTES (256 * 1024)
 #define QII_STACK_BYTES_ON_WORDS (128 * 1024)

@@ -20,7 +20,6 @@ use Rattle.plant.specs.declared.Count.the-variants.{Done, Refused}
 use Rattle.plant.specs.Calls.{countReply, ReadOutcome, readReply, wordsRead, unlessRefused, zeroed}
 use Rattle.plant.proofs.Asks.{ask-intro, asked, then-both, then-le}
 use Rattle.plant.proofs.Reading.{done}
-use Rattle.records.specs.Whole.{Head}
 use Rattle.model.proofs.Passing.{head-passed}
 use Rattle.model_files.specs.ModelFile.{modelFile, headWords, headQuestions, bufferQuestion, bodyQuestions, fileWords, recordsFileQuestions, readModelCall}
 use Rattle.model_files.specs.ModelFilesExact.{IsModelFile}
@@ -63,21 +62,17 @@ when {x = x} {o = o} e h = subst (λ (c : Count). _≡_ {A = ReadOutcome} (recor
 
 -- ---- 5
 
--- n, L, E and B are allowed
-head : (h : List ℤ) → 4 ≤ length h → rangesQuestions h ≡ 0 → Head h
-head h there e = head-passed h there e
-
 ranges-yes : (s : List ℕ) → headQuestions s ≡ 0 → rangesQuestions (headWords s) ≡ 0
 unfolding headQuestions
 ranges-yes s e = then-both _ (rangesQuestions (headWords s)) e .1
 
--- whatever the file, these words have room for its model once 1 to 4 are yes
+-- these words have room for the model of the file, once 1 to 4 are yes
 abbrev pub Roomy : (s : List ℕ) (held : List ℤ) → Type 0
 Roomy s held = headQuestions s ≡ 0 → modelSize (headWords s) ≤ length held
 
 -- as many words as the longest model has
 pub most-roomy : (s : List ℕ) → Roomy s (replicate 7172 (pos 0))
-most-roomy s e = omega (arith, most-words (headWords s) (head (headWords s) (omega (arith, length-head s)) (ranges-yes s e)), length-replicate 7172 (pos 0))
+most-roomy s e = omega (arith, most-words (headWords s) (head-passed (headWords s) (omega (arith, length-head s)) (ranges-yes s e)), length-replicate 7172 (pos 0))
 
 had-room : (a : ℕ) (b : Bool) (words : List ℤ) (next : ReadOutcome) → (readReply (unlessRefused (a then ask b 5) words next) .code ≡ 5 → ⊥) → a ≡ 0 → T b
 unfolding _then_ unlessRefused
@@ -112,7 +107,7 @@ module _ (s : List ℕ) where
         (a .0, b .0, b .1)
 
     pub longest-model : length s ≤ 29907
-    longest-model = most-bytes s h (head h (omega (arith, length-head s)) (ranges-yes s (each-yes .0))) (body-passed s h (each-yes .1))
+    longest-model = most-bytes s h (head-passed h (omega (arith, length-head s)) (ranges-yes s (each-yes .0))) (body-passed s h (each-yes .1))
 
     pub model-asked : modelQuestions (modelOf s) ≡ 0
     unfolding modelOf
@@ -142,7 +137,7 @@ module _ (s : List ℕ) where
     read-refused {q} e = refused-number (modelFileQuestions s) (zeroed held) all (modelSize h) q refl (ap (λ (o : ReadOutcome). o .count) e ∙ count-is)
 
     -- where all of them are yes, the words are the model's
-    pub reads : modelFileQuestions s ≡ 0 → readModelCall s held ≡ all
+    reads : modelFileQuestions s ≡ 0 → readModelCall s held ≡ all
     unfolding readModelCall
     reads passed = both-yes front-questions (recordsFileQuestions s h) held (zeroed held) all (questions-are ∙ passed)
 
@@ -182,6 +177,6 @@ file-passes m asks words =
     let b : (rangesQuestions m ≡ 0) × _ = then-both (rangesQuestions m) _ (a .1) in
     let whole : modelSize m ≤ length m = leb→le (modelSize m) (length m) (asked (leb (modelSize m) (length m)) 5 _ (omega arith) (b .1) .0) in
     let held : List ℤ = replicate 7172 (pos 0) in
-    let fit : modelSize m ≤ length held = omega (arith, most-words m (head m (leb→le headSize (length m) (a .0)) (b .0)), length-replicate 7172 (pos 0)) in
+    let fit : modelSize m ≤ length held = omega (arith, most-words m (head-passed m (leb→le headSize (length m) (a .0)) (b .0)), length-replicate 7172 (pos 0)) in
     let e = file-read m held asks words fit in
     (read-yes (modelFile m) held e, sym (read-front (modelFile m) held e .are) ∙ take-onto (take (modelSize m) m) held (modelSize m) (length-take-le (modelSize m) m whole))

@@ -101,8 +101,8 @@ fn key_at(model: &[i32], places: &[usize], width: usize, file: &[u8], start: usi
     places[l] + (f * per_face(model, width, l) + k)
 }
 
-// The least key that the next field may have, one more than this one's: its location, face and piece exist, and its key is at
-// least the least that is due. 0 if not.
+// The least key that the next field may have, which is one more than the key of this one; 0 if this one's location, face or piece
+// does not exist, or its key is less than the least that is due.
 fn next_least(
     model: &[i32],
     places: &[usize],
