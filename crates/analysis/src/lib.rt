@@ -50,18 +50,25 @@ fn certificate_with<'a>(
     if !fixpoint(model, places, table, after) {
         return 33;
     }
-    if checks::touching(model, places, table) {
+    let mut last = [0usize; 64];
+    let mut before = [0usize; 64];
+    checks::link(model, &mut last, &mut before);
+    if checks::touching(model, places, &last, &before, table) {
         return 34;
     }
     0
 }
 
-// The same. The words held for the pass are cleared at each call: few for a small table.
+// The same. The words held for the pass are cleared at each call: fewer for a smaller table.
 fn certificate_held<'a>(model: &'a [i32], places: &[usize], table: &'a [i32]) -> u32
     requires { ⌜ Sized (now model) (now table) × Places (now model) (now places) × (tableOk (now model) (now table) ≡ true) ⌝ }
     ensures { λ r. ⌜ r ≡ certificateQuestions (now (model .entry)) (now (table .entry)) ⌝ }
 {
     let size = table.len();
+    if size <= tables::FEWEST_WORDS {
+        let mut after = [0i32; tables::FEWEST_WORDS];
+        return certificate_with(model, places, table, &mut after[..size]);
+    }
     if size <= tables::FEW_WORDS {
         let mut after = [0i32; tables::FEW_WORDS];
         return certificate_with(model, places, table, &mut after[..size]);
@@ -126,10 +133,13 @@ fn counted_passes(
     requires { ⌜ Sized (now model) (now table) × Places (now model) (now places) × Sized (now model) (now work) ⌝ }
     ensures { λ r. ⌜ (r ≡ C.analysis (now (model .entry)) limit) × (now (table .exit) ≡ answerTable (now (model .entry)) r) ⌝ }
 {
+    let mut last = [0usize; 64];
+    let mut before = [0usize; 64];
+    checks::link(model, &mut last, &mut before);
     integers::clear(table);
     let mut k: u32 = 0;
     loop {
-        if checks::touching(model, places, table) {
+        if checks::touching(model, places, &last, &before, table) {
             return Answer::Unknown(k);
         }
         if fixpoint(model, places, table, work) {

@@ -6,4 +6,5 @@ pub mod Widths
 pub mod Counts
 pub mod Touched
 pub mod Links
+pub mod Parts
 pub mod Search

@@ -7,5 +7,6 @@ mod touch;
 mod valid;
 
 pub use ceiling::ceiling_of;
+pub use touch::link;
 pub use touch::touching;
 pub use valid::table_ok;

@@ -54,12 +54,18 @@ fn answer_with(
     pack_answer(answer)
 }
 
-// The same with words held. They are cleared at each call: few for a small table.
+// The same with words held. They are cleared at each call: fewer for a smaller table.
 fn answer_file(model: &[i32], file: &mut [u8], limit: u32) -> u64
     requires { ⌜ (modelQuestions (now model) ≡ 0) × (longestTableFile (now model) ≤ length (now file)) ⌝ }
     ensures { λ r. ⌜ record { number = r; file = now (file .exit) } ≡ decided (now (model .entry)) (C.analysis (now (model .entry)) limit) (now (file .entry)) ⌝ }
 {
-    if tables::table_size(model) <= tables::FEW_WORDS {
+    let size = tables::table_size(model);
+    if size <= tables::FEWEST_WORDS {
+        let mut table = [0i32; tables::FEWEST_WORDS];
+        let mut work = [0i32; tables::FEWEST_WORDS];
+        return answer_with(model, file, limit, &mut table, &mut work);
+    }
+    if size <= tables::FEW_WORDS {
         let mut table = [0i32; tables::FEW_WORDS];
         let mut work = [0i32; tables::FEW_WORDS];
         return answer_with(model, file, limit, &mut table, &mut work);
@@ -126,12 +132,17 @@ fn check_with<'a>(model: &'a [i32], file: &'a [u8], table: &mut [i32]) -> u64
     }
 }
 
-// The same with words held: few for a small table.
+// The same with words held: fewer for a smaller table.
 fn check_words<'a>(model: &'a [i32], file: &'a [u8]) -> u64
     requires { ⌜ modelQuestions (now model) ≡ 0 ⌝ }
     ensures { λ r. ⌜ r ≡ checkBy (certificateFileQuestions (now (model .entry)) (now (file .entry))) .code ⌝ }
 {
-    if tables::table_size(model) <= tables::FEW_WORDS {
+    let size = tables::table_size(model);
+    if size <= tables::FEWEST_WORDS {
+        let mut table = [0i32; tables::FEWEST_WORDS];
+        return check_with(model, file, &mut table);
+    }
+    if size <= tables::FEW_WORDS {
         let mut table = [0i32; tables::FEW_WORDS];
         return check_with(model, file, &mut table);
     }

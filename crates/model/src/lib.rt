@@ -91,7 +91,7 @@ pub fn zeros_ok(s: &[i32], k: usize) -> bool
 
 // ---- the questions of a location
 
-// Start flag 0 and box zeros, or start flag 1 and box ordered inside the invariant.
+// Start flag 0 and box zeros, or start flag 1 and box ordered, in range: it may stick out of the invariant.
 fn start_ok(model: &[i32], l: usize) -> bool
     requires { ⌜ Whole (now model) × (l < M.L# (now model)) ⌝ }
     ensures { λ r. ⌜ r ≡ Q.startOk (now (model .entry)) l ⌝ }
@@ -100,7 +100,7 @@ fn start_ok(model: &[i32], l: usize) -> bool
     let flag = records::start_flag(model, l);
     let start = records::start_box(model, l);
     let empty = integers::same(flag, 0) & zeros_ok(start, 2 * n);
-    empty | (integers::same(flag, 1) & inside_ok(start, records::invariant(model, l), n))
+    empty | (integers::same(flag, 1) & box_ok(start, n, LEVEL_LIMIT))
 }
 
 fn location_questions(model: &[i32], l: usize) -> u32

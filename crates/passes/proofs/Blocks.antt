@@ -6,7 +6,7 @@ use native.Mathlib.Omega.{arith}
 use lib.IntN.{ℤ}
 use lib.ListN.{length, take, drop, length-append}
 use lib.Seq.{take-at, drop-at, drop-drop}
-use borrow.Rule.Slice.PartMut.{midOf, putMid, mid-len}
+use borrow.Rule.Slice.PartMut.{midOf, putMid}
 use Rattle.integers.specs.Words.{onto}
 use Rattle.integers.specs.Counted.{cat, sumBelow}
 use Rattle.integers.proofs.Buffers.{onto-none, onto-all, length-onto, cat-none, cat-more, length-cat-sum, cat-ext}
@@ -76,11 +76,7 @@ module _ (w : ℕ → ℕ) (g : ℕ → List ℤ) (sized : (i : ℕ) → length 
   put-length i e h = ap length e ∙ length-onto (cat i g) d (omega (arith, filled-length i))
 
   module _ (i : ℕ) {at end : ℕ} {ws : List ℤ} (filled : ws ≡ onto (cat i g) d) (at-is : at ≡ sumBelow i w) (end-is : end ≡ at + w i) (inside : end ≤ length d) where
-    -- the next one's place has its words' number
-    pub place-length : length (midOf at (end - at) ws) ≡ w i
-    place-length = mid-len at end ws (omega (arith, put-length i filled (omega arith))) ∙ omega arith
-
-    -- and has still the words of d
+    -- the next one's place has still the words of d
     pub place-rest : midOf at (end - at) ws ≡ midOf at (end - at) d
     unfolding onto
     place-rest = rw (filled, at-is) (ap (take (end - sumBelow i w)) (drop-at (cat i g) (drop (length (cat i g)) d) (sumBelow i w) (filled-length i) ∙ ap (λ (k : ℕ). drop k d) (filled-length i)))

@@ -11,18 +11,21 @@ use Rattle.integers.proofs.Tests.{true-is}
 use Rattle.integers.proofs.Counted.{eqZ-eq}
 use Rattle.integers.proofs.Buffers.{cat-ext}
 use Rattle.plant.specs.Box.{boxAt, Face, absent, present, faceWords, join}
-use Rattle.plant.specs.Model.{Cut, cutFrom, variableOf}
+use Rattle.plant.specs.Model.{n#, Cut, cutFrom, variableOf}
 use Rattle.plant.specs.Pieces.{piecesPerFace}
 use Rattle.plant.specs.Steps.{wallStep, switchStep}
-use Rattle.plant.specs.Tables.{faceRead}
+use Rattle.plant.specs.Tables.{faceRead, startPart}
 use Rattle.plant.proofs.Boxes.{FaceAll}
+use Rattle.plant.proofs.Passed.{passed}
 use Rattle.plant.proofs.Pieces.{face-of-number, index-of-number}
+use Rattle.delays.specs.Ranges.{Levels}
 use Rattle.tables.specs.Room.{faceIn, AreFaces, joinedEach, cutEach, CutVariable, PiecesJoinable}
 use Rattle.tables.proofs.Faces.{join-absent}
 use Rattle.steps.specs.Ready.{WallReady, SwitchReady}
 use Rattle.steps.specs.Handing.{Handed}
 use Rattle.steps.proofs.Faces.{InInvariant, wall-in, switch-in}
-use Rattle.passes.specs.Joining.{piecesWith, WallJoin, WallsJoin, PartJoin, SwitchJoin, wallsFrom}
+use Rattle.passes.specs.Joining.{piecesWith, WallJoin, WallsJoin, PartJoin, StartJoin, SwitchJoin, wallsFrom}
+use Rattle.passes.proofs.PartWords.{start-levels}
 use Rattle.passes.proofs.Joined.{read-present, read-absent}
 use Rattle.passes.proofs.Locations.{same-joined}
 
@@ -92,6 +95,33 @@ module _ (n : ℕ) (inv rate part : List ℤ) (variable value : ℤ) (block : Li
 
     pub part-joins : {exit : List ℤ} → exit ≡ partJoined (present bounds) → exit ≡ partJoined (faceRead n part 0)
     part-joins e = e ∙ ap partJoined (ap present is-box ∙ sym (read-present n part flag))
+
+-- the steps from the start part
+module _ (m : List ℤ) (l n : ℕ) (inv rate : List ℤ) (variable value : ℤ) (block : List ℤ) (ok : StartJoin m l n inv rate variable value block) where
+  abbrev startJoined : Face → List ℤ
+  startJoined g = joinedEach n (piecesWith n (cutFrom variable value)) block (wallsFrom n inv rate (cutFrom variable value) g)
+
+  -- where there is none
+  pub start-joins-nothing : startPart m l ≡ absent → block ≡ startJoined (startPart m l)
+  start-joins-nothing e = none-joined n (piecesWith n (cutFrom variable value)) block (ok .are-pieces) ∙ ap startJoined (sym e)
+
+  -- handed over by the answer r and the words after
+  module _ {r : Bool} {after out : List ℤ} (gives : Handed (n# m) r after out (startPart m l)) where
+    pub start-is : {x : Bool} → r ≡ x → startPart m l ≡ cond x (present (take (2 * n) after)) absent
+    start-is u = gives .is-face ∙ (λ i. cond (u i) (present (take (2 * sym (ok .n-is) i) after)) absent)
+
+    pub start-walls : r ≡ true → WallsJoin n inv rate (take (2 * n) after) variable value block
+    start-walls u = record {
+      n-small = ok .n-small;
+      inv-in = ok .inv-in;
+      rate-in = ok .rate-in;
+      bounds-in = subst (FaceAll (Levels n)) (start-is u) (rw (ok .n-is) (start-levels m (passed m (ok .passes)) l (ok .below)));
+      cut-words = ok .cut-words;
+      are-pieces = ok .are-pieces;
+    }
+
+    pub start-joins : {exit : List ℤ} → r ≡ true → exit ≡ startJoined (present (take (2 * n) after)) → exit ≡ startJoined (startPart m l)
+    start-joins u e = e ∙ ap startJoined (sym (start-is u))
 
 module _ (n mask : ℕ) (guard reset inv from : List ℤ) (d : ℕ) (variable value : ℤ) (pieces : List ℤ) (ok : SwitchJoin n guard reset inv from variable value pieces) where
   abbrev pub switchJoined : Face → List ℤ

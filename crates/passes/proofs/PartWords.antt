@@ -1,7 +1,7 @@
--- The words of a part give the part, and its box, if it is there, is one of levels: a start box and a piece lie inside the
+-- The words of a part give the part, and its box, if it is there, is one of levels: a start part and a piece lie inside the
 -- invariant.
 use mathlib.Core.Path.{_≡_, sym, ap, ap₂, _∙_, subst}
-use mathlib.Core.Bool.{Bool, cond}
+use mathlib.Core.Bool.{Bool, true, false, cond}
 use mathlib.Core.Logic.{⊎-elim}
 use mathlib.Core.List.{List}
 use Prim.Native.Nat.{ℕ, zero, suc, _+_, _*_, _/_, _%_, _<_, _≤_}
@@ -13,20 +13,22 @@ use lib.ListN.{length, take, drop, length-drop}
 use lib.Seq.{getD-take, getD-drop, drop-drop, take-take, length-take-le}
 use Rattle.integers.specs.Words.{word, eqZ}
 use Rattle.integers.proofs.Tests.{by-test, is-true}
-use Rattle.integers.proofs.Counted.{eqZ-eq, eqZ-intro, split}
+use Rattle.integers.proofs.Counted.{eqZ-intro, split}
 use Rattle.delays.specs.Ranges.{Level, Levels, Rates}
-use Rattle.plant.specs.Box.{low, high, boxAt, Face, absent, present}
-use Rattle.plant.specs.Model.{n#, L#, locationAt, invariant, rate, startFlag, startBox}
+use Rattle.plant.specs.Box.{low, high, boxAt, cut, Face, absent, present, unlessEmpty}
+use Rattle.plant.specs.Model.{n#, L#, invariant, rate, startFlag, startBox}
 use Rattle.plant.specs.Questions.{modelQuestions}
 use Rattle.plant.specs.Pieces.{pieces}
 use Rattle.plant.specs.Tables.{faceSize, piecesBefore, tableSize, pieceAt, faceRead, pieceOf, tableOk, startPart, partOf}
-use Rattle.plant.proofs.Boxes.{FaceAll, length-boxAt}
-use Rattle.plant.proofs.Passed.{InRange, Passed, LocationPassed, passed}
+use Rattle.plant.proofs.Boxes.{FaceAll, length-boxAt, length-cut, cut-right}
+use Rattle.plant.proofs.Passed.{InRange, Passed, passed}
+use Rattle.plant.proofs.StartPart.{start-all}
 use Rattle.plant.proofs.Tables.{take-behind, piece-inside, OkBox, ok-valid}
 use Rattle.records.specs.Whole.{Whole}
-use Rattle.records.proofs.Positions.{location-within, length-invariant, length-rate, length-startBox}
+use Rattle.records.proofs.Positions.{length-invariant, length-rate, length-startBox}
 use Rattle.model.proofs.Passing.{whole-passed}
-use Rattle.steps.proofs.Faces.{in-levels}
+use Rattle.steps.specs.Handing.{Handed}
+use Rattle.steps.proofs.Faces.{nothing-handed, in-levels}
 use Rattle.passes.specs.Parts.{IsPart}
 use Rattle.passes.specs.Joining.{PartOk}
 use Rattle.passes.proofs.Joined.{read-present}
@@ -87,15 +89,6 @@ place-is m l q e b h = h ∙ ap₂ (λ (x n : ℕ). (x + q) * faceSize n) b e
 
 -- ---- the words of a part
 
--- the start box stands behind the start flag
-start-place : (m : List ℤ) (l : ℕ) → boxAt (n# m) m (locationAt m l + 4 * n# m + 1) ≡ startBox m l
-unfolding startBox
-start-place m l = ap (boxAt (n# m) m) (omega arith)
-
-start-read : (m : List ℤ) (l : ℕ) → faceRead (n# m) m (locationAt m l + 4 * n# m) ≡ startPart m l
-unfolding startPart startFlag faceRead
-start-read m l = ap (λ (b : List ℤ). cond (eqZ (startFlag m l) (pos 1)) (present b) absent) (start-place m l)
-
 -- piece q's words, at the place that code has
 module _ (m : List ℤ) (l : ℕ) (u : l < L# m) (t : List ℤ) (room : tableSize m ≤ length t) (q : ℕ) (v : q < pieces m l) {n at : ℕ} (n-is : n ≡ n# m) (at-is : at ≡ pieceAt m l q) where
   pub piece-end : at + faceSize n ≤ length t
@@ -109,30 +102,14 @@ module _ (m : List ℤ) (l : ℕ) (u : l < L# m) (t : List ℤ) (room : tableSiz
   })
 
 module _ (m : List ℤ) (ok : Passed m) (l : ℕ) (u : l < L# m) where
-  -- the start part's words, from the number of variables and the location's place that code has
-  module _ {n from : ℕ} (n-is : n ≡ n# m) (from-is : from ≡ locationAt m l) where
-    pub start-end : from + 4 * n + faceSize n ≤ length m
-    start-end = omega (arith, n-is, from-is, location-within m (whole-passed m ok) l u)
+  -- the start box, under start flag 1, and the start part have boxes of levels
+  pub start-in : startFlag m l ≡ pos 1 → Levels (n# m) (startBox m l)
+  start-in e = levels-from (n# m) (startBox m l) (length-startBox m (whole-passed m ok) l u) (ok .of-location l u .start-levels e)
 
-    pub start-part : {k : ℕ} → k ≡ faceSize n → IsPart (n# m) (take k (drop (from + 4 * n) m)) (startPart m l)
-    start-part e = rw (e, from-is, n-is) (record {
-      sized = length-take-le (faceSize (n# m)) (drop (locationAt m l + 4 * n# m) m) (omega (arith, length-drop (locationAt m l + 4 * n# m) m, location-within m (whole-passed m ok) l u));
-      gives = face-there (n# m) m (locationAt m l + 4 * n# m) ∙ start-read m l;
-    })
-
-  -- its box is one of levels
-  start-levels : FaceAll (Levels (n# m)) (startPart m l)
-  unfolding startPart
-  start-levels = by-test (FaceAll (Levels (n# m))) (eqZ (startFlag m l) (pos 1)) flagged (λ _. tt)
-    where
-      k : LocationPassed m l
-      k = ok .of-location l u
-
-      flagged : T (eqZ (startFlag m l) (pos 1)) → Levels (n# m) (startBox m l)
-      flagged h =
-          let e : startFlag m l ≡ pos 1 = eqZ-eq (startFlag m l) (pos 1) h in
-          in-levels {n = n# m} {inv = invariant m l} {b = startBox m l} (invariant-in m ok l u)
-          (record { sized = length-startBox m (whole-passed m ok) l u; is-ordered = k .start-ordered e; inside = k .start-inside e })
+  pub start-levels : FaceAll (Levels (n# m)) (startPart m l)
+  start-levels = start-all m l (Levels (n# m)) (λ _ o.
+      in-levels {n = n# m} {inv = invariant m l} {b = cut (n# m) (startBox m l) (invariant m l)} (invariant-in m ok l u)
+      (record { sized = length-cut (n# m) (startBox m l) (invariant m l); is-ordered = o; inside = cut-right (n# m) (startBox m l) (invariant m l) }))
 
   module _ (t : List ℤ) (room : tableSize m ≤ length t) where
     -- the box of a part is one of levels
@@ -153,6 +130,21 @@ module _ (m : List ℤ) (ok : Passed m) (l : ℕ) (u : l < L# m) where
     unfolding partOf
     part-levels valid zero v = start-levels
     part-levels valid (suc q) v = piece-levels valid q (omega arith)
+
+-- how code comes to the start part: by the start flag it is the cut, or there is none
+module _ (m : List ℤ) (l : ℕ) {flag : ℤ} (flag-is : flag ≡ startFlag m l) where
+  abbrev byFlag : Bool → Face
+  byFlag x = cond x (unlessEmpty (n# m) (cut (n# m) (startBox m l) (invariant m l))) absent
+
+  pub start-by : {x : Bool} → eqZ flag (pos 1) ≡ x → startPart m l ≡ byFlag x
+  unfolding startPart
+  start-by e = ap byFlag (ap (λ (z : ℤ). eqZ z (pos 1)) (sym flag-is) ∙ e)
+
+  pub start-cut : {r : Bool} {exit out : List ℤ} → eqZ flag (pos 1) ≡ true → Handed (n# m) r exit out (unlessEmpty (n# m) (cut (n# m) (startBox m l) (invariant m l))) → Handed (n# m) r exit out (startPart m l)
+  start-cut {r} {exit} {out} e h = subst (Handed (n# m) r exit out) (sym (start-by e)) h
+
+  pub start-none : {out : List ℤ} → eqZ flag (pos 1) ≡ false → 2 * n# m ≤ length out → Handed (n# m) false out out (startPart m l)
+  start-none {out} e room = nothing-handed (n# m) out (startPart m l) room (start-by e)
 
 -- words that give a part whose box is one of levels
 pub is-part-ok : (n : ℕ) (words : List ℤ) (part : Face) → n ≤ 6 → IsPart n words part → FaceAll (Levels n) part → PartOk n words

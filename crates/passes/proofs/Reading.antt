@@ -33,7 +33,7 @@ use Rattle.records.proofs.Walls.{wall-at}
 use Rattle.model.proofs.Passing.{whole-passed, switch-placed}
 use Rattle.passes.specs.Checked.{Checked}
 use Rattle.passes.specs.Parts.{IsPart}
-use Rattle.passes.specs.Joining.{PartOk, Located, LandsOn, NoCut, piecesWith, PartJoin, SwitchJoin, wallsFrom, locationBy, landedOn}
+use Rattle.passes.specs.Joining.{PartOk, Located, LandsOn, NoCut, piecesWith, PartJoin, StartJoin, SwitchJoin, wallsFrom, locationBy, landedOn}
 use Rattle.passes.proofs.PartWords.{levels-from, invariant-in, rate-in, piece-part, part-levels, is-part-ok}
 use Rattle.passes.proofs.Joined.{words-kept}
 use Rattle.passes.proofs.Locations.{are-faces, each-joined}
@@ -105,11 +105,7 @@ module _ (m t : List ℤ) (ok : Checked m t) where
   pub part-ok : (l p : ℕ) → l < L# m → p ≤ pieces m l → {words : List ℤ} → IsPart (n# m) words (partOf m t l p) → PartOk (n# m) words
   part-ok l p u v {words} h = is-part-ok (n# m) words (partOf m t l p) (model-passed .n-small) h (part-levels m model-passed l u t (ok .ready .room) (true-is (ok .valid)) p v)
 
-  -- the start part, and piece q of location l, whose words code has
-  pub start-is-part : (l : ℕ) {words : List ℤ} → IsPart (n# m) words (startPart m l) → IsPart (n# m) words (partOf m t l 0)
-  unfolding partOf
-  start-is-part l h = h
-
+  -- piece q of location l, whose words code has
   pub piece-is-part : (l q : ℕ) → l < L# m → q < pieces m l → {n at : ℕ} → n ≡ n# m → at ≡ pieceAt m l q → {words : List ℤ} → words ≡ take (faceSize n) (drop at t) → IsPart (n# m) words (partOf m t l (q + 1))
   unfolding partOf
   piece-is-part l q u v e a h = rw (add-one q) (piece-part m l u t (ok .ready .room) q v e a h)
@@ -150,26 +146,52 @@ module _ (m t : List ℤ) (ok : Checked m t) where
     pub joined-length : (p : ℕ) → length (joinedTo p) ≡ locationWords m l
     joined-length p = location-length m (λ l q. joins (n# m) p (wallFrom m t l q) (pieceOf m t l q)) l
 
-    module _ {n : ℕ} {inv rates : List ℤ} {variable value : ℤ} (r : LocationRead m l n inv rates variable value) (p : ℕ) {part block : List ℤ} (part-is : IsPart (n# m) part (partOf m t l p)) (block-is : block ≡ joinedTo p) where
-      pub part-join : p ≤ pieces m l → PartJoin n inv rates part variable value block
-      unfolding pieces perFace cutOf
-      part-join w = rw (r .n-is, r .inv-is, r .rate-is, r .variable-is, r .value-is) (record {
-        inv-in = invariant-in m model-passed l u;
-        rate-in = rate-in m model-passed l u;
-        part-ok = part-ok l p u w part-is;
-        cut-words = cut-words l u;
-        are-pieces = are-faces (n# m) (pieces m l) (λ q. joins (n# m) p (wallFrom m t l q) (pieceOf m t l q)) block-is;
-      })
+    module _ {n : ℕ} {inv rates : List ℤ} {variable value : ℤ} (r : LocationRead m l n inv rates variable value) where
+      -- part p, once its steps are joined
+      module _ (p : ℕ) {block : List ℤ} (block-is : block ≡ joinedTo p) (g : Face) (part-is : g ≡ partOf m t l p) where
+        walls-are : (q : ℕ) → wallsFrom (n# m) (invariant m l) (rate m l) (cutOf m l) g q ≡ wallFrom m t l q p
+        unfolding wallFrom toPiece wallStepAt pieceExtent pieceVariable pieceFace pieceIndex perFace
+        walls-are q = rw (← (wall-word m l (pieceFace m l q)), part-is) refl
 
-      walls-are : (q : ℕ) → wallsFrom (n# m) (invariant m l) (rate m l) (cutOf m l) (faceRead (n# m) part 0) q ≡ wallFrom m t l q p
-      unfolding wallFrom toPiece wallStepAt pieceExtent pieceVariable pieceFace pieceIndex perFace
-      walls-are q = rw (← (wall-word m l (pieceFace m l q)), part-is .gives) refl
+        joined-next : {exit : List ℤ} → exit ≡ joinedEach n (piecesWith n (cutFrom variable value)) block (wallsFrom n inv rates (cutFrom variable value) g) → exit ≡ joinedTo (p + 1)
+        unfolding joins pieces perFace cutOf
+        joined-next k = rw (add-one p)
+            (k ∙ rw (r .n-is, r .inv-is, r .rate-is, r .variable-is, r .value-is) (each-joined (n# m) (pieces m l) (λ q. joins (n# m) p (wallFrom m t l q) (pieceOf m t l q)) block-is (wallsFrom (n# m) (invariant m l) (rate m l) (cutOf m l) g))
+            ∙ cat-ext (pieces m l) _ _ (λ q v. ap (λ (x : Face). faceWords (n# m) (join (n# m) (joins (n# m) p (wallFrom m t l q) (pieceOf m t l q)) x)) (walls-are q)))
 
-      pub joined-more : {exit : List ℤ} → exit ≡ joinedEach n (piecesWith n (cutFrom variable value)) block (wallsFrom n inv rates (cutFrom variable value) (faceRead n part 0)) → exit ≡ joinedTo (p + 1)
-      unfolding joins pieces perFace cutOf
-      joined-more k = rw (add-one p)
-          (k ∙ rw (r .n-is, r .inv-is, r .rate-is, r .variable-is, r .value-is) (each-joined (n# m) (pieces m l) (λ q. joins (n# m) p (wallFrom m t l q) (pieceOf m t l q)) block-is (wallsFrom (n# m) (invariant m l) (rate m l) (cutOf m l) (faceRead (n# m) part 0)))
-          ∙ cat-ext (pieces m l) _ _ (λ q v. ap (λ (x : Face). faceWords (n# m) (join (n# m) (joins (n# m) p (wallFrom m t l q) (pieceOf m t l q)) x)) (walls-are q)))
+      -- the start part, before all others
+      module _ {block : List ℤ} (block-is : block ≡ locationBy m l (pieceOf m t l)) where
+        pub start-join : StartJoin m l n inv rates variable value block
+        unfolding pieces perFace cutOf
+        start-join = rw (r .n-is, r .inv-is, r .rate-is, r .variable-is, r .value-is) (record {
+          passes = ok .ready .passes;
+          below = u;
+          n-is = refl;
+          n-small = model-passed .n-small;
+          inv-in = invariant-in m model-passed l u;
+          rate-in = rate-in m model-passed l u;
+          cut-words = cut-words l u;
+          are-pieces = are-faces (n# m) (pieces m l) (pieceOf m t l) block-is;
+        })
+
+        pub start-joined : {exit : List ℤ} → exit ≡ joinedEach n (piecesWith n (cutFrom variable value)) block (wallsFrom n inv rates (cutFrom variable value) (startPart m l)) → exit ≡ joinedTo 1
+        unfolding partOf
+        start-joined = joined-next 0 (joined-none block-is) (startPart m l) refl
+
+      -- a part whose words code has
+      module _ (p : ℕ) {part block : List ℤ} (part-is : IsPart (n# m) part (partOf m t l p)) (block-is : block ≡ joinedTo p) where
+        pub part-join : p ≤ pieces m l → PartJoin n inv rates part variable value block
+        unfolding pieces perFace cutOf
+        part-join w = rw (r .n-is, r .inv-is, r .rate-is, r .variable-is, r .value-is) (record {
+          inv-in = invariant-in m model-passed l u;
+          rate-in = rate-in m model-passed l u;
+          part-ok = part-ok l p u w part-is;
+          cut-words = cut-words l u;
+          are-pieces = are-faces (n# m) (pieces m l) (λ q. joins (n# m) p (wallFrom m t l q) (pieceOf m t l q)) block-is;
+        })
+
+        pub joined-more : {exit : List ℤ} → exit ≡ joinedEach n (piecesWith n (cutFrom variable value)) block (wallsFrom n inv rates (cutFrom variable value) (faceRead n part 0)) → exit ≡ joinedTo (p + 1)
+        joined-more = joined-next p block-is (faceRead n part 0) (rw (r .n-is) (part-is .gives))
 
   -- ---- the step of switch e
 

@@ -53,6 +53,17 @@ pub record PartJoin (n : ℕ) (inv rate part : List ℤ) (variable value : ℤ) 
   pub cut-words : CutVariable n variable
   pub are-pieces : AreFaces n (piecesWith n (cutFrom variable value)) block
 
+-- those from the start part of location l, of n variables
+pub record StartJoin (m : List ℤ) (l n : ℕ) (inv rate : List ℤ) (variable value : ℤ) (block : List ℤ) : Type 0 where
+  pub passes : modelQuestions m ≡ 0
+  pub below : l < L# m
+  pub n-is : n ≡ n# m
+  pub n-small : n ≤ 6
+  pub inv-in : Levels n inv
+  pub rate-in : Rates n rate
+  pub cut-words : CutVariable n variable
+  pub are-pieces : AreFaces n (piecesWith n (cutFrom variable value)) block
+
 -- a switch step from a piece of the source's face
 pub record SwitchJoin (n : ℕ) (guard reset inv from : List ℤ) (variable value : ℤ) (pieces : List ℤ) : Type 0 where
   pub guard-in : Levels n guard

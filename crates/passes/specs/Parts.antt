@@ -1,4 +1,4 @@
--- The words of a part: a flag and a box, as a start box and a face both have them.
+-- The words of a part: a flag and a box.
 use mathlib.Core.Path.{_≡_}
 use mathlib.Core.List.{List}
 use Prim.Native.Nat.{ℕ}

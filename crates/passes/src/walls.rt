@@ -1,17 +1,17 @@
-// The wall steps of a pass: to each face, from the location's start box and pieces; a step is made once for a part and a face, and
+// The wall steps of a pass: to each face, from the location's start part and pieces; a step is made once for a part and a face, and
 // then given to the pieces of the face.
 ghost use mathlib.Core.Path.{_≡_};
 ghost use Prim.Native.Nat.{_*_, _<_};
 ghost use lib.ListN.{length};
 ghost use Rattle.plant.specs.Box.{present};
-ghost use Rattle.plant.specs.Model.{n#, L#, cutVariable, cutValue, cutFrom};
+ghost use Rattle.plant.specs.Model.{L#, cutVariable, cutValue, cutFrom};
 ghost use Rattle.plant.specs.Pieces.{piecesPerFace, pieces};
 ghost use Rattle.plant.specs.Steps.{wallStep};
-ghost use Rattle.plant.specs.Tables.{faceSize, piecesBefore, tableSize, faceRead, pieceOf, tableBy, wallsJoined};
+ghost use Rattle.plant.specs.Tables.{piecesBefore, tableSize, faceRead, pieceOf, tableBy, startPart, wallsJoined};
 ghost use Rattle.tables.specs.Places.{Places};
 ghost use Rattle.tables.specs.Room.{joinedEach, cutEach};
 ghost use Rattle.passes.specs.Checked.{Checked};
-ghost use Rattle.passes.specs.Joining.{Located, piecesWith, WallJoin, WallsJoin, PartJoin, wallsFrom, locationBy};
+ghost use Rattle.passes.specs.Joining.{Located, piecesWith, WallJoin, WallsJoin, PartJoin, StartJoin, wallsFrom, locationBy};
 use super::parts;
 
 // Joins to the pieces of a face the wall step from a box to the value b of variable d.
@@ -101,30 +101,43 @@ fn join_part(
     }
 }
 
-// The same from the start part: a function of its own, so that the compiler takes both tests of the flag to their callers and
-// keeps join_walls as one function.
-fn join_start(
+// Joins to the pieces of each face of location l the wall step from its start part, if there is one.
+fn join_cut(
+    model: &[i32],
+    l: usize,
     n: usize,
     inv: &[i32],
     rate: &[i32],
-    part: &[i32],
     variable: i32,
     value: i32,
     block: &mut [i32],
 )
-    requires { ⌜ PartJoin n (now inv) (now rate) (now part) variable value (now block) ⌝ }
-    ensures { λ _. ⌜ now (block .exit) ≡ joinedEach n (piecesWith n (cutFrom variable value)) (now (block .entry)) (wallsFrom n (now (inv .entry)) (now (rate .entry)) (cutFrom variable value) (faceRead n (now (part .entry)) 0)) ⌝ }
+    requires { ⌜ StartJoin (now model) l n (now inv) (now rate) variable value (now block) ⌝ }
+    ensures { λ _. ⌜ now (block .exit) ≡ joinedEach n (piecesWith n (cutFrom variable value)) (now (block .entry)) (wallsFrom n (now (inv .entry)) (now (rate .entry)) (cutFrom variable value) (startPart (now (model .entry)) l)) ⌝ }
 {
-    if integers::same(part[0], 1) {
-        join_walls(
-            n,
-            inv,
-            rate,
-            records::box_at(part, 1, n),
-            variable,
-            value,
-            block,
-        );
+    let mut start = [0i32; 12];
+    let end = 2 * n;
+    if parts::start_part(model, l, &mut start) {
+        join_walls(n, inv, rate, &start[..end], variable, value, block);
+    }
+}
+
+// The same: without start flag 1 no words are held for it.
+fn join_start(
+    model: &[i32],
+    l: usize,
+    n: usize,
+    inv: &[i32],
+    rate: &[i32],
+    variable: i32,
+    value: i32,
+    block: &mut [i32],
+)
+    requires { ⌜ StartJoin (now model) l n (now inv) (now rate) variable value (now block) ⌝ }
+    ensures { λ _. ⌜ now (block .exit) ≡ joinedEach n (piecesWith n (cutFrom variable value)) (now (block .entry)) (wallsFrom n (now (inv .entry)) (now (rate .entry)) (cutFrom variable value) (startPart (now (model .entry)) l)) ⌝ }
+{
+    if integers::same(records::start_flag(model, l), 1) {
+        join_cut(model, l, n, inv, rate, variable, value, block);
     }
 }
 
@@ -152,7 +165,7 @@ fn cut_value(model: &[i32], l: usize, n: usize, count: usize) -> i32
 }
 
 // Joins to the pieces of location l, `count` of them, before which so many stand in the table, the wall steps from all parts of
-// the location: its start box, and its pieces.
+// the location: its start part, and its pieces.
 fn join_parts<'a>(
     model: &'a [i32],
     table: &'a [i32],
@@ -169,15 +182,7 @@ fn join_parts<'a>(
     let rate = records::rate(model, l);
     let variable = cut_variable(model, l, n, count);
     let value = cut_value(model, l, n, count);
-    join_start(
-        n,
-        inv,
-        rate,
-        parts::start_part(model, l),
-        variable,
-        value,
-        block,
-    );
+    join_start(model, l, n, inv, rate, variable, value, block);
     let mut q = 0;
     while q < count {
         let piece = tables::face(table, tables::piece_at(before, q, n), n);
@@ -186,38 +191,22 @@ fn join_parts<'a>(
     }
 }
 
-// The pieces of location l, `count` of them, before which so many stand in the table, with all their wall steps.
-fn walls_location<'a>(
-    model: &'a [i32],
-    table: &'a [i32],
-    l: usize,
-    before: usize,
-    count: usize,
-    block: &mut [i32],
-)
-    requires { ⌜ Checked (now model) (now table) × (l < L# (now model)) × (before ≡ piecesBefore (now model) l) × (length (now block) ≡ pieces (now model) l * faceSize (n# (now model))) × (count ≡ pieces (now model) l) ⌝ }
-    ensures { λ _. ⌜ now (block .exit) ≡ locationBy (now (model .entry)) l (wallsJoined (now (model .entry)) (now (table .entry)) l) ⌝ }
-{
-    let at = tables::piece_at(before, 0, records::variables(model));
-    let end = at + block.len();
-    integers::copy(&table[at..end], block);
-    join_parts(model, table, l, before, count, block);
-}
-
-// The whole table.
+// The whole table: its words are copied at once, and the wall steps of each location joined to them.
 pub fn walls<'a>(model: &'a [i32], places: &[usize], table: &'a [i32], out: &mut [i32])
     requires { ⌜ Checked (now model) (now table) × Places (now model) (now places) × (length (now out) ≡ tableSize (now model)) ⌝ }
     ensures { λ _. ⌜ now (out .exit) ≡ tableBy (now (model .entry)) (wallsJoined (now (model .entry)) (now (table .entry))) ⌝ }
 {
     let n = records::variables(model);
     let locations = records::locations(model);
+    let size = out.len();
+    integers::copy(&table[..size], out);
     let mut l = 0;
     while l < locations {
         let before = places[l];
         let next = places[l + 1];
         let at = tables::piece_at(before, 0, n);
         let end = tables::piece_at(next, 0, n);
-        walls_location(model, table, l, before, next - before, &mut out[at..end]);
+        join_parts(model, table, l, before, next - before, &mut out[at..end]);
         l = l + 1;
     }
 }

@@ -132,7 +132,7 @@ pub record CutCases : Type 0 where
   pub both-answer : analysis (plantD cut-y cut-y) 60 ≡ Safe 3
   pub two-size : tableSize (plantD cut-y no-cut) ≡ 60
   pub two-ceiling : ceilingOf (plantD cut-y no-cut) ≡ 58
-  -- the start box of S is left whole: its wall step to y 2 has x 0..2, which a start split at y 1 would not give in one pass
+  -- the start part of S is not cut to pieces: its wall step to y 2 has x 0..2, which a start split at y 1 would not give in one pass
   pub start-passes : modelQuestions plantS ≡ 0
   pub start-whole : take 7 (drop 42 (tableAfter plantS 1)) ≡ pos 1 ∷ pos 0 ∷ pos 2 ∷ pos 2 ∷ pos 2 ∷ pos 1 ∷ pos 1 ∷ []
   pub start-answer : analysis plantS 36 ≡ Safe 4

@@ -28,6 +28,7 @@ use Rattle.plant.proofs.WallStep.{above-low, below-high, in-delays, del
 use Rattle.plant.proofs.Tight.{lowBefore, highBefore, AttainedLow, AttainedHigh, to-wall, low-attained, high-attained}
 use Rattle.plant.proofs.SwitchStep.{switch-holds, switch-mono}
 use Rattle.plant.proofs.SwitchExact.{switch-from, switch-ordered}
+use Rattle.plant.proofs.StartPart.{start-ordered, start-holds, start-only}
 use Rattle.plant.proofs.Pieces.{extent-mono, extent-holds, extent-only, extent-ordered, covered}
 use Rattle.plant.proofs.Uncut.{no-cuts}
 use Rattle.plant.proofs.Tables.{table-words, table-length, ok-valid, second-absent}
@@ -159,6 +160,11 @@ meaning = record {
   switch-step = switch-means;
   wall-grows = λ n inv rate rate′ part part′ d b ld parts rates larger wider. wall-mono n inv rate rate′ part part′ d b larger wider ld parts rates;
   switch-grows = switch-mono;
+  start-part = λ m l D x u count positive. (
+    start-only m l D x u count,
+    λ i. start-holds m l D x positive (i .flagged) (i .in-start) (i .is-configuration .in-invariant),
+  );
+  start-not-empty = λ m l box e. subst (FaceAll (Ordered (n# m))) e (start-ordered m l);
   seven-sizes = refl;
   piece-cut = λ n D e b y positive one. (extent-only n e one D y b, λ h. extent-holds n e D y b positive (h .1) (h .0));
   piece-not-empty = λ n e b box o h. subst (FaceAll (Ordered n)) h (extent-ordered n e b o);

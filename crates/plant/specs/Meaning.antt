@@ -1,5 +1,6 @@
 -- What the procedures of document 01, "Delays" and "Wall step and switch step", mean, so that nobody has to trust them: one record,
--- proved by one theorem. Levels, delays and switches are those of "Runs". It also says what pieces are, and how large a table is.
+-- proved by one theorem. Levels, delays and switches are those of "Runs". It also says what start parts and pieces are, and how large
+-- a table is.
 use mathlib.Core.Path.{_≡_}
 use mathlib.Core.Logic.{_↔_}
 use mathlib.Core.Bool.{true}
@@ -21,8 +22,8 @@ use Rattle.plant.specs.Model.{n#, E#, invariant, rate, source, target, r
 use Rattle.plant.specs.Delays.{delaysInto, In, Reaches}
 use Rattle.plant.specs.Steps.{touches, Touch, Bound, unbounded, bound, cutLow, cutHigh, wallDelays, wallStep, switchStep}
 use Rattle.plant.specs.Pieces.{Extent, wholeFace, upToValue, fromValue, noExtent, extentBy, cutToExtent, piecesPerFace, perFace, pieceNumber}
-use Rattle.plant.specs.Tables.{wordsPerLocation, tableSize, longestTableFile, tableBy, pieceOf, tableOk, widths, ceilingOf}
-use Rattle.plant.specs.Runs.{InBox, IsDelay, IsSwitch}
+use Rattle.plant.specs.Tables.{wordsPerLocation, tableSize, longestTableFile, tableBy, pieceOf, tableOk, startPart, widths, ceilingOf}
+use Rattle.plant.specs.Runs.{InBox, IsDelay, IsSwitch, IsInitial}
 
 -- the face is there, and the levels x over D lie in its box
 abbrev pub Holds : (n D : ℕ) (x : List ℤ) → Face → Type 0
@@ -187,6 +188,11 @@ pub record Meaning : Type 0 where
       (n mask : ℕ) (guard guard′ reset reset′ inv : List ℤ) → Inside n guard guard′ → Inside n reset reset′
       → (g g′ : Face) → FaceIn n g g′
       → FaceIn n (switchStep n mask guard reset inv g) (switchStep n mask guard′ reset′ inv g′)
+  -- the start part of a location holds exactly the levels at which a run may start there, and is never empty (document 02, T-02)
+  pub start-part :
+      (m : List ℤ) (l D : ℕ) (x : List ℤ) → l < L# m → length x ≡ n# m → 0 < D
+      → Holds (n# m) D x (startPart m l) ↔ IsInitial m D (record { location = l; levels = x })
+  pub start-not-empty : (m : List ℤ) (l : ℕ) (box : List ℤ) → startPart m l ≡ present box → Ordered (n# m) box
   -- words per location, of 1 to 7 variables (document 02, T-04)
   pub seven-sizes : map wordsPerLocation (1 ∷ 2 ∷ 3 ∷ 4 ∷ 5 ∷ 6 ∷ 7 ∷ []) ≡ 6 ∷ 20 ∷ 42 ∷ 72 ∷ 110 ∷ 156 ∷ 210 ∷ []
   -- a box cut to the side of a piece holds exactly the levels of the box that lie on it

@@ -27,8 +27,8 @@ pub record BoxWithin (m m′ : List ℤ) (b : ℕ) : Type 0 where
   pub same-location : forbiddenLocation m b ≡ forbiddenLocation m′ number
   pub boxes : Inside (n# m) (forbiddenBox m b) (forbiddenBox m′ number)
 
--- equal n, L, invariants and cuts; every rate box of m inside that of m′ for its location; where m has a start part, m′ has one in that
--- location that holds it; its switches and forbidden boxes as above
+-- equal n, L, invariants and cuts; every rate box of m inside that of m′ for its location; where m has a start part (one that is not
+-- absent), m′ has one in that location that holds it; its switches and forbidden boxes as above
 pub record Narrower (m m′ : List ℤ) : Type 0 where
   pub same-n : n# m ≡ n# m′
   pub same-L : L# m ≡ L# m′

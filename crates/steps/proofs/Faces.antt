@@ -6,7 +6,7 @@ use mathlib.Core.List.{List, [], _++_}
 use Prim.Native.Nat.{ℕ, _+_, _*_, _-_, _≤_, _<_}
 use native.Mathlib.Omega.{arith}
 use lib.Dec.{eqb}
-use lib.IntN.{ℤ, pos}
+use lib.IntN.{ℤ}
 use lib.Signed.{leZ, _≤ℤ_, ≤ℤ-refl}
 use lib.ListN.{length, take, drop, take-append-drop}
 use lib.Seq.{length-take-le, drop-append-add, drop-drop}
@@ -58,6 +58,25 @@ none-handed n a out face h room e =
       sized = l;
     }
 
+-- no face, and nothing written
+pub nothing-handed : (n : ℕ) (out : List ℤ) (face : Face) → 2 * n ≤ length out → face ≡ absent → Handed n false out out face
+nothing-handed n out face room e = subst (λ (x : List ℤ). Handed n false x out face) (sym (onto-none out)) (none-handed n [] out face (omega arith) room e)
+
+-- the box of these lows and highs, written variable by variable
+module _ (n : ℕ) (lo hi : ℕ → ℤ) where
+  -- all written, each ordered
+  pub ends-all : {exit out : List ℤ} → allBelow n (λ j. leZ (lo j) (hi j)) ≡ true → exit ≡ onto (boxBy n lo hi) out → Handed n true exit out (unlessEmpty n (boxBy n lo hi))
+  unfolding unlessEmpty
+  ends-all {exit} {out} o e =
+      rw e (box-handed n (boxBy n lo hi) out true _ (length-boxBy n lo hi) (ap (λ (x : Bool). cond x (present (boxBy n lo hi)) absent) (ordered-by n lo hi ∙ o)))
+
+  -- left at a variable that is not ordered
+  pub ends-left : {exit out : List ℤ} (i : ℕ) → i < n → leZ (lo i) (hi i) ≡ false → 2 * n ≤ length out → exit ≡ onto (boxBy i lo hi) out → Handed n false exit out (unlessEmpty n (boxBy n lo hi))
+  unfolding unlessEmpty
+  ends-left {exit} {out} i l o room e =
+      rw e (none-handed n (boxBy i lo hi) out _ (omega (arith, length-boxBy i lo hi)) room
+      (ap (λ (x : Bool). cond x (present (boxBy n lo hi)) absent) (ordered-by n lo hi ∙ not-all n (λ j. leZ (lo j) (hi j)) i l o)))
+
 module _ (n : ℕ) (inv rate part : List ℤ) (d : ℕ) (b : ℤ) where
   length-after : (t : Interval) → length (boxAfter n inv rate part d b t) ≡ 2 * n
   unfolding boxAfter
@@ -70,18 +89,14 @@ module _ (n : ℕ) (inv rate part : List ℤ) (d : ℕ) (b : ℤ) where
     abbrev hi : ℕ → ℤ
     hi = highAfter n inv rate part d b t
 
-    -- all variables written, each ordered
+    -- all variables written, each ordered; left at a variable that is not ordered
     pub after-all : {exit out : List ℤ} → allBelow n (λ j. leZ (lo j) (hi j)) ≡ true → exit ≡ onto (boxBy n lo hi) out → Handed n true exit out (faceAfter n inv rate part d b (Between t))
-    unfolding unlessEmpty boxAfter
-    after-all {exit} {out} o e =
-        rw e (box-handed n (boxBy n lo hi) out true _ (length-boxBy n lo hi) (ap (λ (x : Bool). cond x (present (boxBy n lo hi)) absent) (ordered-by n lo hi ∙ o)))
+    unfolding boxAfter
+    after-all = ends-all n lo hi
 
-    -- left at a variable that is not ordered
     pub after-left : {exit out : List ℤ} (i : ℕ) → i < n → leZ (lo i) (hi i) ≡ false → 2 * n ≤ length out → exit ≡ onto (boxBy i lo hi) out → Handed n false exit out (faceAfter n inv rate part d b (Between t))
-    unfolding unlessEmpty boxAfter
-    after-left {exit} {out} i l o room e =
-        rw e (none-handed n (boxBy i lo hi) out _ (omega (arith, length-boxBy i lo hi)) room
-        (ap (λ (x : Bool). cond x (present (boxBy n lo hi)) absent) (ordered-by n lo hi ∙ not-all n (λ j. leZ (lo j) (hi j)) i l o)))
+    unfolding boxAfter
+    after-left = ends-left n lo hi
 
   -- the delays decide
   pub wall-by : {t : Delays} {r : Bool} {exit out : List ℤ} → wallDelays n inv rate part d b ≡ t → Handed n r exit out (faceAfter n inv rate part d b t) → Handed n r exit out (wallStep n inv rate part d b)
@@ -89,7 +104,7 @@ module _ (n : ℕ) (inv rate part : List ℤ) (d : ℕ) (b : ℤ) where
   wall-by {t} {r} {exit} {out} e h = subst (λ (x : Delays). Handed n r exit out (faceAfter n inv rate part d b x)) (sym e) h
 
   pub wall-never : {out : List ℤ} → wallDelays n inv rate part d b ≡ Never → 2 * n ≤ length out → Handed n false out out (wallStep n inv rate part d b)
-  wall-never {out} e room = wall-by e (subst (λ (x : List ℤ). Handed n false x out absent) (sym (onto-none out)) (none-handed n [] out absent (omega arith) room refl))
+  wall-never {out} e room = wall-by e (nothing-handed n out absent room refl)
 
 module _ (n mask : ℕ) (guard reset inv from : List ℤ) where
   length-landed : length (landedBox n mask guard reset inv from) ≡ 2 * n

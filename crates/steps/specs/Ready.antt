@@ -1,9 +1,15 @@
--- What the steps read is in range, and there is room for the box that they write.
+-- What is read is in range, and there is room for the box that is written.
 use mathlib.Core.List.{List}
 use Prim.Native.Nat.{ℕ, _*_, _≤_}
 use lib.IntN.{ℤ}
 use lib.ListN.{length}
 use Rattle.delays.specs.Ranges.{Level, Levels, Rates}
+
+-- the box a, to be cut to the box b
+pub record CutReady (n : ℕ) (a b out : List ℤ) : Type 0 where
+  pub a-in : Levels n a
+  pub b-in : Levels n b
+  pub room : 2 * n ≤ length out
 
 -- to a wall value b
 pub record WallReady (n : ℕ) (inv rate part : List ℤ) (b : ℤ) (out : List ℤ) : Type 0 where

@@ -1,19 +1,40 @@
-// The wall step and the switch step on boxes of n variables (document 01, "Wall step and switch step").
-// A step writes the box of the face that it gives to the front of a lent list, and answers whether it gives one.
+// The wall step and the switch step on boxes of n variables (document 01, "Wall step and switch step"), and the cut of a box.
+// Each writes the box of the face that it gives to the front of a lent list, and answers whether it gives one.
 ghost use mathlib.Core.Path.{_≡_};
 ghost use mathlib.Core.Bool.{cond};
 ghost use Prim.Native.Nat.{ℕ, _<_};
 ghost use Rattle.integers.specs.Rounding.{maxZ, minZ};
-ghost use Rattle.plant.specs.Box.{low, high, present};
+ghost use Rattle.plant.specs.Box.{low, high, cut, present, unlessEmpty};
 ghost use Rattle.plant.specs.declared.Delays.the-variants.{Between};
 ghost use Rattle.plant.specs.Steps.{lowAt, highAt, lowBound, highBound, cutLow, cutHigh, lowAfter, highAfter, faceAfter, wallStep, switchStep};
 ghost use Rattle.delays.specs.Ranges.{Level, Rate, LevelAt, RateAt, Small, SmallInterval};
-ghost use Rattle.steps.specs.Ready.{WallReady, SwitchReady};
+ghost use Rattle.steps.specs.Ready.{CutReady, WallReady, SwitchReady};
 ghost use Rattle.steps.specs.Handing.{Handed};
 use plant::Delays;
 use plant::End;
 use plant::Fraction;
 use plant::Interval;
+
+// The box a cut to the box b, if it is not empty: left at the first variable of which it is.
+pub fn cut_box(n: usize, a: &[i32], b: &[i32], out: &mut [i32]) -> bool
+    requires { ⌜ CutReady n (now a) (now b) (now out) ⌝ }
+    ensures { λ r. ⌜ Handed n r (now (out .exit)) (now (out .entry)) (unlessEmpty n (cut n (now (a .entry)) (now (b .entry)))) ⌝ }
+{
+    let mut i = 0;
+    while i < n {
+        let low = delays::cut_low(a, b, i);
+        let high = delays::cut_high(a, b, i);
+        if high < low {
+            return false;
+        }
+        let k = 2 * i;
+        let j = k + 1;
+        out[k] = low as i32;
+        out[j] = high as i32;
+        i += 1;
+    }
+    true
+}
 
 // p + a × t, down to a whole number.
 fn low_at(p: i64, a: i64, t: Fraction) -> i64

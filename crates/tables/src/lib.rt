@@ -16,8 +16,10 @@ ghost use Rattle.records.specs.Whole.{Whole};
 ghost use Rattle.tables.specs.Places.{Places};
 ghost use Rattle.tables.specs.Room.{Joinable, IsFace, joinedWith, AreFaces, joinedEach, PiecesBy, cutEach, Cuttable};
 
-// How many words are held for tables: room for a small table (uncut: 64 locations of two variables, eight of six), and for the
-// largest (64 locations of six, all cut).
+// How many words are held for tables: room for a very small table (uncut: eight locations of two variables, one of six), for a small
+// one (64 of two, eight of six), and for the largest (64 locations of six, all cut).
+pub const FEWEST_WORDS: usize = 160;
+
 pub const FEW_WORDS: usize = 1280;
 
 pub const MOST_WORDS: usize = 19968;

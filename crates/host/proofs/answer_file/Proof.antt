@@ -1,4 +1,4 @@
--- The words held are enough: for a small table few, else those of the largest table.
+-- The words held are enough: fewer for a smaller table, else those of the largest table.
 use Rattle.passes.proofs.PartWords.{whole}
 use borrow.Author.Needs.{needs}
 use Rattle.host.proofs.Deciding.{table-fits}
@@ -30,13 +30,28 @@ slice-aggregate-answer-with-4 : tie.Need-slice-aggregate-answer-with-4
 slice-aggregate-answer-with-4 c = search needs
 
 answer-with-requires-2 : tie.Need-answer-with-requires-2
-answer-with-requires-2 c κs = let s = c .before .before .before .before .before .before in (s .pre .0, s .pre .1, table-fits _ (s .pre .0), table-fits _ (s .pre .0))
+answer-with-requires-2 c κs = search needs
 
 same-length-2 : tie.Need-same-length-2
 same-length-2 c = search needs
 
 returns-2 : tie.Need-returns-2
 returns-2 c = search needs
+
+slice-aggregate-answer-with-5 : tie.Need-slice-aggregate-answer-with-5
+slice-aggregate-answer-with-5 c = search needs
+
+slice-aggregate-answer-with-6 : tie.Need-slice-aggregate-answer-with-6
+slice-aggregate-answer-with-6 c = search needs
+
+answer-with-requires-3 : tie.Need-answer-with-requires-3
+answer-with-requires-3 c κs = let s = c .before .before .before .before .before .before .before in (s .pre .0, s .pre .1, table-fits _ (s .pre .0), table-fits _ (s .pre .0))
+
+same-length-3 : tie.Need-same-length-3
+same-length-3 c = search needs
+
+returns-3 : tie.Need-returns-3
+returns-3 c = search needs
 
 pub answer-file-spec : {M : Type 1} → statement M
 answer-file-spec =
@@ -52,4 +67,9 @@ answer-file-spec =
     slice-aggregate-answer-with-4
     answer-with-requires-2
     same-length-2
-    returns-2)
+    returns-2
+    slice-aggregate-answer-with-5
+    slice-aggregate-answer-with-6
+    answer-with-requires-3
+    same-length-3
+    returns-3)

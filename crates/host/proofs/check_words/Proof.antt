@@ -1,4 +1,4 @@
--- The words held are enough: for a small table few, else those of the largest table.
+-- The words held are enough: fewer for a smaller table, else those of the largest table.
 use Rattle.passes.proofs.PartWords.{whole}
 use borrow.Author.Needs.{needs}
 use Rattle.host.proofs.Deciding.{table-fits}
@@ -21,10 +21,19 @@ slice-aggregate-check-with-2 : tie.Need-slice-aggregate-check-with-2
 slice-aggregate-check-with-2 c = search needs
 
 check-with-requires-2 : tie.Need-check-with-requires-2
-check-with-requires-2 c κs = let s = c .before .before .before .before in (s .pre, table-fits _ (s .pre))
+check-with-requires-2 c κs = search needs
 
 returns-2 : tie.Need-returns-2
 returns-2 c = search needs
+
+slice-aggregate-check-with-3 : tie.Need-slice-aggregate-check-with-3
+slice-aggregate-check-with-3 c = search needs
+
+check-with-requires-3 : tie.Need-check-with-requires-3
+check-with-requires-3 c κs = let s = c .before .before .before .before .before in (s .pre, table-fits _ (s .pre))
+
+returns-3 : tie.Need-returns-3
+returns-3 c = search needs
 
 pub check-words-spec : {M : Type 1} → statement M
 check-words-spec =
@@ -36,4 +45,7 @@ check-words-spec =
     returns
     slice-aggregate-check-with-2
     check-with-requires-2
-    returns-2)
+    returns-2
+    slice-aggregate-check-with-3
+    check-with-requires-3
+    returns-3)

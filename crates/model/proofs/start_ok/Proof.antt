@@ -1,4 +1,4 @@
--- Both boxes are 2n words long, so both tests may be made whatever the flag.
+-- The box is 2n words long, so both tests may be made whatever the flag.
 use mathlib.Core.Path.{ap}
 use native.Mathlib.Omega.{arith}
 use lib.ListN.{length}
@@ -32,21 +32,18 @@ zeros-ok-requires c κs =
 same-requires-2 : tie.Need-same-requires-2
 same-requires-2 c κs = search needs
 
-invariant-requires : tie.Need-invariant-requires
-invariant-requires c κs = search needs
-
-inside-ok-requires : tie.Need-inside-ok-requires
-inside-ok-requires c κs =
-    let s = c .before .before .before .before .before .before .before in
-    (omega (arith, ap length (c .before .before .before .before .start-box .ensures), at.length-startBox (s .args .model .now) (s .pre .0) (s .args .l) (s .pre .1)), omega (arith, ap length (c .invariant .ensures), at.length-invariant (s .args .model .now) (s .pre .0) (s .args .l) (s .pre .1)))
+box-ok-requires : tie.Need-box-ok-requires
+box-ok-requires c κs =
+    let s = c .before .before .before .before .before .before in
+    omega (arith, ap length (c .before .before .before .start-box .ensures), at.length-startBox (s .args .model .now) (s .pre .0) (s .args .l) (s .pre .1))
 
 returns : tie.Need-returns
 unfolding Q.startOk
 returns c =
-    let g = c .before .before .before .before .before .before .start-flag in
-    let e = rw (got32 (g .result) (g .ok)) at (c .before .before .before .before .same .ensures) in
-    let f = rw (got32 (g .result) (g .ok)) at (c .before .before .same2 .ensures) in
-    rw (e, f, c .before .before .before .zeros-ok .ensures, c .inside-ok .ensures, g .ensures, c .before .before .before .before .before .start-box .ensures, c .before .invariant .ensures, c .before .before .before .before .before .before .before .variables .ensures)
+    let g = c .before .before .before .before .before .start-flag in
+    let e = rw (got32 (g .result) (g .ok)) at (c .before .before .before .same .ensures) in
+    let f = rw (got32 (g .result) (g .ok)) at (c .before .same2 .ensures) in
+    rw (e, f, c .before .before .zeros-ok .ensures, c .box-ok .ensures, g .ensures, c .before .before .before .before .start-box .ensures, c .before .before .before .before .before .before .variables .ensures)
 
 pub start-ok-spec : {M : Type 1} → statement M
 start-ok-spec =
@@ -59,6 +56,5 @@ start-ok-spec =
     mul-zeros-ok
     zeros-ok-requires
     same-requires-2
-    invariant-requires
-    inside-ok-requires
+    box-ok-requires
     returns)

@@ -1,76 +1,77 @@
--- The words stand behind the rate box.
-use mathlib.Core.Path.{_≡_, _∙_}
-use native.Mathlib.Omega.{arith}
-use Prim.Native.Nat.{_+_, _*_, _-_, _≤_}
+-- Under start flag 1 the cut of two boxes of levels; else nothing is written.
+use mathlib.Core.Path.{_≡_, sym, _∙_}
+use lib.IntN.{pos}
+use Rattle.integers.specs.Words.{eqZ}
+use Rattle.integers.proofs.Signed.{got32}
+use Rattle.integers.proofs.Tests.{true-is}
+use Rattle.integers.proofs.Counted.{eqZ-eq}
+use Rattle.plant.specs.Model.{startFlag}
 use Rattle.plant.proofs.Passed.{Passed, passed}
-use Rattle.records.proofs.Positions.{location-small}
-use Rattle.passes.proofs.PartWords.{whole, start-end, start-part}
+use Rattle.records.specs.Whole.{Whole}
+use Rattle.passes.proofs.PartWords.{whole, invariant-in, start-in, start-cut, start-none}
 use borrow.Author.Needs.{needs}
 use Rattle.passes.proofs.parts.start_part.Statement.{statement}
 use Rattle.passes.proofs.parts.start_part.Tie as tie
 
-passed-at : (c : tie.Start) → Passed (c .args .model .now)
-passed-at c = passed (c .args .model .now) (c .pre .0)
+whole-at : (c : tie.Start) → Whole (c .args .model .now)
+whole-at c = whole (c .args .model .now) (c .pre .0)
 
--- where they stand
-place-small : (c : tie.After-location-at) → (c .location-at .result ≤ 2372) × (c .before .variables .result ≤ 6)
-place-small c =
-    let s = c .before .before in
-    let m = s .args .model .now in
-    (omega (arith, c .location-at .ensures, location-small m (whole m (s .pre .0) .head) (s .args .l) (omega (arith, passed-at s .L-small, s .pre .1))), omega (arith, c .before .variables .ensures, passed-at s .n-small))
+-- what the test of the flag tells
+told : (c : tie.After-same) → c .same .result ≡ eqZ (c .before .start-flag .result) (pos 1)
+told c = let f = c .before .start-flag in simp (got32 (f .result) (f .ok)) at (c .same .ensures)
+
+flagged : (c : tie.Then1) → startFlag (c .before .before .before .args .model .now) (c .before .before .before .args .l) ≡ pos 1
+flagged c = let f = c .before .before .start-flag in sym (f .ensures) ∙ eqZ-eq (f .result) (pos 1) (true-is (sym (told (c .before)) ∙ c .if1 .taken))
+
+start-flag-requires : tie.Need-start-flag-requires
+start-flag-requires c κs = (whole-at c, c .pre .1)
+
+same-requires : tie.Need-same-requires
+same-requires c κs = search needs
 
 variables-requires : tie.Need-variables-requires
-variables-requires c κs = whole (c .args .model .now) (c .pre .0) .head
+variables-requires c κs = whole-at (c .before .before .before) .head
 
-location-at-requires : tie.Need-location-at-requires
-location-at-requires c κs = let s = c .before in (whole (s .args .model .now) (s .pre .0) .head, omega (arith, passed-at s .L-small, s .pre .1))
+start-box-requires : tie.Need-start-box-requires
+start-box-requires c κs = let s = c .before .before .before .before in (whole-at s, s .pre .1)
 
-mul-at : tie.Need-mul-at
-mul-at c = record { fits = omega (arith, place-small c) }
+invariant-requires : tie.Need-invariant-requires
+invariant-requires c κs = let s = c .before .before .before .before .before in (whole-at s, s .pre .1)
 
-add-at : tie.Need-add-at
-add-at c = record { fits = omega (arith, place-small c) }
+cut-box-requires : tie.Need-cut-box-requires
+cut-box-requires c κs =
+    let w = c .before .before .before .before in
+    let s = w .before .before .before in
+    let m = s .args .model .now in
+    let ok : Passed m = passed m (s .pre .0) in
+    rw (c .before .before .before .variables .ensures, c .before .before .start-box .ensures, c .before .invariant .ensures)
+    (record { a-in = start-in m ok (s .args .l) (s .pre .1) (flagged w); b-in = invariant-in m ok (s .args .l) (s .pre .1); room = s .pre .2 })
 
-face-size-requires : tie.Need-face-size-requires
-face-size-requires c κs = omega (arith, c .before .variables .ensures, passed-at (c .before .before) .n-small)
-
-add-end : tie.Need-add-end
-add-end c = record { fits = omega (arith, place-small (c .before), c .face-size .ensures) }
-
-mul-result : tie.Need-mul-result
-mul-result c = record { fits = omega (arith, place-small (c .before), c .face-size .ensures) }
-
-sub-result : tie.Need-sub-result
-sub-result c = search needs
-
-part-result-start : tie.Need-part-result-start
-part-result-start c = search needs
-
-part-result-end : tie.Need-part-result-end
-part-result-end c =
-    let s = c .before .before .before in
-    omega (arith, c .face-size .ensures, start-end (s .args .model .now) (passed-at s) (s .args .l) (s .pre .1) (c .before .before .variables .ensures) (c .before .location-at .ensures))
+same-length : tie.Need-same-length
+same-length c = search needs
 
 returns : tie.Need-returns
 returns c =
-    let s = c .before .before .before .before in
-    let size = c .before .face-size in
-    let at = c .before .before .location-at .result + 4 * c .before .before .before .variables .result in
-    let e : at + size .result - at ≡ size .result = omega arith in
-    start-part (s .args .model .now) (passed-at s) (s .args .l) (s .pre .1) (c .before .before .before .variables .ensures) (c .before .before .location-at .ensures) (e ∙ size .ensures)
+    let w = c .before .before .before .before .before .before in
+    let s = w .before .before .before in
+    start-cut (s .args .model .now) (s .args .l) (w .before .before .start-flag .ensures) (sym (told (w .before)) ∙ w .if1 .taken)
+    (rw (c .before .before .before .before .before .variables .ensures, c .before .before .before .before .start-box .ensures, c .before .before .before .invariant .ensures) at (c .before .cut-box .ensures))
+
+returns-2 : tie.Need-returns-2
+returns-2 c =
+    let s = c .before .before .before in
+    start-none (s .args .model .now) (s .args .l) (c .before .before .start-flag .ensures) (sym (told (c .before)) ∙ c .if1 .left) (s .pre .2)
 
 pub start-part-spec : {M : Type 1} → statement M
 start-part-spec =
     tie.close
     (tie.spec
+    start-flag-requires
+    same-requires
     variables-requires
-    location-at-requires
-    mul-at
-    add-at
-    face-size-requires
-    add-end
-    mul-result
-    sub-result
-    part-result-start
-    part-result-end
-    returns)
+    start-box-requires
+    invariant-requires
+    cut-box-requires
+    same-length
+    returns
+    returns-2)

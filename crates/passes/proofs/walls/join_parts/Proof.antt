@@ -16,7 +16,7 @@ use Rattle.tables.proofs.Sizes.{before-most}
 use Rattle.passes.specs.Joining.{Located, locationBy}
 use Rattle.passes.specs.Parts.{IsPart}
 use Rattle.passes.proofs.PartWords.{place-is, piece-end}
-use Rattle.passes.proofs.Reading.{LocationRead, whole, start-is-part, piece-is-part, joinedTo, joined-none, joined-all, joined-length, part-join, joined-more}
+use Rattle.passes.proofs.Reading.{LocationRead, whole, piece-is-part, joinedTo, joined-none, joined-all, joined-length, start-join, start-joined, part-join, joined-more}
 use Rattle.passes.proofs.walls.join_parts.Statement.{statement}
 use Rattle.passes.proofs.walls.join_parts.Tie as tie
 
@@ -62,26 +62,23 @@ module _ (c : tie.After-cut-value Inv-loop μ-loop) where
       let x = c .cut-value in
       record { n-is = c .before .before .before .before .variables .ensures; inv-is = c .before .before .before .invariant .ensures; rate-is = c .before .before .rate .ensures; variable-is = got32 (v .result) (v .ok) ∙ v .ensures; value-is = got32 (x .result) (x .ok) ∙ x .ensures }
 
-start-part-requires : tie.Need-start-part-requires Inv-loop μ-loop
-start-part-requires c κs = let s = start c in (s .pre .0 .ready .passes, s .pre .1)
-
 join-start-requires : tie.Need-join-start-requires Inv-loop μ-loop
 join-start-requires c κs =
-    let s = start (c .before .before) in
+    let s = start (c .before) in
     let a = s .args in
-    part-join (a .model .now) (a .table .now) (s .pre .0) (a .l) (s .pre .1) (read (c .before .before)) 0 (start-is-part (a .model .now) (a .table .now) (s .pre .0) (a .l) (c .before .start-part .ensures)) (joined-none (a .model .now) (a .table .now) (s .pre .0) (a .l) (s .pre .1) (s .pre .3)) (omega arith)
+    start-join (a .model .now) (a .table .now) (s .pre .0) (a .l) (s .pre .1) (read (c .before)) (s .pre .3)
 
 loop-holds : tie.Need-loop-holds Inv-loop μ-loop
 loop-holds c =
-    let r = c .before .before .before .before in
+    let r = c .before .before .before in
     let s = start r in
     let a = s .args in
-    (omega arith, joined-more (a .model .now) (a .table .now) (s .pre .0) (a .l) (s .pre .1) (read r) 0 (start-is-part (a .model .now) (a .table .now) (s .pre .0) (a .l) (c .before .before .before .start-part .ensures)) (joined-none (a .model .now) (a .table .now) (s .pre .0) (a .l) (s .pre .1) (s .pre .3)) (c .before .join-start .ensures))
+    (omega arith, start-joined (a .model .now) (a .table .now) (s .pre .0) (a .l) (s .pre .1) (read r) (s .pre .3) (c .before .join-start .ensures))
 
 -- piece q of the location
 module _ (c : tie.In-loop Inv-loop μ-loop) where
   abbrev reading : tie.After-cut-value Inv-loop μ-loop
-  reading = c .before .before .before .before .before .before
+  reading = c .before .before .before .before .before
 
   is-piece : c .before .loop .q < pieces (start reading .args .model .now) (start reading .args .l)
   is-piece = let u : c .before .loop .q < start reading .args .count = c .loop-test .taken in omega (arith, u, start reading .pre .4)
@@ -140,14 +137,14 @@ loop-again c =
 
 same-length : tie.Need-same-length Inv-loop μ-loop
 same-length c =
-    let s = start (c .before .before .before .before .before .before) in
+    let s = start (c .before .before .before .before .before) in
     let a = s .args in
     let k = joined-length (a .model .now) (a .table .now) (s .pre .0) (a .l) (s .pre .1) in
     omega (arith, ap length (c .before .loop .inv .1), k (c .before .loop .q + 1), ap length (joined-none (a .model .now) (a .table .now) (s .pre .0) (a .l) (s .pre .1) (s .pre .3)), k 0)
 
 returns : tie.Need-returns Inv-loop μ-loop
 returns c =
-    let s = start (c .before .before .before .before .before .before) in
+    let s = start (c .before .before .before .before .before) in
     let a = s .args in
     let i = c .before .loop in
     let u : a .count ≤ i .q = c .loop-test .left in
@@ -165,7 +162,6 @@ join-parts-spec =
     rate-requires
     cut-variable-requires
     cut-value-requires
-    start-part-requires
     join-start-requires
     loop-holds
     piece-at-requires

@@ -1,55 +1,46 @@
--- An absent part leaves the location's words; from a present one the steps to all faces are joined to them.
+-- Without start flag 1 there is no start part, and the location's words stay.
 use mathlib.Core.Path.{_≡_, sym, _∙_}
 use lib.IntN.{pos}
 use mir.Facts.{toZ-ofZ}
 use borrow.Author.Needs.{needs}
-use Rattle.integers.specs.Words.{word, eqZ}
+use Rattle.integers.specs.Words.{eqZ}
 use Rattle.integers.proofs.Signed.{got32}
-use Rattle.passes.proofs.Handing.{part-none, walls-join, part-joins}
+use Rattle.passes.proofs.PartWords.{whole, start-by}
+use Rattle.passes.proofs.Handing.{start-joins-nothing}
 use Rattle.passes.proofs.walls.join_start.Statement.{statement}
 use Rattle.passes.proofs.walls.join_start.Tie as tie
 
-flag : (c : tie.After-same) → let a = c .before .before .args in c .same .result ≡ eqZ (word (a .part .now) 0) (pos 1)
-flag c = let a = c .before .before .args in simp (got32 (word (a .part .now) 0) (c .before .same-arg .given)) at (c .same .ensures)
+told : (c : tie.After-same) → c .same .result ≡ eqZ (c .before .start-flag .result) (pos 1)
+told c = let f = c .before .start-flag in simp (got32 (f .result) (f .ok)) at (c .same .ensures)
 
-shared-slice-copy-out-same : tie.Need-shared-slice-copy-out-same
-shared-slice-copy-out-same c = search needs
+start-flag-requires : tie.Need-start-flag-requires
+start-flag-requires c κs = (whole (c .args .model .now) (c .pre .passes), c .pre .below)
 
 same-requires : tie.Need-same-requires
 same-requires c κs = search needs
 
-box-at-requires : tie.Need-box-at-requires
-box-at-requires c κs = search needs
-
-join-walls-requires : tie.Need-join-walls-requires
-join-walls-requires c κs =
-    let s = c .before .before .before .before .before in
-    let a = s .args in
-    rw (toZ-ofZ (s .fits .variable), toZ-ofZ (s .fits .value)) (walls-join (a .n) (a .inv .now) (a .rate .now) (a .part .now) (a .variable) (a .value) (a .block .now) (s .pre) (sym (flag (c .before .before .before)) ∙ c .before .before .if1 .taken) (c .before .box-at .ensures))
+join-cut-requires : tie.Need-join-cut-requires
+join-cut-requires c κs = let s = c .before .before .before .before in rw (toZ-ofZ (s .fits .variable), toZ-ofZ (s .fits .value)) (s .pre)
 
 same-length : tie.Need-same-length
 same-length c = search needs
 
 returns : tie.Need-returns
-returns c =
-    let s = c .before .before .before .before .before .before .before in
-    let a = s .args in
-    part-joins (a .n) (a .inv .now) (a .rate .now) (a .part .now) (a .variable) (a .value) (a .block .now) (s .pre) (sym (flag (c .before .before .before .before .before)) ∙ c .before .before .before .before .if1 .taken) (c .before .before .before .box-at .ensures) (rw (toZ-ofZ (s .fits .variable), toZ-ofZ (s .fits .value)) at (c .before .join-walls .ensures))
+returns c = let s = c .before .before .before .before .before .before in rw (toZ-ofZ (s .fits .variable), toZ-ofZ (s .fits .value)) at (c .before .join-cut .ensures)
 
 returns-2 : tie.Need-returns-2
 returns-2 c =
     let s = c .before .before .before in
     let a = s .args in
-    part-none (a .n) (a .inv .now) (a .rate .now) (a .part .now) (a .variable) (a .value) (a .block .now) (s .pre) (sym (flag (c .before)) ∙ c .if1 .left)
+    start-joins-nothing (a .model .now) (a .l) (a .n) (a .inv .now) (a .rate .now) (a .variable) (a .value) (a .block .now) (s .pre) (start-by (a .model .now) (a .l) (c .before .before .start-flag .ensures) (sym (told (c .before)) ∙ c .if1 .left))
 
 pub join-start-spec : {M : Type 1} → statement M
 join-start-spec =
     tie.close
     (tie.spec
-    shared-slice-copy-out-same
+    start-flag-requires
     same-requires
-    box-at-requires
-    join-walls-requires
+    join-cut-requires
     same-length
     returns
     returns-2)

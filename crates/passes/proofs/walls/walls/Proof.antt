@@ -1,29 +1,31 @@
--- After l turns the locations below l stand at the front of the table.
-use mathlib.Core.Path.{_≡_, refl, ap, _∙_}
+-- After l turns the locations below l have their wall steps; the others still have the words of the table before the pass.
+use mathlib.Core.Path.{_≡_, refl, sym, ap, _∙_}
 use mathlib.Core.List.{List}
 use native.Mathlib.Omega.{arith}
 use Prim.Native.Nat.{ℕ, _+_, _-_, _≤_, _<_}
 use lib.IntN.{ℤ}
-use lib.ListN.{length, getD}
+use lib.ListN.{length, take, getD}
+use lib.Seq.{length-take-le}
 use Rattle.integers.specs.Words.{onto}
 use Rattle.integers.specs.Counted.{cat, sumBelow}
+use Rattle.integers.proofs.Buffers.{part-front}
 use Rattle.plant.specs.Model.{n#, L#}
 use Rattle.plant.specs.Pieces.{pieces}
 use Rattle.plant.specs.Tables.{tableSize, pieceAt}
 use Rattle.plant.proofs.PieceCases.{before-more}
 use Rattle.plant.proofs.Tables.{locationWords}
 use Rattle.records.specs.Whole.{Whole}
-use Rattle.passes.proofs.Blocks.{none-put, put-length, place-length, one-put, all-put}
+use Rattle.passes.proofs.Blocks.{none-put, put-length, place-rest, one-put, all-put}
 use Rattle.passes.proofs.PartWords.{place-is}
-use Rattle.passes.proofs.Reading.{whole, locationsOf, locations-sized, all-locations, place-there, place-small, location-from, location-to, location-inside, table-small, table-within, table-sized}
+use Rattle.passes.proofs.Reading.{whole, old-location, locationsOf, locations-sized, all-locations, place-there, place-small, location-from, location-to, location-inside, table-small, table-within, table-sized}
 use Rattle.passes.proofs.walls.walls.Statement.{statement}
 use Rattle.passes.proofs.walls.walls.Tie as tie
 
 abbrev Inv-loop : tie.InvT-loop
-Inv-loop model places table out₀ n locations l₀ out l = (l ≤ L# model) × (out ≡ onto (cat l (locationsOf model table)) out₀)
+Inv-loop model places table out₀ n locations size l₀ out l = (l ≤ L# model) × (out ≡ onto (cat l (locationsOf model table)) (take (tableSize model) table))
 
 abbrev μ-loop : tie.MeasureT-loop
-μ-loop model places table out₀ n locations l₀ out l = locations - l
+μ-loop model places table out₀ n locations size l₀ out l = locations - l
 
 whole-at : (c : tie.Start Inv-loop μ-loop) → Whole (c .args .model .now)
 whole-at c = whole (c .args .model .now) (c .args .table .now) (c .pre .0)
@@ -34,18 +36,38 @@ variables-requires c κs = whole-at (c .before) .head
 locations-requires : tie.Need-locations-requires Inv-loop μ-loop
 locations-requires c κs = whole-at (c .before .before) .head
 
+-- the words of the table, as many as a table has
+module _ (c : tie.Start Inv-loop μ-loop) where
+  abbrev held : List ℤ
+  held = take (tableSize (c .args .model .now)) (c .args .table .now)
+
+  held-long : length held ≡ tableSize (c .args .model .now)
+  held-long = length-take-le (tableSize (c .args .model .now)) (c .args .table .now) (c .pre .0 .ready .room)
+
+  copied-is : take (length (c .args .out .now)) (c .args .table .now) ≡ held
+  copied-is = ap (λ (k : ℕ). take k (c .args .table .now)) (c .pre .2)
+
+  copied-long : length (take (length (c .args .out .now)) (c .args .table .now)) ≡ tableSize (c .args .model .now)
+  copied-long = ap length copied-is ∙ held-long
+
+slice-aggregate-copy : tie.Need-slice-aggregate-copy Inv-loop μ-loop
+slice-aggregate-copy c = let s = c .before .before .before .before in s .pre .2 ∙ sym (copied-long s)
+
+copy-requires : tie.Need-copy-requires Inv-loop μ-loop
+copy-requires c κs = let s = c .before .before .before .before .before in copied-long s ∙ sym (s .pre .2)
+
 loop-holds : tie.Need-loop-holds Inv-loop μ-loop
 loop-holds c =
-    let s = c .before .before .before in
+    let s = c .before .before .before .before .before .before .before in
     let a = s .args in
     let m = a .model .now in
     let t = a .table .now in
-    (omega arith, none-put (locationWords m) (locationsOf m t) (locations-sized m t) (a .out .now))
+    (omega arith, c .before .copy .ensures ∙ copied-is s ∙ none-put (locationWords m) (locationsOf m t) (locations-sized m t) (held s))
 
 -- location l
 module _ (c : tie.In-loop Inv-loop μ-loop) where
   abbrev start : tie.Start Inv-loop μ-loop
-  start = c .before .before .before .before .before
+  start = c .before .before .before .before .before .before .before .before .before
 
   abbrev model : List ℤ
   model = start .args .model .now
@@ -54,12 +76,12 @@ module _ (c : tie.In-loop Inv-loop μ-loop) where
   places = start .args .places .now
 
   is-location : c .before .loop .l < L# model
-  is-location = omega (arith, c .loop-test .taken, c .before .before .locations .ensures)
+  is-location = omega (arith, c .loop-test .taken, c .before .before .before .before .before .before .locations .ensures)
 
-  n-is : c .before .before .before .variables .result ≡ n# model
-  n-is = c .before .before .before .variables .ensures
+  n-is : c .before .before .before .before .before .before .before .variables .result ≡ n# model
+  n-is = c .before .before .before .before .before .before .before .variables .ensures
 
-  n-small : c .before .before .before .variables .result ≤ 6
+  n-small : c .before .before .before .before .before .before .before .variables .result ≤ 6
   n-small = omega (arith, n-is, whole-at start .head .n-small)
 
   few : c .before .loop .l < 64
@@ -136,29 +158,29 @@ module _ (c : tie.In-loop Inv-loop μ-loop) where
   count-is : count ≡ pieces (model c) (c .before .loop .l)
   count-is = omega (arith, next-is)
 
-sub-walls-location : tie.Need-sub-walls-location Inv-loop μ-loop
-sub-walls-location c = omega (arith, next-is (turn c))
+sub-join-parts : tie.Need-sub-join-parts Inv-loop μ-loop
+sub-join-parts c = omega (arith, next-is (turn c))
 
-mul-walls-location : tie.Need-mul-walls-location Inv-loop μ-loop
-mul-walls-location c = omega (arith, to c, small c)
+mul-join-parts : tie.Need-mul-join-parts Inv-loop μ-loop
+mul-join-parts c = omega (arith, to c, small c)
 
-sub-walls-location-2 : tie.Need-sub-walls-location-2 Inv-loop μ-loop
-sub-walls-location-2 c = omega (arith, to c)
+sub-join-parts-2 : tie.Need-sub-join-parts-2 Inv-loop μ-loop
+sub-join-parts-2 c = omega (arith, to c)
 
-part-walls-location-start : tie.Need-part-walls-location-start Inv-loop μ-loop
-part-walls-location-start c = omega (arith, to c)
+part-join-parts-start : tie.Need-part-join-parts-start Inv-loop μ-loop
+part-join-parts-start c = omega (arith, to c)
 
-part-walls-location-end : tie.Need-part-walls-location-end Inv-loop μ-loop
-part-walls-location-end c =
+part-join-parts-end : tie.Need-part-join-parts-end Inv-loop μ-loop
+part-join-parts-end c =
     let s = start (turn c) in
     let a = s .args in
     let m = a .model .now in
     let t = a .table .now in
     let i = turn c .before .loop in
-    omega (arith, inside c, s .pre .2, put-length (locationWords m) (locationsOf m t) (locations-sized m t) (a .out .now) (i .l) (i .inv .1) (table-within m (i .l) (i .inv .0) (s .pre .2)))
+    omega (arith, inside c, held-long s, put-length (locationWords m) (locationsOf m t) (locations-sized m t) (held s) (i .l) (i .inv .1) (table-within m (i .l) (i .inv .0) (held-long s)))
 
-walls-location-requires : tie.Need-walls-location-requires Inv-loop μ-loop
-walls-location-requires c κs =
+join-parts-requires : tie.Need-join-parts-requires Inv-loop μ-loop
+join-parts-requires c κs =
     let w = c .before in
     let s = start (turn w) in
     let a = s .args in
@@ -166,8 +188,15 @@ walls-location-requires c κs =
     let t = a .table .now in
     let i = turn w .before .loop in
     let ok = s .pre .0 in
-    let u = is-location (turn w) in
-    (ok, u, s .pre .1 .each (i .l) (omega (arith, u)), place-length (locationWords m) (locationsOf m t) (locations-sized m t) (a .out .now) (i .l) (i .inv .1) (from w) (to w) (omega (arith, inside w, s .pre .2)), count-is (turn w))
+    let u = is-location (turn w) in (
+      ok,
+      u,
+      s .pre .1 .each (i .l) (omega (arith, u)),
+      place-rest (locationWords m) (locationsOf m t) (locations-sized m t) (held s) (i .l) (i .inv .1) (from w) (to w) (omega (arith, inside w, held-long s))
+          ∙ part-front (w .before .piece-at .result) (w .piece-at2 .result - w .before .piece-at .result) (tableSize m) t (omega (arith, inside w, to w))
+          ∙ old-location m t ok (i .l) u {k = w .piece-at2 .result - w .before .piece-at .result} (at-is w) (omega (arith, to w)),
+      count-is (turn w),
+    )
 
 add-l : tie.Need-add-l Inv-loop μ-loop
 add-l c = omega (arith, few (turn (c .before .before .before)))
@@ -183,26 +212,26 @@ loop-again c =
     let m = a .model .now in
     let t = a .table .now in
     let i = turn w .before .loop in
-    (omega (arith, is-location (turn w)), one-put (locationWords m) (locationsOf m t) (locations-sized m t) (a .out .now) (i .l) (i .inv .1) (from w) (to w) (omega (arith, inside w, s .pre .2)) (c .before .walls-location .ensures))
+    (omega (arith, is-location (turn w)), one-put (locationWords m) (locationsOf m t) (locations-sized m t) (held s) (i .l) (i .inv .1) (from w) (to w) (omega (arith, inside w, held-long s)) (c .before .join-parts .ensures))
 
 same-length : tie.Need-same-length Inv-loop μ-loop
 same-length c =
-    let s = c .before .before .before .before .before in
+    let s = c .before .before .before .before .before .before .before .before .before in
     let a = s .args in
     let m = a .model .now in
     let t = a .table .now in
     let i = c .before .loop in
-    put-length (locationWords m) (locationsOf m t) (locations-sized m t) (a .out .now) (i .l) (i .inv .1) (table-within m (i .l) (i .inv .0) (s .pre .2))
+    put-length (locationWords m) (locationsOf m t) (locations-sized m t) (held s) (i .l) (i .inv .1) (table-within m (i .l) (i .inv .0) (held-long s)) ∙ held-long s ∙ sym (s .pre .2)
 
 returns : tie.Need-returns Inv-loop μ-loop
 returns c =
-    let s = c .before .before .before .before .before in
+    let s = c .before .before .before .before .before .before .before .before .before in
     let a = s .args in
     let m = a .model .now in
     let t = a .table .now in
     let i = c .before .loop in
-    let e : i .l ≡ L# m = omega (arith, i .inv .0, c .loop-test .left, c .before .before .locations .ensures) in
-    all-put (locationWords m) (locationsOf m t) (locations-sized m t) (a .out .now) (L# m) (i .inv .1 ∙ ap (λ (k : ℕ). onto (cat k (locationsOf m t)) (a .out .now)) e) (table-sized m (s .pre .2)) ∙ all-locations m t
+    let e : i .l ≡ L# m = omega (arith, i .inv .0, c .loop-test .left, c .before .before .before .before .before .before .locations .ensures) in
+    all-put (locationWords m) (locationsOf m t) (locations-sized m t) (held s) (L# m) (i .inv .1 ∙ ap (λ (k : ℕ). onto (cat k (locationsOf m t)) (held s)) e) (table-sized m (held-long s)) ∙ all-locations m t
 
 pub walls-spec : {M : Type 1} → statement M
 walls-spec =
@@ -212,6 +241,8 @@ walls-spec =
     μ-loop
     variables-requires
     locations-requires
+    slice-aggregate-copy
+    copy-requires
     loop-holds
     mul-before
     shared-slice-read-before
@@ -220,12 +251,12 @@ walls-spec =
     shared-slice-read-next
     piece-at-requires
     piece-at-requires-2
-    sub-walls-location
-    mul-walls-location
-    sub-walls-location-2
-    part-walls-location-start
-    part-walls-location-end
-    walls-location-requires
+    sub-join-parts
+    mul-join-parts
+    sub-join-parts-2
+    part-join-parts-start
+    part-join-parts-end
+    join-parts-requires
     add-l
     loop-less
     loop-again
