@@ -129,9 +129,9 @@ fn untouched_box(random: &mut Random, plant: &Plant, table: &[i32], l: usize) ->
     let location = plant.location(l);
     let n = plant.sizes.n;
     let pieces = table[plant.location_places(l)].chunks_exact(plant.sizes.face_words());
-    let start = location.started.then_some(location.start);
+    let start = location.start_part();
     let present = pieces.filter(|piece| piece[0] == 1).map(|piece| &piece[1..]);
-    let parts: Vec<&[i32]> = start.into_iter().chain(present).collect();
+    let parts: Vec<&[i32]> = start.iter().map(|part| &part[..]).chain(present).collect();
     if parts.is_empty() {
         return None;
     }

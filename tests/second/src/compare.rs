@@ -6,17 +6,21 @@ use std::fmt;
 
 use crate::analysis::{run_quick, Answer};
 use crate::coverage::{note, Counts};
-use crate::damage::{damage_bytes, damage_faces, damaged_cuts, damaged_table_file, edited_model_file};
+use crate::damage::{
+    damage_bytes, damage_faces, damaged_cuts, damaged_starts, damaged_table_file, edited_model_file, START_DAMAGE,
+};
 use crate::desk::Desk;
 use crate::exports::{Call, Input, Lent};
-use crate::files::{field, model_file, parse_table, table_file};
+use crate::files::{field, file_of_words, model_file, parse_table, table_file};
 use crate::generate::{
-    close, extreme_model, helped_model, long_model, pass_budget, random_limit, random_model, random_table,
+    close, crossing_model, extreme_model, helped_model, long_model, pass_budget, random_limit, random_model,
+    random_table,
 };
 use crate::host;
 use crate::model::Plant;
 use crate::random::Random;
 use crate::simulate::travel;
+use crate::starts::{any_crosses, table_of_whole_boxes, touched_by_whole_boxes};
 
 /// Room for the longest table file.
 pub const MOST_ROOM: usize = 7 + 64 * 24 * 63;
@@ -31,6 +35,8 @@ const RUNS: u64 = 2;
 const EXTREME_ONE_IN: u64 = 20;
 /// One model in so many is made to be safe by its cuts.
 const HELPED_ONE_IN: u64 = 10;
+/// One model in so many is made to be safe by what its walls cut off its start boxes.
+const CROSSING_ONE_IN: u64 = 10;
 /// One model in so many takes thousands of passes; none where the comparison is tight.
 const LONG_ONE_IN: u64 = 150;
 
@@ -221,6 +227,8 @@ impl Comparison {
             extreme_model(&mut self.random).words()
         } else if self.random.chance(1, HELPED_ONE_IN) {
             helped_model(&mut self.random).words()
+        } else if self.random.chance(1, CROSSING_ONE_IN) {
+            crossing_model(&mut self.random).words()
         } else {
             random_model(&mut self.random).words()
         };
@@ -267,6 +275,9 @@ impl Comparison {
             self.hold_unknown(code, checked)?;
         }
         self.calls_case(plant, limit, &rest, &other)?;
+        if any_crosses(plant) {
+            self.trimmed_case(plant, limit, [&rest, &other])?;
+        }
         for _ in 0..damaged {
             self.damaged_case(plant, &model, &rest, &other)?;
             self.damaged_call(plant, &rest, &other)?;
@@ -287,6 +298,7 @@ impl Comparison {
                 self.counts.safe_runs.add(&travelled);
                 self.counts.accepted += 1;
                 self.counts.extreme("safe by its cuts, unknown without them", unknown_without_cuts(plant));
+                self.note_whole_boxes(plant, &table);
                 if checked != 100 || travelled.forbidden > 0 || travelled.unreached > 0 {
                     return Err(Difference {
                         text: format!("safe, but check gives {checked} and {travelled:?}\nmodel {}", hex(model)),
@@ -300,6 +312,19 @@ impl Comparison {
             _ => {}
         }
         Ok(())
+    }
+
+    /// Counts what a safe model, with its answer's table, would be if start boxes were taken whole.
+    fn note_whole_boxes(&mut self, plant: &Plant, table: &[i32]) {
+        if !any_crosses(plant) {
+            return;
+        }
+        let no_part = (0..plant.sizes.locations).all(|l| plant.location(l).start_part().is_none());
+        self.counts.extreme("safe 0 with start boxes behind walls alone", no_part);
+        let (whole, at_rest) = table_of_whole_boxes(plant, pass_budget(plant));
+        let touched = touched_by_whole_boxes(plant, &whole);
+        self.counts.extreme("safe by its start parts, unknown with whole start boxes", touched);
+        self.counts.extreme("another table with whole start boxes", at_rest && whole != table);
     }
 
     /// No table is accepted for a model that is answered unknown.
@@ -359,6 +384,15 @@ impl Comparison {
     }
 
     pub(crate) fn damaged_model(&mut self, plant: &Plant, model: &[u8]) -> Vec<u8> {
+        if self.random.chance(9, 10) {
+            return self.damaged_beside_starts(plant, model);
+        }
+        let (words, kind) = damaged_starts(&mut self.random, plant);
+        self.note_damage("model", START_DAMAGE[kind].0);
+        file_of_words(&plant.sizes, &words)
+    }
+
+    fn damaged_beside_starts(&mut self, plant: &Plant, model: &[u8]) -> Vec<u8> {
         let random = &mut self.random;
         match random.below(26) {
             20.. => {

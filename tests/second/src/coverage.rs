@@ -4,13 +4,14 @@
 use std::collections::BTreeMap;
 
 use crate::ceiling;
-use crate::damage::{BYTE_DAMAGE, CUT_DAMAGE, FACES_DAMAGE, FIELD_DAMAGE, TABLE_DAMAGE};
+use crate::damage::{BYTE_DAMAGE, CUT_DAMAGE, FACES_DAMAGE, FIELD_DAMAGE, START_DAMAGE, TABLE_DAMAGE};
 use crate::exports::Call;
 use crate::lending::{DESK_CALLS, DESK_STARTS, LENGTH_KINDS};
 use crate::model::{
     ordered_inside, Cut, Location, Plant, Switch, LEVEL, MAX_FORBIDDEN, MAX_LOCATIONS, MAX_SWITCHES, RATE,
 };
 use crate::simulate::Travelled;
+use crate::starts::{start_kinds, START_KINDS};
 
 /// The numbers that each call can give: refusals, then answers.
 pub const DECIDE_NUMBERS: [u32; 21] = [1, 2, 3, 4, 6, 7, 8, 11, 12, 13, 14, 15, 16, 17, 18, 19, 46, 39, 100, 101, 102];
@@ -24,8 +25,8 @@ pub const MODEL_KINDS: [&str; 23] = [
     "a switch with a mask",
     "a switch that never lands",
     "a switch to its own location",
-    "no start",
-    "several starts",
+    "no start flag",
+    "several start parts",
     "no switch",
     "no forbidden box",
     "64 locations",
@@ -40,7 +41,7 @@ pub const MODEL_KINDS: [&str; 23] = [
     "a switch from the cut variable's own wall",
     "a switch from a face in two pieces",
     "a switch onto a face in two pieces",
-    "a start box on both sides of its location's cut",
+    "a start part on both sides of its location's cut",
 ];
 
 pub const LIMIT_KINDS: [&str; 5] = ["0", "1 to 3", "4 to the ceiling", "above the ceiling", "4,294,967,295"];
@@ -59,7 +60,7 @@ pub const WORDS_DAMAGE: [&str; 5] = [
 ];
 
 /// Extremes, and how often each must come up under the full counts.
-pub const EXTREMES: [(&str, u64); 14] = [
+pub const EXTREMES: [(&str, u64); 17] = [
     ("rates of -1,000 and 1,000 in one location", 300),
     ("a variable from -1,000,000 to 1,000,000", 300),
     ("such rates and such a variable in one location", 300),
@@ -71,10 +72,16 @@ pub const EXTREMES: [(&str, u64); 14] = [
     ("qii_desk of more than 1,500 passes", 50),
     ("64 locations cut", 50),
     ("safe by its cuts, unknown without them", 150),
+    ("safe by its start parts, unknown with whole start boxes", 500),
+    ("another table with whole start boxes", 500),
+    ("safe 0 with start boxes behind walls alone", 200),
     ("a face with its first piece alone", 1_000),
     ("a face with its second piece alone", 1_000),
     ("a face with both its pieces", 1_000),
 ];
+
+/// How often each kind of start box must come up under the full counts.
+const EACH_START: u64 = 300;
 
 /// Counts by kind.
 pub type Tally = BTreeMap<String, u64>;
@@ -89,6 +96,10 @@ pub struct Counts {
     pub by_n: [u64; 7],
     pub cut_by_n: [u64; 7],
     pub model_kinds: Tally,
+    /// Models by how their start boxes lie.
+    pub start_kinds: Tally,
+    /// Models that were also compared with their start boxes trimmed.
+    pub trimmed: u64,
     pub limits: Tally,
     pub damage: Tally,
     /// Calls by the number that decide or check gave.
@@ -125,6 +136,9 @@ impl Counts {
         self.cut_by_n[plant.sizes.n] += plant.any_cut() as u64;
         for kind in model_kinds(plant) {
             note(&mut self.model_kinds, kind);
+        }
+        for kind in start_kinds(plant) {
+            note(&mut self.start_kinds, kind);
         }
         self.note_extremes(plant);
         note(&mut self.limits, limit_kind(plant, limit));
@@ -168,11 +182,13 @@ impl Counts {
         self.extreme("a face with both its pieces", seen[2]);
     }
 
-    /// Extremes that did not come up as often as they must under the full counts.
+    /// Extremes and kinds of start boxes that did not come up as often as they must under the full counts.
     pub fn too_seldom(&self) -> Vec<String> {
-        let count = |kind: &str| self.extremes.get(kind).copied().unwrap_or(0);
-        let seldom = EXTREMES.iter().filter(|(kind, least)| count(kind) < *least);
-        seldom.map(|(kind, least)| format!("{kind} ({} of {least} times)", count(kind))).collect()
+        let extremes = EXTREMES.map(|(kind, least)| (kind, least, self.extremes.get(kind)));
+        let starts = START_KINDS.map(|kind| (kind, EACH_START, self.start_kinds.get(kind)));
+        let counted = extremes.into_iter().chain(starts).map(|(kind, least, count)| (kind, least, count.unwrap_or(&0)));
+        let seldom = counted.filter(|(_, least, count)| *count < least);
+        seldom.map(|(kind, least, count)| format!("{kind} ({count} of {least} times)")).collect()
     }
 
     /// Numbers that a call can give and never gave.
@@ -202,6 +218,10 @@ impl Counts {
         (1..=6).for_each(|n| expect(&format!("n {n}"), self.by_n[n] > 0));
         (1..=6).for_each(|n| expect(&format!("n {n} with a cut"), self.cut_by_n[n] > 0));
         MODEL_KINDS.iter().for_each(|kind| expect(kind, self.model_kinds.contains_key(*kind)));
+        START_KINDS
+            .iter()
+            .for_each(|kind| expect(&format!("a start box: {kind}"), self.start_kinds.contains_key(*kind)));
+        expect("a model with its start boxes trimmed", self.trimmed > 0);
         LIMIT_KINDS.iter().for_each(|kind| expect(&format!("limit {kind}"), self.limits.contains_key(*kind)));
         all_damage().iter().for_each(|kind| expect(kind, self.damage.contains_key(kind)));
         expect("a safe answer's table accepted", self.accepted > 0);
@@ -218,7 +238,9 @@ pub fn all_damage() -> Vec<String> {
     let table = BYTE_DAMAGE.iter().chain(FACES_DAMAGE).chain(&FIELD_DAMAGE).map(|kind| format!("table: {kind}"));
     let model_words = WORDS_DAMAGE.iter().map(|kind| format!("model words: {kind}"));
     let table_words = TABLE_DAMAGE.iter().map(|kind| format!("table words: {kind}"));
-    model.chain(table).chain(model_words).chain(table_words).collect()
+    let starts =
+        START_DAMAGE.iter().flat_map(|(kind, _)| ["model", "model words"].map(|what| format!("{what}: {kind}")));
+    model.chain(table).chain(model_words).chain(table_words).chain(starts).collect()
 }
 
 /// The kinds of lengths that must come up, of every slice of every call.
@@ -253,14 +275,15 @@ fn model_kinds(plant: &Plant) -> Vec<&'static str> {
     let locations = || (0..sizes.locations).map(|l| plant.location(l));
     let switches = || (0..sizes.switches).map(|s| plant.switch(s));
     let invariant = |l: usize| plant.location(l).invariant;
-    let starts = locations().filter(|l| l.started).count();
+    let starts = locations().filter(|l| l.start_part().is_some()).count();
     let cuts = locations().filter(|l| l.cut.is_some()).count();
     let cut_at = |side: usize, by: i32| {
         locations().any(|l| l.cut.is_some_and(|cut| cut.value == l.invariant[2 * cut.variable + side] + by))
     };
     let starts_on_both_sides = |l: Location| {
-        let range = |cut: Cut| &l.start[2 * cut.variable..][..2];
-        l.started && l.cut.is_some_and(|cut| range(cut)[0] < cut.value && cut.value < range(cut)[1])
+        let both =
+            |part: &[i32], cut: Cut| part[2 * cut.variable] < cut.value && cut.value < part[2 * cut.variable + 1];
+        l.start_part().is_some_and(|part| l.cut.is_some_and(|cut| both(&part, cut)))
     };
     let on_own_wall = |s: &Switch| plant.cut(s.source).is_some_and(|cut| cut.variable == s.d);
     let never_lands = |s: &Switch| {
@@ -274,7 +297,7 @@ fn model_kinds(plant: &Plant) -> Vec<&'static str> {
         switches().any(|s| s.mask != 0),
         switches().any(|s| never_lands(&s)),
         switches().any(|s| s.source == s.target),
-        starts == 0,
+        !locations().any(|l| l.started),
         starts > 1,
         sizes.switches == 0,
         sizes.forbidden == 0,

@@ -2,8 +2,9 @@
 
 use crate::files::{field, file_of_words, CUT, FACE, FORBIDDEN, HEAD, LOCATION, SWITCH, TABLE_HEAD};
 use crate::generate::{put_random_piece, random_range};
-use crate::model::{Piece, Plant, LEVEL, RATE};
+use crate::model::{Location, Piece, Plant, LEVEL, RATE};
 use crate::random::Random;
+use crate::Refusal;
 
 // ---------------------------------------------------------------- damage to tables
 
@@ -174,10 +175,6 @@ pub fn model_edit(random: &mut Random, plant: &Plant) -> Vec<(usize, i32)> {
     let n = sizes.n;
     let words = plant.words();
     let i = random.below(n);
-    let out = |random: &mut Random, edge: i32| {
-        let sign = random.pick(&[1, -1]);
-        sign * (edge + random.pick(&[0, 1, 1, 1, 1000]))
-    };
     let kinds: &[usize] = match (sizes.switches > 0, sizes.forbidden > 0) {
         (true, true) => &[0, 1, 1, 2, 2, 3, 4, 5],
         (true, false) => &[0, 1, 1, 2, 2, 2, 4, 5],
@@ -191,22 +188,7 @@ pub fn model_edit(random: &mut Random, plant: &Plant) -> Vec<(usize, i32)> {
             2 => vec![(2, random.pick(&[129, -1, 128, 0, i32::MAX, i32::MIN]))],
             _ => vec![(3, random.pick(&[65, -1, 64, 0, i32::MAX, i32::MIN]))],
         },
-        1 => {
-            let at = sizes.location_at(random.below(sizes.locations));
-            let (inv, rate) = (at + 2 * i, at + 2 * n + 2 * i);
-            let flag = at + 4 * n;
-            let start = flag + 1 + 2 * i;
-            match random.below(8) {
-                0 => vec![(inv, words[inv + 1].saturating_add(1))],
-                1 => vec![(inv + random.below(2), out(random, LEVEL))],
-                2 => vec![(rate, words[rate + 1].saturating_add(1))],
-                3 => vec![(rate + random.below(2), out(random, RATE))],
-                4 => vec![(flag, random.pick(&[2, -1, 1, 0, i32::MIN]))],
-                5 => vec![(start, words[inv].saturating_sub(1))],
-                6 => vec![(start + 1, words[inv + 1].saturating_add(1))],
-                _ => vec![(start, words[start + 1].saturating_add(1))],
-            }
-        }
+        1 => vec![location_edit(random, plant, i)],
         2 => {
             let s = random.below(sizes.switches);
             let at = sizes.switch_at(s);
@@ -279,6 +261,33 @@ pub fn model_edit(random: &mut Random, plant: &Plant) -> Vec<(usize, i32)> {
     }
 }
 
+/// A word at the edge of a range, or past it.
+fn out(random: &mut Random, edge: i32) -> i32 {
+    let sign = random.pick(&[1, -1]);
+    sign * (edge + random.pick(&[0, 1, 1, 1, 1000]))
+}
+
+/// One change to variable i of a location, or to its start flag. A start box that sticks out of the
+/// invariant is none that is refused.
+fn location_edit(random: &mut Random, plant: &Plant, i: usize) -> (usize, i32) {
+    let (sizes, words) = (plant.sizes, plant.words());
+    let at = sizes.location_at(random.below(sizes.locations));
+    let (inv, rate) = (at + 2 * i, at + 2 * sizes.n + 2 * i);
+    let flag = at + 4 * sizes.n;
+    let start = flag + 1 + 2 * i;
+    match random.below(10) {
+        0 => (inv, words[inv + 1].saturating_add(1)),
+        1 => (inv + random.below(2), out(random, LEVEL)),
+        2 => (rate, words[rate + 1].saturating_add(1)),
+        3 => (rate + random.below(2), out(random, RATE)),
+        4 => (flag, random.pick(&[2, -1, 1, 0, i32::MIN])),
+        5 => (start, words[inv].saturating_sub(1)),
+        6 => (start + 1, words[inv + 1].saturating_add(1)),
+        7 => (start, words[start + 1].saturating_add(1)),
+        _ => (start + random.below(2), out(random, LEVEL)),
+    }
+}
+
 /// The model's words with one or two changes of `model_edit`.
 pub fn edited_words(random: &mut Random, plant: &Plant) -> Vec<i32> {
     let mut words = plant.words().to_vec();
@@ -294,6 +303,76 @@ pub fn edited_words(random: &mut Random, plant: &Plant) -> Vec<i32> {
 /// The model file with such changes; its fields stay those of the model, but for those of the cuts.
 pub fn edited_model_file(random: &mut Random, plant: &Plant) -> Vec<u8> {
     file_of_words(&plant.sizes, &edited_words(random, plant))
+}
+
+/// The kinds of change to a start box that `damaged_starts` makes, with the number that the model then gets:
+/// none if it still passes its questions (document 02, T-02).
+pub const START_DAMAGE: [(&str, Option<Refusal>); 14] = [
+    ("a start box out of order", Some(13)),
+    ("a start box behind the wall, out of order", Some(13)),
+    ("a start box from below -1,000,000", Some(13)),
+    ("a start box to above 1,000,000", Some(13)),
+    ("a start flag that is neither 0 nor 1", Some(13)),
+    ("flag 0 and a start box that is not zeros", Some(13)),
+    ("a bad start box, and a bad invariant in the next location", Some(13)),
+    ("a bad start box, and a bad invariant", Some(11)),
+    ("a bad start box, and bad rates", Some(12)),
+    ("a start box that sticks out by one", None),
+    ("a start box that only meets the wall", None),
+    ("a start box behind the wall", None),
+    ("a start box of all levels", None),
+    ("flag 1 and a start box of zeros", None),
+];
+
+/// The model's words with one change to a start box; one is put in where there is none. Gives its place in
+/// `START_DAMAGE` too.
+pub fn damaged_starts(random: &mut Random, plant: &Plant) -> (Vec<i32>, usize) {
+    let sizes = plant.sizes;
+    let l = random.below(sizes.locations);
+    let mut kind = random.below(START_DAMAGE.len());
+    if kind == 6 && l + 1 == sizes.locations {
+        kind = 0;
+    }
+    let mut words = plant.words().to_vec();
+    let (flag, start) = changed_start(random, &plant.location(l), kind);
+    let (invariant, rates) = (sizes.location_at(l), sizes.location_at(l) + 2 * sizes.n);
+    words[rates + 2 * sizes.n] = flag;
+    words[rates + 2 * sizes.n + 1..sizes.location_at(l + 1)].copy_from_slice(&start);
+    match kind {
+        6 => words[sizes.location_at(l + 1)] = LEVEL + 1,
+        7 => words[invariant] = LEVEL + 1,
+        8 => words[rates] = RATE + 1,
+        _ => {}
+    }
+    (words, kind)
+}
+
+/// Start flag and start box of a location after that kind of change, in one of its variables or in all.
+fn changed_start(random: &mut Random, location: &Location, kind: usize) -> (i32, Vec<i32>) {
+    let mut start = if location.started { location.start } else { location.invariant }.to_vec();
+    let i = random.below(start.len() / 2);
+    let face = 2 * i + random.below(2);
+    let (wall, outward) = (location.invariant[face], [-1, 1][face % 2]);
+    let behind = (wall + outward * random.pick(&[1, 1, 2, 5])).clamp(-LEVEL, LEVEL);
+    let mut flag = 1;
+    match kind {
+        0 | 6..=8 => start[2 * i] = start[2 * i + 1] + 1,
+        1 => start[2 * i..2 * i + 2].copy_from_slice(&[behind + 1, behind]),
+        2 => start[2 * i] = random.pick(&[-LEVEL - 1, -LEVEL - 1, -LEVEL - 1_000, i32::MIN]),
+        3 => start[2 * i + 1] = random.pick(&[LEVEL + 1, LEVEL + 1, LEVEL + 1_000, i32::MAX]),
+        4 => flag = random.pick(&[2, -1, i32::MIN, i32::MAX]),
+        5 => {
+            flag = 0;
+            start.fill(0);
+            start[face] = random.pick(&[1, -1, LEVEL, i32::MIN]);
+        }
+        9 => start[face] = (wall + outward).clamp(-LEVEL, LEVEL),
+        10 => start[2 * i..2 * i + 2].copy_from_slice(&[wall.min(behind), wall.max(behind)]),
+        11 => start[2 * i..2 * i + 2].fill(behind),
+        12 => start.chunks_exact_mut(2).for_each(|range| range.copy_from_slice(&[-LEVEL, LEVEL])),
+        _ => start.fill(0),
+    }
+    (flag, start)
 }
 
 /// The kinds of change to the cuts of a model file that `damaged_cuts` makes.

@@ -22,6 +22,23 @@ pub fn plant_p_unknown() -> Draft {
     Draft { forbidden: vec![(0, vec![5, 5, 9, 10])], ..plant_p() }
 }
 
+/// P from another start box (document 02, T-02).
+pub fn plant_p_from(start: [i32; 4]) -> Draft {
+    let mut draft = plant_p();
+    draft.locations[0].start = Some(start.to_vec());
+    draft
+}
+
+/// P with y falling by 1 to 2, from x 0, y 11..15, and y 8..9 forbidden. Under a wall at y = 10 that start box
+/// lies behind the wall, and there is no start; under one at 15 the forbidden box is touched.
+pub fn plant_p_behind(wall: i32) -> Draft {
+    let mut draft = plant_p_from([0, 0, 11, 15]);
+    draft.locations[0].invariant[3] = wall;
+    draft.locations[0].rates = vec![1, 1, -2, -1];
+    draft.forbidden = vec![(0, vec![0, 10, 8, 9])];
+    draft
+}
+
 /// P's answer's table.
 pub fn plant_p_table() -> Vec<i32> {
     vec![1, 0, 0, 2, 5, 0, 0, 0, 0, 0, 0, 0, 0, 0, 0, 1, 2, 8, 10, 10]
@@ -281,6 +298,38 @@ pub fn water_level(lag: i32) -> Draft {
 /// at clock 10, and location 2, where the pump is off, at level 100.
 pub fn water_level_cut() -> Draft {
     Draft { cuts: vec![(1, 1, 10), (2, 0, 100)], ..water_level(20) }
+}
+
+/// A heated vat. Variable 0 is the level, 0 to the rim; variable 1 the heat, 0..300. In location 0 the vat is
+/// emptied and heated: the level falls by 1 to 2, the heat rises by 1 to 2. Empty, it is filled in location 1
+/// with fresh water, of heat 20, up to the rim, and emptied again. The drawing's start box is level 80..130,
+/// heat 20..25. Forbidden while it is heated: heat from 230 up.
+///
+/// With the rim at 100 the vat is empty after 100 at most, with a heat of 225 at most. From a level of 130 it
+/// would be after 130, with 285: with the rim there the answer is unknown.
+pub fn heated_vat(rim: i32) -> Draft {
+    let location = |rates: [i32; 4], start: Option<Vec<i32>>| LocationDraft {
+        invariant: vec![0, rim, 0, 300],
+        rates: rates.to_vec(),
+        start,
+    };
+    let switch = |source: usize, level: i32, mask: u32, heat: [i32; 2]| SwitchDraft {
+        source,
+        target: 1 - source,
+        d: 0,
+        source_side: source,
+        target_side: source,
+        mask,
+        guard: vec![level, level, 0, 300],
+        reset: vec![level, level, heat[0], heat[1]],
+    };
+    Draft {
+        n: 2,
+        locations: vec![location([-2, -1, 1, 2], Some(vec![80, 130, 20, 25])), location([4, 5, 0, 0], None)],
+        switches: vec![switch(0, 0, 0b10, [20, 20]), switch(1, rim, 0, [0, 300])],
+        forbidden: vec![(0, vec![0, rim, 230, 300])],
+        cuts: vec![],
+    }
 }
 
 /// A vat that is filled by one dose a stroke, up to 5,000: the stroke x runs from 0 to 1 and

@@ -9,6 +9,7 @@ use crate::delays::touches;
 use crate::draft::{grid, Draft, LocationDraft, SwitchDraft};
 use crate::model::{Piece, Plant, LEVEL, MAX_FORBIDDEN, MAX_LOCATIONS, MAX_SWITCHES, RATE};
 use crate::random::Random;
+use crate::starts::{table_of_whole_boxes, whole_box_touches};
 use crate::tables::pass;
 
 // ---------------------------------------------------------------- models
@@ -22,8 +23,10 @@ pub fn random_model(random: &mut Random) -> Draft {
     draft
 }
 
-/// Passes that are made at most to find out whether a random model's cuts help it.
+/// Passes that are made at most to find out whether a random model's cuts or start parts help it.
 const HELP_PASSES: u32 = 60;
+/// Locations that such a model has at most.
+const MOST_HELPED: usize = 12;
 
 /// A random model with cuts and one forbidden box: one that a part would touch without the cuts and none
 /// touches with them, if such a box is found soon.
@@ -31,7 +34,7 @@ pub fn helped_model(random: &mut Random) -> Draft {
     let mut draft = Draft::default();
     for _ in 0..20 {
         draft = if random.chance(1, 3) { random_grid(random) } else { random_free(random) };
-        random_starts(random, &mut draft);
+        place_starts(random, &mut draft, (1, 4));
         cut_locations(random, &mut draft, 1, 1);
         if let Some(found) = helped_box(random, &draft) {
             draft.forbidden = vec![found];
@@ -42,9 +45,44 @@ pub fn helped_model(random: &mut Random) -> Draft {
     draft
 }
 
+/// A random model with start boxes that cross walls and one forbidden box: one that would be touched if start
+/// boxes were taken whole and is not touched as it is, if such a box is found soon.
+pub fn crossing_model(random: &mut Random) -> Draft {
+    let mut draft = Draft::default();
+    for _ in 0..20 {
+        draft = if random.chance(1, 3) { random_grid(random) } else { random_free(random) };
+        place_starts(random, &mut draft, (1, 1));
+        random_cuts(random, &mut draft);
+        if let Some(found) = box_beyond_starts(random, &draft) {
+            draft.forbidden = vec![found];
+            return draft;
+        }
+    }
+    random_forbidden(random, &mut draft);
+    draft
+}
+
+/// Location and box that no part touches, though one would if start boxes were taken whole.
+fn box_beyond_starts(random: &mut Random, draft: &Draft) -> Option<(usize, Vec<i32>)> {
+    if draft.locations.len() > MOST_HELPED {
+        return None;
+    }
+    let words = draft.words();
+    let plant = Plant::from_words(&words).expect("a random model passes its questions");
+    let mut table = vec![0; plant.table_words()];
+    let (whole, at_rest) = table_of_whole_boxes(&plant, HELP_PASSES);
+    if !at_rest || !close(&plant, &mut table, HELP_PASSES) {
+        return None;
+    }
+    find_box(random, draft, |l, bounds| {
+        let by_whole = whole_box_touches(&plant, l, bounds) || touched_in(&plant, &whole, l, bounds);
+        by_whole && !touched_in(&plant, &table, l, bounds)
+    })
+}
+
 /// Location and box that the cuts keep from being touched.
 fn helped_box(random: &mut Random, draft: &Draft) -> Option<(usize, Vec<i32>)> {
-    if draft.cuts.is_empty() || draft.locations.len() > 12 {
+    if draft.cuts.is_empty() || draft.locations.len() > MOST_HELPED {
         return None;
     }
     let words = draft.words();
@@ -55,6 +93,13 @@ fn helped_box(random: &mut Random, draft: &Draft) -> Option<(usize, Vec<i32>)> {
     if !close(&plant, &mut table, HELP_PASSES) || !close(&whole, &mut whole_table, HELP_PASSES) {
         return None;
     }
+    find_box(random, draft, |l, bounds| {
+        !touched_in(&plant, &table, l, bounds) && touched_in(&whole, &whole_table, l, bounds)
+    })
+}
+
+/// A random location and box in its invariant that is as wanted, if one is found soon.
+fn find_box(random: &mut Random, draft: &Draft, wanted: impl Fn(usize, &[i32]) -> bool) -> Option<(usize, Vec<i32>)> {
     (0..40).find_map(|_| {
         let l = random.below(draft.locations.len());
         let bounds: Vec<i32> = draft.locations[l]
@@ -62,7 +107,7 @@ fn helped_box(random: &mut Random, draft: &Draft) -> Option<(usize, Vec<i32>)> {
             .chunks_exact(2)
             .flat_map(|r| if random.chance(1, 4) { [r[0], r[1]] } else { random_range(random, r[0], r[1]) })
             .collect();
-        (!touched_in(&plant, &table, l, &bounds) && touched_in(&whole, &whole_table, l, &bounds)).then_some((l, bounds))
+        wanted(l, &bounds).then_some((l, bounds))
     })
 }
 
@@ -71,7 +116,7 @@ fn touched_in(plant: &Plant, table: &[i32], l: usize, bounds: &[i32]) -> bool {
     let location = plant.location(l);
     let hit = |part: &[i32]| touches(plant.sizes.n, part, location.rates, location.invariant, bounds);
     let mut pieces = table[plant.location_places(l)].chunks_exact(plant.sizes.face_words());
-    (location.started && hit(location.start)) || pieces.any(|words| words[0] == 1 && hit(&words[1..]))
+    location.start_part().is_some_and(|start| hit(&start)) || pieces.any(|words| words[0] == 1 && hit(&words[1..]))
 }
 
 /// A random model whose levels and rates lie at both ends of what is allowed, or beside them.
@@ -124,12 +169,13 @@ pub fn long_model(random: &mut Random) -> Draft {
     let high = low + dose * random.range(800, 2_000) as i32;
     let falls = random.chance(1, 2);
     let (first, rates) = if falls { (high, [-flow, 0]) } else { (low, [0, flow]) };
+    let start = long_start(random, first, falls);
     let mut draft = Draft { n: 2, ..Draft::default() };
     for l in 0..locations {
         draft.locations.push(LocationDraft {
             invariant: vec![0, stroke, low, high],
             rates: vec![rate, rate, rates[0], rates[1]],
-            start: (l == 0).then(|| vec![0, 0, first, first]),
+            start: (l == 0).then(|| start.clone()),
         });
         draft.switches.push(SwitchDraft {
             source: l,
@@ -151,6 +197,18 @@ pub fn long_model(random: &mut Random) -> Draft {
     }
     random_cuts(random, &mut draft);
     draft
+}
+
+/// The start of such a plant: stroke 0 and the first level. Now and then the box has more behind the walls that
+/// these are, which changes nothing.
+fn long_start(random: &mut Random, first: i32, falls: bool) -> Vec<i32> {
+    let mut start = vec![0, 0, first, first];
+    if random.chance(1, 3) {
+        start[0] -= random.range(0, 3) as i32;
+        let by = random.range(0, 50) as i32;
+        start[2 + falls as usize] += if falls { by } else { -by };
+    }
+    start
 }
 
 fn random_n(random: &mut Random) -> usize {
@@ -323,32 +381,80 @@ fn random_switch(random: &mut Random, draft: &Draft) -> SwitchDraft {
     SwitchDraft { source, target, d, source_side, target_side, mask, guard, reset }
 }
 
+/// Start boxes in one location and in some of the others, or in none. In half of the models all of them lie
+/// inside their invariants; in the others some or all of them cross a wall.
 fn random_starts(random: &mut Random, draft: &mut Draft) {
-    let none = random.chance(1, 20);
-    let count = draft.locations.len();
-    let sure = random.below(count);
+    if random.chance(1, 20) {
+        return;
+    }
+    let crossing = random.pick(&[(0, 1), (0, 1), (1, 2), (1, 1)]);
+    place_starts(random, draft, crossing);
+}
+
+/// Start boxes, of which that part crosses a wall.
+fn place_starts(random: &mut Random, draft: &mut Draft, (part, whole): (u64, u64)) {
+    let sure = random.below(draft.locations.len());
     for (l, location) in draft.locations.iter_mut().enumerate() {
-        if none || (l != sure && !random.chance(1, 8)) {
+        if l != sure && !random.chance(1, 8) {
             continue;
         }
-        let mut start = Vec::new();
-        for r in location.invariant.chunks_exact(2) {
-            let range = match random.below(4) {
-                0 => [r[0], r[0]],
-                1 => {
-                    let x = random.range(r[0] as i64, r[1] as i64) as i32;
-                    [x, x]
-                }
-                _ => {
-                    // Short: at most 3 wide, so that there is something left to grow.
-                    let low = random.range(r[0] as i64, r[1] as i64) as i32;
-                    [low, (low + random.range(0, 3) as i32).min(r[1])]
-                }
-            };
-            start.extend(range);
+        let mut start: Vec<i32> =
+            location.invariant.chunks_exact(2).flat_map(|r| start_range(random, r[0], r[1])).collect();
+        if random.chance(part, whole) {
+            cross_walls(random, &location.invariant, &mut start);
         }
         location.start = Some(start);
     }
+}
+
+/// A range within low..high: its low end, any level, at most 3 wide, so that there is something left to grow, or
+/// now and then as wide as it happens.
+fn start_range(random: &mut Random, low: i32, high: i32) -> [i32; 2] {
+    let from = random.range(low as i64, high as i64) as i32;
+    match random.below(8) {
+        0 | 1 => [low, low],
+        2 | 3 => [from, from],
+        4..=6 => [from, (from + random.range(0, 3) as i32).min(high)],
+        _ => random_range(random, low, high),
+    }
+}
+
+/// Moves a start box across walls of its invariant: out on one side of a variable, on both, on both of every
+/// variable, onto the wall alone, behind it, or behind walls of several variables. Where an end of the
+/// invariant is the last level, the box stays inside there.
+fn cross_walls(random: &mut Random, invariant: &[i32], start: &mut [i32]) {
+    let n = invariant.len() / 2;
+    let (i, side) = (random.below(n), random.below(2));
+    match random.below(10) {
+        0..=3 => start[2 * i + side] = beyond(random, invariant, 2 * i + side),
+        4 => (2 * i..2 * i + 2).for_each(|end| start[end] = beyond(random, invariant, end)),
+        5 => (0..2 * n).for_each(|end| start[end] = beyond(random, invariant, end)),
+        6 | 7 => {
+            start[2 * i + 1 - side] = invariant[2 * i + side];
+            start[2 * i + side] = beyond(random, invariant, 2 * i + side);
+        }
+        8 => place_behind(random, invariant, start, i),
+        _ => {
+            for other in 0..n {
+                if other == i || random.chance(1, 2) {
+                    place_behind(random, invariant, start, other);
+                }
+            }
+        }
+    }
+}
+
+/// A level behind a wall, mostly near it, now and then the last one. The wall itself where there is none.
+fn beyond(random: &mut Random, invariant: &[i32], face: usize) -> i32 {
+    let by = if random.chance(1, 8) { 2 * LEVEL } else { random.range(1, 6) as i32 };
+    (invariant[face] + [-by, by][face % 2]).clamp(-LEVEL, LEVEL)
+}
+
+/// Moves variable i of a start box behind one of its walls.
+fn place_behind(random: &mut Random, invariant: &[i32], start: &mut [i32], i: usize) {
+    let face = 2 * i + random.below(2);
+    let (x, y) = (beyond(random, invariant, face), beyond(random, invariant, face));
+    start[2 * i..2 * i + 2].copy_from_slice(&[x.min(y), x.max(y)]);
 }
 
 fn random_forbidden(random: &mut Random, draft: &mut Draft) {
@@ -413,6 +519,11 @@ fn random_cut(random: &mut Random, draft: &Draft, l: usize) -> Option<(usize, us
     if wide.is_empty() {
         return None;
     }
+    if random.chance(1, 4) {
+        if let Some((i, value)) = cut_of_start(random, &draft.locations[l]) {
+            return Some((l, i, value));
+        }
+    }
     let i = random.pick(&wide);
     let (least, most) = (invariant[2 * i] + 1, invariant[2 * i + 1] - 1);
     let value = match random.below(8) {
@@ -423,6 +534,16 @@ fn random_cut(random: &mut Random, draft: &Draft, l: usize) -> Option<(usize, us
         _ => random.range(least as i64, most as i64) as i32,
     };
     Some((l, i, value))
+}
+
+/// Variable and value of a cut with something of the location's start part on both sides, if one is found
+/// soon.
+fn cut_of_start(random: &mut Random, location: &LocationDraft) -> Option<(usize, i32)> {
+    let start = location.start.as_ref()?;
+    let i = random.below(start.len() / 2);
+    let low = start[2 * i].max(location.invariant[2 * i]);
+    let high = start[2 * i + 1].min(location.invariant[2 * i + 1]);
+    (low < high - 1).then(|| (i, random.range(low as i64 + 1, high as i64 - 1) as i32))
 }
 
 /// An end of variable i in the location's start box or in a forbidden box of it, or beside it.

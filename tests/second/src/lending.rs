@@ -5,7 +5,7 @@ use std::cmp::Ordering;
 
 use crate::compare::{hex, Comparison, Difference};
 use crate::coverage::note;
-use crate::damage::{damage_table, edited_words};
+use crate::damage::{damage_table, damaged_starts, edited_words, START_DAMAGE};
 use crate::desk::Desk;
 use crate::exports::{answer, Call, Input, Lent, Slice};
 use crate::files::{model_file, table_file};
@@ -403,7 +403,7 @@ impl Comparison {
     /// Model words, edited, shortened or thrown together.
     fn damaged_words(&mut self, plant: &Plant) -> Vec<i32> {
         let random = &mut self.random;
-        let (words, kind) = match random.below(12) {
+        let (words, kind) = match random.below(14) {
             0 => {
                 let length = random.below(plant.words().len());
                 (of_length(random, plant.words(), length), "ends anywhere")
@@ -418,6 +418,10 @@ impl Comparison {
                 let mut words = edited_words(random, plant);
                 words.extend(vec![1; more]);
                 (words, "edited, and words behind it")
+            }
+            4 | 5 => {
+                let (words, kind) = damaged_starts(random, plant);
+                (words, START_DAMAGE[kind].0)
             }
             _ => (edited_words(random, plant), "words at the edge of a question"),
         };

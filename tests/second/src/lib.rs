@@ -3,7 +3,7 @@
 //! Written from documents 01 and 02 and their readings alone, to be compared with the
 //! program under test. It uses the standard library only.
 //!
-//! * `model`     – sizes and places, model words, questions 2 to 5, 11 to 19 and 46; pieces of faces
+//! * `model`     – sizes and places, model words, questions 2 to 5, 11 to 19 and 46; start parts, pieces of faces
 //! * `fraction`  – exact fractions
 //! * `delays`    – delays to a wall; touching by one delay for all variables
 //! * `steps`     – wall step, switch step, join
@@ -14,10 +14,12 @@
 //! * `plain`     – a slow, literal pass and touching, to check the quick ones
 //! * `simulate`  – random runs, from the section "Runs" alone
 //! * `generate`  – random models and tables, `damage` damaged inputs; `random` is their number source
+//! * `starts`    – start boxes that cross the wall: their kinds, trimmed to their start parts, taken whole
 //! * `examples`  – document 01's plant P, source 000's examples and more; `samples` names those in `models`
 //! * `exports`   – the C calls beside decide and check: number, value, lent memory
 //! * `compare`   – compares two implementations of the C calls, `lending` those of `exports`;
-//!   `fixed`, `fixed_calls` and `fixed_cuts` have the fixed cases, `coverage` counts what came up
+//!   `trimming` a model and the same one with its start boxes trimmed; `fixed`, `fixed_calls`, `fixed_starts`
+//!   and `fixed_cuts` have the fixed cases, `coverage` counts what came up
 //! * `host_ffi`  – the C calls of libhost.a (feature `host`), or a stand-in
 
 pub mod analysis;
@@ -36,6 +38,7 @@ pub mod files;
 pub mod fixed;
 pub mod fixed_calls;
 pub mod fixed_cuts;
+pub mod fixed_starts;
 pub mod fraction;
 pub mod generate;
 pub mod host;
@@ -47,8 +50,10 @@ pub mod plain;
 pub mod random;
 pub mod samples;
 pub mod simulate;
+pub mod starts;
 pub mod steps;
 pub mod tables;
+pub mod trimming;
 
 /// A refusal: the number of the first question that was answered no.
 pub type Refusal = u32;

@@ -115,8 +115,31 @@ pub struct Location<'a> {
     pub invariant: &'a [i32],
     pub rates: &'a [i32],
     pub started: bool,
+    /// The start box, which may stick out of the invariant: what is used of it is `start_part`.
     pub start: &'a [i32],
     pub cut: Option<Cut>,
+}
+
+impl Location<'_> {
+    /// The start part (document 02, T-02): the start box cut to the invariant. None under flag 0 and where
+    /// the cut is empty.
+    #[inline]
+    pub fn start_part(&self) -> Option<[i32; MAX_BOX]> {
+        if !self.started {
+            return None;
+        }
+        let mut part = [0; MAX_BOX];
+        for i in 0..self.invariant.len() / 2 {
+            let low = self.start[2 * i].max(self.invariant[2 * i]);
+            let high = self.start[2 * i + 1].min(self.invariant[2 * i + 1]);
+            if low > high {
+                return None;
+            }
+            part[2 * i] = low;
+            part[2 * i + 1] = high;
+        }
+        Some(part)
+    }
 }
 
 #[derive(Clone, Copy, Debug)]
@@ -328,7 +351,7 @@ pub fn ask_records(sizes: &Sizes, words: &[i32]) -> Result<(), Refusal> {
         }
         let start_stands = match flag {
             0 => start.iter().all(|&w| w == 0),
-            1 => ordered_inside(start, invariant),
+            1 => ordered_in_range(start, -LEVEL, LEVEL),
             _ => false,
         };
         if !start_stands {

@@ -14,7 +14,7 @@ pub type Faces = Vec<Vec<Option<Ranges>>>;
 /// num/den with den > 0.
 type Ratio = (i128, i128);
 
-fn ranges(bounds: &[i32]) -> Ranges {
+pub fn ranges(bounds: &[i32]) -> Ranges {
     bounds.chunks_exact(2).map(|r| (r[0] as i64, r[1] as i64)).collect()
 }
 
@@ -142,27 +142,28 @@ pub fn wall_step(part: &Ranges, rates: &Ranges, invariant: &Ranges, d: usize, b:
 }
 
 /// The smallest box holding both.
-fn hull(held: &Option<Ranges>, new: &Ranges) -> Option<Ranges> {
+pub fn hull(held: &Option<Ranges>, new: &Ranges) -> Option<Ranges> {
     Some(match held {
         None => new.clone(),
         Some(held) => held.iter().zip(new).map(|(x, y)| (x.0.min(y.0), x.1.max(y.1))).collect(),
     })
 }
 
-fn cut(x: &Ranges, y: &Ranges) -> Option<Ranges> {
+/// What lies in both; None if nothing does.
+pub fn cut(x: &Ranges, y: &Ranges) -> Option<Ranges> {
     let both: Ranges = x.iter().zip(y).map(|(x, y)| (x.0.max(y.0), x.1.min(y.1))).collect();
     both.iter().all(|r| r.0 <= r.1).then_some(both)
 }
 
-/// The parts of location l: the start box under flag 1 and the present pieces.
-pub fn parts(plant: &Plant, faces: &Faces, l: usize) -> Vec<Ranges> {
+/// What of a location's start box lies in its invariant, under flag 1.
+pub fn start(plant: &Plant, l: usize) -> Option<Ranges> {
     let location = plant.location(l);
-    let mut parts = Vec::new();
-    if location.started {
-        parts.push(ranges(location.start));
-    }
-    parts.extend(faces[l].iter().flatten().cloned());
-    parts
+    location.started.then(|| cut(&ranges(location.start), &ranges(location.invariant))).flatten()
+}
+
+/// The parts of location l: what is used of its start box, and the present pieces.
+pub fn parts(plant: &Plant, faces: &Faces, l: usize) -> Vec<Ranges> {
+    start(plant, l).into_iter().chain(faces[l].iter().flatten().cloned()).collect()
 }
 
 /// What a switch step gives from one part on the source's face.

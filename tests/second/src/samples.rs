@@ -3,8 +3,8 @@
 use crate::analysis::run;
 use crate::draft::Draft;
 use crate::examples::{
-    all_cut, box_ends, dosing, figure_1, guarded_box, large_grid, plant_p, plant_p_cut, plant_p_cut_table,
-    plant_p_table, plant_p_unknown, plant_p_wider, three_tanks, two_tank, water_level,
+    all_cut, box_ends, dosing, figure_1, guarded_box, heated_vat, large_grid, plant_p, plant_p_behind, plant_p_cut,
+    plant_p_cut_table, plant_p_from, plant_p_table, plant_p_unknown, plant_p_wider, three_tanks, two_tank, water_level,
 };
 use crate::files::{field, model_file, table_file, FACE, TABLE_HEAD};
 use crate::model::Plant;
@@ -33,6 +33,9 @@ fn answered() -> Vec<(&'static str, Draft)> {
         ("water-level-slow", water_level(25)),
         ("dosing", dosing(5_000)),
         ("largest", large_grid(6, 3)),
+        ("plant-p-crossing", plant_p_from([0, 0, 2, 15])),
+        ("plant-p-behind", plant_p_behind(10)),
+        ("heated-vat", heated_vat(100)),
         ("plant-p-cut", plant_p_cut()),
         ("box-ends", box_ends(false)),
         ("box-ends-cut", box_ends(true)),
@@ -49,12 +52,14 @@ fn refused() -> Vec<(&'static str, Vec<u8>)> {
     too_high.locations[0].invariant[3] = 1_000_001;
     let mut trailing = p.clone();
     trailing.push(0);
+    let too_far = plant_p_from([0, 0, 2, 1_000_001]);
     let at_wall = Draft { cuts: vec![(0, 0, 10)], ..plant_p() };
     vec![
         ("refused-empty", vec![]),
         ("refused-cut", p[..p.len() - 1].to_vec()),
         ("refused-trailing", trailing),
         ("refused-level", model_file(&too_high.words())),
+        ("refused-start", model_file(&too_far.words())),
         ("refused-at-wall", model_file(&at_wall.words())),
     ]
 }
@@ -77,6 +82,10 @@ pub fn tables() -> Vec<(&'static str, Vec<u8>, u64)> {
         ("plant-p.cut", whole[..whole.len() - 1].to_vec(), 36),
         ("plant-p-unknown", whole, 34),
         ("two-tanks", answers_table(&two_tank(59)), 100),
+        ("plant-p-crossing", answers_table(&plant_p_from([0, 0, 2, 15])), 100),
+        ("plant-p-crossing.narrow", table_of_p(|_| {}), 33),
+        ("plant-p-behind", answers_table(&plant_p_behind(10)), 100),
+        ("heated-vat", answers_table(&heated_vat(100)), 100),
         ("plant-p-cut", plant_p_cut_file(), 100),
         ("three-tanks-cut", answers_table(&three_tanks(true)), 100),
         ("three-tanks-cut.exchanged", three_tanks_file(exchange), 32),

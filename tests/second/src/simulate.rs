@@ -43,7 +43,8 @@ fn in_invariant(plant: &Plant, denominator: i64, at: &Configuration) -> bool {
     in_box(&at.levels, denominator, plant.location(at.location).invariant)
 }
 
-/// May a run start here?
+/// May a run start here? In the start box of a location with start flag 1, and, as every configuration, in
+/// the invariant.
 pub fn may_start(plant: &Plant, denominator: i64, at: &Configuration) -> bool {
     let location = plant.location(at.location);
     location.started && in_box(&at.levels, denominator, location.start) && in_invariant(plant, denominator, at)
@@ -121,7 +122,8 @@ pub fn is_reached(plant: &Plant, table: &[i32], denominator: i64, at: &Configura
         some_delay_meets(&scaled[..two_n], &rates[..two_n], &point[..two_n])
     };
     let mut pieces = table[plant.location_places(at.location)].chunks_exact(sizes.face_words());
-    (location.started && reaches(location.start)) || pieces.any(|words| words[0] == 1 && reaches(&words[1..]))
+    location.start_part().is_some_and(|start| reaches(&start))
+        || pieces.any(|words| words[0] == 1 && reaches(&words[1..]))
 }
 
 /// A number from low to high, often one of the ends.
@@ -133,20 +135,25 @@ fn leaning(random: &mut Random, low: i64, high: i64) -> i64 {
     }
 }
 
-/// A random run with at most `length` moves; None if no location has a start.
-pub fn random_run(plant: &Plant, random: &mut Random, denominator: i64, length: usize) -> Option<Run> {
-    let starts: Vec<usize> = (0..plant.sizes.locations).filter(|&l| plant.location(l).started).collect();
+/// Where a run can start: in the start part of a location, if there is any.
+fn random_start(plant: &Plant, random: &mut Random, denominator: i64) -> Option<Configuration> {
+    let has_start = |l: &usize| plant.location(*l).start_part().is_some();
+    let starts: Vec<usize> = (0..plant.sizes.locations).filter(has_start).collect();
     if starts.is_empty() {
         return None;
     }
     let location = random.pick(&starts);
-    let levels = plant
-        .location(location)
-        .start
+    let start = plant.location(location).start_part()?;
+    let levels = start[..2 * plant.sizes.n]
         .chunks_exact(2)
         .map(|r| leaning(random, r[0] as i64 * denominator, r[1] as i64 * denominator))
         .collect();
-    let first = Configuration { location, levels };
+    Some(Configuration { location, levels })
+}
+
+/// A random run with at most `length` moves; None if no location has a start part.
+pub fn random_run(plant: &Plant, random: &mut Random, denominator: i64, length: usize) -> Option<Run> {
+    let first = random_start(plant, random, denominator)?;
     let mut at = first.clone();
     let mut moves = Vec::new();
     for _ in 0..length {

@@ -56,7 +56,7 @@ fn join_cut(n: usize, d: usize, cut: Cut, reached: &[i32; MAX_BOX], pieces: &mut
 
 /// Joins to the location's new pieces every wall step from one part.
 #[inline]
-fn wall_steps_from(n: usize, part: &[i32], location: &Location, pieces: &mut [i32]) -> bool {
+pub(crate) fn wall_steps_from(n: usize, part: &[i32], location: &Location, pieces: &mut [i32]) -> bool {
     let words = (1 + 2 * n) * if location.cut.is_some() { 2 } else { 1 };
     let mut changed = false;
     let mut reached = [0i32; MAX_BOX];
@@ -82,8 +82,8 @@ pub fn pass(plant: &Plant, old: &[i32], new: &mut [i32]) -> bool {
         let location = plant.location(l);
         let places = plant.location_places(l);
         let pieces = &mut new[places.clone()];
-        if location.started {
-            changed |= wall_steps_from(n, location.start, &location, pieces);
+        if let Some(start) = location.start_part() {
+            changed |= wall_steps_from(n, &start, &location, pieces);
         }
         for words in old[places].chunks_exact(face_words) {
             if words[0] == 1 {
@@ -119,11 +119,11 @@ fn any_part_touches(plant: &Plant, table: &[i32], touch: Touch) -> bool {
         let location = plant.location(forbidden.location);
         let hit = |part: &[i32]| touch(n, part, location.rates, location.invariant, forbidden.bounds);
         let mut pieces = table[plant.location_places(forbidden.location)].chunks_exact(sizes.face_words());
-        (location.started && hit(location.start)) || pieces.any(|words| words[0] == 1 && hit(&words[1..]))
+        location.start_part().is_some_and(|start| hit(&start)) || pieces.any(|words| words[0] == 1 && hit(&words[1..]))
     })
 }
 
-/// Some part (start box under flag 1, present piece) touches a forbidden box of its location.
+/// Some part (start part, present piece) touches a forbidden box of its location.
 pub fn forbidden_touched(plant: &Plant, table: &[i32]) -> bool {
     any_part_touches(plant, table, touches)
 }

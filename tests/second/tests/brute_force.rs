@@ -7,11 +7,12 @@ use second::damage::damage_table;
 use second::delays::{delays, touches, touches_quick, End};
 use second::draft::Draft;
 use second::fraction::Fraction;
-use second::generate::{close, helped_model, pass_budget, random_model, random_table};
+use second::generate::{close, crossing_model, helped_model, pass_budget, random_model, random_table};
 use second::model::{ordered_inside, Piece, Plant};
 use second::plain;
 use second::random::Random;
-use second::simulate::{is_forbidden, is_reached, is_run, random_run};
+use second::simulate::{is_forbidden, is_reached, is_run, may_start, random_run, travel, Configuration};
+use second::starts::{any_crosses, table_of_whole_boxes, touched_by_whole_boxes, trimmed};
 use second::tables::{forbidden_touched, pass, well_formed};
 
 /// The delay rule against its meaning: t is a delay exactly if p + a·t ≤ b ≤ q + c·t.
@@ -162,6 +163,151 @@ fn unknown_models_have_no_accepted_table() {
     }
 }
 
+/// Levels around a start box and its invariant: all combinations of those at and beside their ends, over a
+/// denominator.
+fn levels_around(start: &[i32], invariant: &[i32], denominator: i64) -> Vec<Vec<i64>> {
+    let mut all = vec![vec![]];
+    for (start, wall) in start.chunks(2).zip(invariant.chunks(2)) {
+        let ends = [start[0], start[1], wall[0], wall[1]].map(|end| end as i64 * denominator);
+        let mut levels: Vec<i64> = ends.iter().flat_map(|end| [end - 1, *end, end + 1]).collect();
+        levels.sort_unstable();
+        levels.dedup();
+        all = all.iter().flat_map(|found| levels.iter().map(move |&level| [&found[..], &[level]].concat())).collect();
+    }
+    all
+}
+
+/// A run may start exactly in the start part, of which the plain restatement says the same.
+#[test]
+fn runs_start_in_the_start_part() {
+    let mut random = Random::new(13);
+    let (mut inside, mut outside, mut none) = (0, 0, 0);
+    for _ in 0..3_000 {
+        let words = random_model(&mut random).words();
+        let plant = Plant::from_words(&words).unwrap();
+        for l in 0..plant.sizes.locations {
+            let location = plant.location(l);
+            let part = location.start_part().map(|part| plain::ranges(&part[..2 * plant.sizes.n]));
+            assert_eq!(part, plain::start(&plant, l));
+            if plant.sizes.n > 3 || !location.started {
+                continue;
+            }
+            none += part.is_none() as u32;
+            let denominator = random.pick(&[1, 2, 3]);
+            for levels in levels_around(location.start, location.invariant, denominator) {
+                let within = |part: &plain::Ranges| {
+                    let in_range = |(level, range): (&i64, &(i64, i64))| {
+                        range.0 * denominator <= *level && *level <= range.1 * denominator
+                    };
+                    levels.iter().zip(part).all(in_range)
+                };
+                let is_start = part.as_ref().is_some_and(within);
+                assert_eq!(may_start(&plant, denominator, &Configuration { location: l, levels }), is_start);
+                *(if is_start { &mut inside } else { &mut outside }) += 1;
+            }
+        }
+    }
+    assert!(inside > 10_000 && outside > 10_000 && none > 100, "{inside} {outside} {none}");
+}
+
+/// Answer, k and table, and whether two other tables are accepted.
+fn outcome(plant: &Plant, tables: [&[i32]; 2]) -> ((Answer, u32), Vec<i32>, [bool; 2]) {
+    let size = plant.table_words();
+    let (mut table, mut work) = (vec![0; size], vec![0; size]);
+    let answer = run(plant, pass_budget(plant).min(60), &mut table, &mut work);
+    (answer, table, tables.map(|table| ask_table(plant, table).is_ok()))
+}
+
+/// A model whose start boxes are trimmed to their start parts has the same answer, k and table, and the same
+/// tables are accepted. One without a start part is safe at once.
+#[test]
+fn trimmed_start_boxes_change_nothing() {
+    let mut random = Random::new(14);
+    let (mut compared, mut no_part, mut accepted) = (0, 0, 0);
+    while compared < 1_000 {
+        let draft = if random.chance(1, 4) { crossing_model(&mut random) } else { random_model(&mut random) };
+        let words = draft.words();
+        let plant = Plant::from_words(&words).unwrap();
+        let shorter = trimmed(&plant);
+        let trimmed = Plant::from_words(&shorter).unwrap();
+        assert!(!any_crosses(&trimmed));
+        assert_eq!(any_crosses(&plant), words != shorter);
+        if words == shorter {
+            continue;
+        }
+        compared += 1;
+        let (mut rest, mut other) = (vec![0; plant.table_words()], random_table(&mut random, &plant));
+        close(&plant, &mut rest, 60);
+        close(&plant, &mut other, 60);
+        let (found, again) = (outcome(&plant, [&rest, &other]), outcome(&trimmed, [&rest, &other]));
+        assert_eq!(found, again, "{words:?}");
+        accepted += found.2.iter().filter(|&&is| is).count();
+        if (0..plant.sizes.locations).all(|l| plant.location(l).start_part().is_none()) {
+            assert_eq!((found.0, found.1), ((Answer::Safe, 0), vec![0; plant.table_words()]));
+            no_part += 1;
+        }
+    }
+    assert!(no_part > 50 && accepted > 400, "{no_part} without a start part, {accepted} tables accepted");
+}
+
+/// The table at rest with whole start boxes, by literal passes; None after too many.
+fn literal_with_whole_boxes(plant: &Plant, most: u32) -> Option<plain::Faces> {
+    let mut faces = plain::from_words(plant, &vec![0; plant.table_words()]);
+    for _ in 0..most {
+        let mut next = plain::pass(plant, &faces);
+        for l in (0..plant.sizes.locations).filter(|&l| plant.location(l).started) {
+            let location = plant.location(l);
+            let [start, rates, invariant] = [location.start, location.rates, location.invariant].map(plain::ranges);
+            for (number, (face, keeps)) in plain::pieces(plant, l).into_iter().enumerate() {
+                let reached = plain::wall_step(&start, &rates, &invariant, face / 2, location.invariant[face] as i64);
+                if let Some(both) = reached.and_then(|reached| plain::cut(&reached, &keeps?)) {
+                    next[l][number] = plain::hull(&next[l][number], &both);
+                }
+            }
+        }
+        if next == faces {
+            return Some(faces);
+        }
+        faces = next;
+    }
+    None
+}
+
+/// What is reached from start parts lies inside what whole start boxes would reach; so parts never make a
+/// safe plant unknown, and some plants are safe by them.
+#[test]
+fn start_parts_only_narrow() {
+    let mut random = Random::new(15);
+    let (mut compared, mut narrower, mut helped) = (0, 0, 0);
+    while compared < 400 {
+        let draft = if random.chance(1, 2) { crossing_model(&mut random) } else { random_model(&mut random) };
+        let words = draft.words();
+        let plant = Plant::from_words(&words).unwrap();
+        if !any_crosses(&plant) || draft.locations.len() > 8 {
+            continue;
+        }
+        let (whole, at_rest) = table_of_whole_boxes(&plant, 60);
+        let mut table = vec![0; plant.table_words()];
+        if !at_rest || !close(&plant, &mut table, 60) {
+            continue;
+        }
+        let Some(literal) = literal_with_whole_boxes(&plant, 200) else {
+            continue;
+        };
+        compared += 1;
+        assert_eq!(whole, plain::to_words(&plant, &literal), "{words:?}");
+        let words_of_one = plant.sizes.face_words();
+        for (inner, outer) in table.chunks(words_of_one).zip(whole.chunks(words_of_one)) {
+            assert!(inner[0] == 0 || (outer[0] == 1 && ordered_inside(&inner[1..], &outer[1..])), "{words:?}");
+        }
+        let (touched, by_whole) = (forbidden_touched(&plant, &table), touched_by_whole_boxes(&plant, &whole));
+        assert!(!touched || by_whole, "{words:?}");
+        narrower += (table != whole) as u32;
+        helped += (by_whole && !touched) as u32;
+    }
+    assert!(helped > 100 && narrower > 100, "{helped} safe by their start parts, {narrower} narrower");
+}
+
 /// All that a piece can hold in a well-formed table, as bounds; the first is "absent".
 fn all_boxes(plant: &Plant, piece: Piece) -> Vec<Option<Vec<i32>>> {
     let mut boxes: Vec<Vec<i32>> = Vec::new();
@@ -179,15 +325,17 @@ fn all_boxes(plant: &Plant, piece: Piece) -> Vec<Option<Vec<i32>>> {
     std::iter::once(None).chain(boxes.into_iter().map(Some)).collect()
 }
 
-/// How many well-formed tables the checker accepts; None if there are too many to try.
-fn accepted_tables(plant: &Plant, most: u64) -> Option<(u64, u64)> {
+/// How many well-formed tables there are, how many of them the checker accepts, and how many random runs were
+/// held to some of those: they meet nothing forbidden and stay where the table reaches. None if there are too
+/// many tables to try.
+fn accepted_tables(plant: &Plant, random: &mut Random, most: u64) -> Option<(u64, u64, u64)> {
     let sizes = plant.sizes;
     let choices: Vec<Vec<Option<Vec<i32>>>> = plant.all_pieces().map(|piece| all_boxes(plant, piece)).collect();
     let total = choices.iter().try_fold(1u64, |product, list| product.checked_mul(list.len() as u64))?;
     if total > most {
         return None;
     }
-    let mut accepted = 0;
+    let (mut accepted, mut runs) = (0, 0);
     let mut table = vec![0; plant.table_words()];
     let mut next = table.clone();
     for number in 0..total {
@@ -205,9 +353,14 @@ fn accepted_tables(plant: &Plant, most: u64) -> Option<(u64, u64)> {
         }
         if !pass(plant, &table, &mut next) && !forbidden_touched(plant, &table) {
             accepted += 1;
+            if accepted <= 40 {
+                let travelled = travel(plant, &table, random, 10);
+                assert_eq!((travelled.forbidden, travelled.unreached), (0, 0), "{:?} {table:?}", plant.words());
+                runs += travelled.runs;
+            }
         }
     }
-    Some((total, accepted))
+    Some((total, accepted, runs))
 }
 
 /// On very small models, under a limit of the ceiling: safe exactly if some table at all is
@@ -215,8 +368,8 @@ fn accepted_tables(plant: &Plant, most: u64) -> Option<(u64, u64)> {
 #[test]
 fn every_table_of_very_small_models() {
     let mut random = Random::new(5);
-    let (mut models, mut cut, mut tables, mut safe, mut unknown) = (0, 0, 0, 0, 0);
-    while models < 400 || cut < 150 {
+    let (mut models, mut cut, mut crossing, mut tables, mut runs, mut safe, mut unknown) = (0, 0, 0, 0, 0, 0, 0);
+    while models < 400 || cut < 150 || crossing < 150 {
         let draft: Draft = random_model(&mut random);
         if draft.n > 3 || draft.locations.len() > 3 || draft.forbidden.is_empty() {
             continue;
@@ -227,7 +380,7 @@ fn every_table_of_very_small_models() {
         if !small {
             continue;
         }
-        let Some((tried, accepted)) = accepted_tables(&plant, 30_000) else {
+        let Some((tried, accepted, travelled)) = accepted_tables(&plant, &mut random, 30_000) else {
             continue;
         };
         let size = plant.table_words();
@@ -239,11 +392,16 @@ fn every_table_of_very_small_models() {
         assert_eq!(answer, wanted, "{words:?}");
         models += 1;
         cut += plant.any_cut() as u32;
+        crossing += any_crosses(&plant) as u32;
         tables += tried;
+        runs += travelled;
         safe += (accepted > 0) as u32;
         unknown += (accepted == 0) as u32;
     }
-    assert!(safe > 50 && unknown > 50, "{safe} safe, {unknown} unknown, {tables} tables");
+    let counts =
+        format!("{models} models, {crossing} crossing, {safe} safe, {unknown} unknown, {tables} tables, {runs} runs");
+    println!("{counts}");
+    assert!(safe > 50 && unknown > 50 && runs > 1_000, "{counts}");
 }
 
 /// Each piece of the table of a plant with cuts lies inside the face of the same plant without them, pass by

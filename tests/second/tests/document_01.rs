@@ -154,7 +154,7 @@ fn short_lists() {
 #[test]
 fn questions_are_asked_record_by_record() {
     let good = LocationDraft { invariant: vec![0, 4], rates: vec![0, 0], start: Some(vec![0, 0]) };
-    let fails_13 = LocationDraft { start: Some(vec![5, 5]), ..good.clone() };
+    let fails_13 = LocationDraft { start: Some(vec![5, 4]), ..good.clone() };
     let fails_11 = LocationDraft { invariant: vec![4, 0], ..good.clone() };
     let draft = |locations| Draft { n: 1, locations, ..Draft::default() };
     assert_eq!(calls::ceiling(&draft(vec![fails_13.clone(), fails_11.clone()]).words()), Err(13));

@@ -2,14 +2,176 @@
 
 use second::analysis::Answer;
 use second::calls::{self, Buffers};
+use second::damage::{damaged_starts, START_DAMAGE};
 use second::draft::{Draft, LocationDraft};
 use second::examples::*;
 use second::files::{field, model_file};
+use second::generate::random_model;
 use second::listing::listing;
 use second::model::{words_per_location, Plant};
+use second::random::Random;
+use second::simulate::{may_start, Configuration};
 
 fn buffers(words: usize) -> Buffers {
     Buffers { table: vec![-7; words], work: vec![-9; words] }
+}
+
+/// P's number with this start flag and this start box; None if it passes its questions.
+fn number_of_start(flag: i32, start: [i32; 4]) -> Option<u32> {
+    let mut words = plant_p().words();
+    words[12] = flag;
+    words[13..17].copy_from_slice(&start);
+    calls::ceiling(&words).err()
+}
+
+/// T-02: question 13 asks for flag, order, range, and zeros under flag 0.
+#[test]
+fn start_boxes_in_order_and_range() {
+    for start in [[0, 0, 2, 5], [0, 0, 2, 15], [0, 0, 11, 15], [-7, -3, 2, 5], [0, 0, 0, 0], [-7, 17, 11, 11]] {
+        assert_eq!(number_of_start(1, start), None, "{start:?}");
+    }
+    assert_eq!(number_of_start(1, [-1_000_000, 1_000_000, -1_000_000, 1_000_000]), None);
+    for start in [[-1_000_001, 0, 2, 5], [0, 1_000_001, 2, 5], [0, 0, -1_000_001, 5], [0, 0, 2, 1_000_001]] {
+        assert_eq!(number_of_start(1, start), Some(13), "{start:?}");
+    }
+    for start in [[1, 0, 2, 5], [0, 0, 5, 2], [0, 0, 15, 11], [11, 12, 5, 2], [i32::MAX, i32::MIN, 2, 5]] {
+        assert_eq!(number_of_start(1, start), Some(13), "{start:?}");
+    }
+    assert_eq!(number_of_start(0, [0, 0, 0, 0]), None);
+    for start in [[0, 0, 2, 5], [0, 0, 0, 1], [-1, 0, 0, 0]] {
+        assert_eq!(number_of_start(0, start), Some(13), "{start:?}");
+    }
+    for flag in [2, -1, i32::MIN, i32::MAX] {
+        assert_eq!(number_of_start(flag, [0, 0, 2, 5]), Some(13), "{flag}");
+        assert_eq!(number_of_start(flag, [0, 0, 0, 0]), Some(13), "{flag}");
+    }
+}
+
+/// T-02: 13 is asked in its old place, and a file refused by it zeroes the word buffer.
+#[test]
+fn start_boxes_are_asked_in_their_place() {
+    let number = |changes: &[(usize, i32)]| {
+        let mut words = water_level(20).words();
+        changes.iter().for_each(|&(place, word)| words[place] = word);
+        calls::ceiling(&words).err()
+    };
+    // Of each location 4 words of the invariant, 4 of the rates, the flag, 4 of the start box.
+    let (out_of_order, behind) = ((4 + 9, 200), [(4 + 9, 200), (4 + 10, 300)]);
+    assert_eq!(number(&[out_of_order]), Some(13));
+    assert_eq!(number(&[out_of_order, (4, 1_000_001)]), Some(11));
+    assert_eq!(number(&[out_of_order, (8, 1_001)]), Some(12));
+    assert_eq!(number(&[out_of_order, (17, 1_000_001)]), Some(13));
+    assert_eq!(number(&behind), None);
+    assert_eq!(number(&[behind[0], behind[1], (17, 1_000_001)]), Some(11));
+    let mut bad = plant_p_from([0, 0, 2, 1_000_001]);
+    assert_eq!(calls::read_model(&model_file(&bad.words()), vec![3; 26]), (Err(13), vec![0; 26]));
+    bad.locations[0].start = Some(vec![0, 0, 2, 1_000_000]);
+    let words = bad.words();
+    assert_eq!(calls::read_model(&model_file(&words), vec![3; 26]), (Ok(24), [&words[..], &[3, 3]].concat()));
+}
+
+/// T-02: what each kind of damage to a start box is refused by.
+#[test]
+fn damaged_start_boxes() {
+    let mut random = Random::new(21);
+    let mut seen = [0; START_DAMAGE.len()];
+    for _ in 0..2_000 {
+        let words = random_model(&mut random).words();
+        let (damaged, kind) = damaged_starts(&mut random, &Plant::from_words(&words).unwrap());
+        assert_eq!(calls::ceiling(&damaged).err(), START_DAMAGE[kind].1, "{}", START_DAMAGE[kind].0);
+        seen[kind] += 1;
+    }
+    assert!(seen.iter().all(|&count| count > 50), "{seen:?}");
+}
+
+/// T-02: P from start boxes that cross the wall y = 10, only meet it, or lie behind it.
+#[test]
+fn p_from_across_the_wall() {
+    let text = |start| listing(&model_file(&plant_p_from(start).words()));
+    let part = |start: [i32; 4]| {
+        let words = plant_p_from(start).words();
+        let part = Plant::from_words(&words).unwrap().location(0).start_part();
+        part.map(|part| part[..4].to_vec())
+    };
+    assert_eq!(part([0, 0, 2, 15]), Some(vec![0, 0, 2, 10]));
+    // On x = 0 the start part itself; on y = 10 after 0 to 8, with x 0..8.
+    assert_eq!(text([0, 0, 2, 15]), "safe 1 2\n0 0 0 0 2 10\n0 3 0 8 10 10\n");
+    assert_eq!(text([0, 0, 2, 1_000_000]), text([0, 0, 2, 15]));
+    assert_eq!(part([0, 0, 10, 15]), Some(vec![0, 0, 10, 10]));
+    assert_eq!(text([0, 0, 10, 15]), "safe 1 2\n0 0 0 0 10 10\n0 3 0 0 10 10\n");
+    assert_eq!(part([0, 0, 11, 15]), None);
+    assert_eq!(text([0, 0, 11, 15]), "safe 0 0\n");
+    // Of x -5..0 the wall x = 0 is left: P itself. Of x -5..-1 nothing.
+    assert_eq!(text([-5, 0, 2, 5]), "safe 1 2\n0 0 0 0 2 5\n0 3 2 8 10 10\n");
+    assert_eq!(text([-5, -1, 2, 5]), "safe 0 0\n");
+    // Out on both sides everywhere: the invariant.
+    assert_eq!(part([-1_000_000, 1_000_000, -1_000_000, 1_000_000]), Some(vec![0, 10, 0, 10]));
+    assert_eq!(text([-1_000_000, 1_000_000, -1_000_000, 1_000_000]), "unknown 0 0\n");
+    assert_eq!(part([-1, 11, -1, 11]), Some(vec![0, 10, 0, 10]));
+}
+
+/// T-02: a start box behind the wall is none, though its rates lead back in: safe at once, and the table
+/// without faces is accepted. Under a wall at y = 15 the same box is a start, and touches.
+#[test]
+fn no_start_behind_the_wall() {
+    let words = plant_p_behind(10).words();
+    let (outcome, after) = calls::analysis(&words, 0, buffers(20));
+    assert_eq!((outcome, after.table), (Ok((Answer::Safe, 0)), vec![0; 20]));
+    assert_eq!(calls::checker(&words, &[0; 20]), Ok(()));
+    assert_eq!(calls::check(&model_file(&words), &field(6, &[0])), 100);
+    let words = plant_p_behind(15).words();
+    assert_eq!(calls::analysis(&words, 0, buffers(20)).0, Ok((Answer::Unknown, 0)));
+    assert_eq!(calls::checker(&words, &[0; 20]), Err(33));
+}
+
+/// T-02: the checker holds a table to the start part.
+#[test]
+fn tables_are_held_to_start_parts() {
+    let number = |start, table: &[i32]| calls::checker(&plant_p_from(start).words(), table).err();
+    assert_eq!(number([0, 0, 2, 15], &plant_p_wider()), None);
+    assert_eq!(number([0, 0, 2, 15], &plant_p_table()), Some(33));
+    assert_eq!(number([-5, 0, 2, 5], &plant_p_table()), None);
+    assert_eq!(number([0, 0, 11, 15], &plant_p_table()), None);
+    // The wall itself is in the start part, what lies behind it is not.
+    let forbidden = |low, high| {
+        let draft = Draft { forbidden: vec![(0, vec![0, 0, low, high])], ..plant_p_from([0, 0, 2, 15]) };
+        calls::checker(&draft.words(), &plant_p_wider()).err()
+    };
+    assert_eq!(forbidden(10, 15), Some(34));
+    assert_eq!(forbidden(11, 15), None);
+}
+
+/// T-02: a run starts in the start box and in the invariant.
+#[test]
+fn runs_start_in_both() {
+    let words = plant_p_from([-3, 0, 2, 15]).words();
+    let plant = Plant::from_words(&words).unwrap();
+    let may = |denominator: i64, x: i64, y: i64| {
+        may_start(&plant, denominator, &Configuration { location: 0, levels: vec![x, y] })
+    };
+    assert!(may(1, 0, 2) && may(1, 0, 10) && may(3, 0, 30) && may(2, 0, 5));
+    assert!(!may(1, 0, 1) && !may(1, 0, 11) && !may(3, 0, 31) && !may(1, -1, 5) && !may(2, -1, 5) && !may(1, 1, 5));
+}
+
+/// T-02 and T-12: a start part on both sides of its location's cut is left whole. On x = 20 t is 0..20 from it;
+/// from its half x 10..20 alone it would be 0..10, and 0..25 from the start box.
+#[test]
+fn start_parts_are_left_whole() {
+    let words = Draft {
+        n: 3,
+        locations: vec![LocationDraft {
+            invariant: vec![0, 20, 0, 10, 0, 40],
+            rates: vec![1; 6],
+            start: Some(vec![-5, 25, 6, 6, 0, 0]),
+        }],
+        cuts: vec![(0, 0, 10)],
+        ..Draft::default()
+    }
+    .words();
+    let plant = Plant::from_words(&words).unwrap();
+    let (outcome, after) = calls::analysis(&words, 1, buffers(plant.table_words()));
+    assert!(outcome.is_ok());
+    assert_eq!(after.table[plant.face_places(0, 1)][..7], [1, 20, 20, 6, 10, 0, 20]);
 }
 
 /// T-04: the six sizes of document 01, and the one for seven variables.

@@ -1,13 +1,14 @@
 //! The sample models, and what random runs say of one of them.
 
 use second::analysis::run;
-use second::examples::{three_tanks, water_level};
+use second::examples::{heated_vat, three_tanks, water_level};
 use second::files::model_file;
 use second::listing::listing;
 use second::model::Plant;
 use second::random::Random;
 use second::samples;
 use second::simulate::{travel, Travelled};
+use second::starts::{table_of_whole_boxes, touched_by_whole_boxes};
 
 /// The first line of each listing.
 #[test]
@@ -25,6 +26,9 @@ fn first_lines() {
         ("water-level-slow", "unknown 2 4"),
         ("dosing", "unfinished 1000 3"),
         ("largest", "safe 10 192"),
+        ("plant-p-crossing", "safe 1 2"),
+        ("plant-p-behind", "safe 0 0"),
+        ("heated-vat", "safe 3 4"),
         ("plant-p-cut", "safe 1 3"),
         ("box-ends", "unknown 3 15"),
         ("box-ends-cut", "safe 12 22"),
@@ -35,6 +39,7 @@ fn first_lines() {
         ("refused-cut", "refused 7"),
         ("refused-trailing", "refused 8"),
         ("refused-level", "refused 11"),
+        ("refused-start", "refused 13"),
         ("refused-at-wall", "refused 46"),
     ];
     let found: Vec<_> = samples::all().into_iter().map(|(name, file)| (name, listing(&file))).collect();
@@ -68,6 +73,23 @@ fn three_tanks_whole_and_cut() {
         "safe 3 8\n0 0 0 0 0 1 2 6 7\n0 1 0 10 10 1 2 6 7\n1 0 0 0 0 6 7 1 2\n1 1 0 10 10 6 7 1 2\n\
          2 0 0 0 0 1 4 6 9\n2 0 1 0 0 6 9 1 4\n2 1 0 10 10 1 2 6 7\n2 1 1 10 10 6 7 1 2\n"
     );
+}
+
+/// The heated vat is safe from what of its start box lies below the rim, and would be unknown from the whole
+/// box, as it is under a rim that holds the box.
+#[test]
+fn heated_vat_below_the_rim() {
+    let words = heated_vat(100).words();
+    assert_eq!(
+        listing(&model_file(&words)),
+        "safe 3 4\n0 0 0 0 60 225\n0 1 100 100 20 25\n1 0 0 0 20 20\n1 1 100 100 20 20\n"
+    );
+    let plant = Plant::from_words(&words).unwrap();
+    let (whole, at_rest) = table_of_whole_boxes(&plant, 100);
+    assert!(at_rest && touched_by_whole_boxes(&plant, &whole));
+    // A heat of up to 285 in the empty vat, instead of 225.
+    assert_eq!(whole[..5], [1, 0, 0, 60, 285]);
+    assert_eq!(listing(&model_file(&heated_vat(130).words())), "unknown 0 0\n");
 }
 
 /// Runs of the water-level plant against its answer's table, or against no faces at all.

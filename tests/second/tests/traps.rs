@@ -1,14 +1,16 @@
 //! Does the comparison find wrong programs? A third, literal decider in which one mistake
-//! at a time can be switched on (document 01's traps, T-12's pieces and others); each must be found
-//! within few random models, and the decider without a mistake must agree.
+//! at a time can be switched on (document 01's traps, T-02's start parts, T-12's pieces and others); each
+//! must be found within few random models, and the decider without a mistake must agree.
 
 use std::cell::Cell;
 
 use second::compare::{Comparison, Tested};
+use second::damage::field_places;
 use second::exports::answer;
-use second::files::{model_of_file, parse_table, table_file};
+use second::files::{file_of_words, model_of_file, parse_table, table_file, CUT};
 use second::host;
-use second::model::{Plant, Switch};
+use second::model::{Model, Plant, Sizes, Switch, LEVEL};
+use second::starts::any_crosses;
 
 const NONE: u8 = 0;
 const ROUNDS_TOWARDS_ZERO: u8 = 1;
@@ -38,11 +40,22 @@ const CUTS_THE_START: u8 = 24;
 const TOUCHES_FROM_FIRST_PIECE_ALONE: u8 = 25;
 const STEPS_FROM_THE_WHOLE_FACE: u8 = 26;
 const LANDS_ON_FIRST_PIECE_ALONE: u8 = 27;
-const TRAPS: u8 = 27;
+const STEPS_FROM_WHOLE_STARTS: u8 = 28;
+const TOUCHES_FROM_WHOLE_STARTS: u8 = 29;
+const CHECKS_WITH_WHOLE_STARTS: u8 = 30;
+const EMPTY_START_AS_A_PART: u8 = 31;
+const START_BEHIND_THE_WALL_WHOLE: u8 = 32;
+const START_CLAMPED_TO_THE_WALL: u8 = 33;
+const START_INSIDE_STILL_ASKED: u8 = 34;
+const START_RANGE_NOT_ASKED: u8 = 35;
+const START_ORDER_NOT_ASKED: u8 = 36;
+const TRAPS: u8 = 36;
 
 thread_local! {
     /// The mistake that is switched on.
     static TRAP: Cell<u8> = const { Cell::new(NONE) };
+    /// Is it check that computes?
+    static CHECKING: Cell<bool> = const { Cell::new(false) };
 }
 
 fn on(trap: u8) -> bool {
@@ -126,13 +139,30 @@ fn join(held: &mut Option<Ranges>, new: Ranges) {
     });
 }
 
+/// What of a start box is a part.
+fn start_part(start: Ranges, inv: &Ranges, taken_whole: bool) -> Option<Ranges> {
+    if taken_whole || on(CHECKS_WITH_WHOLE_STARTS) && CHECKING.get() {
+        return Some(start);
+    }
+    if on(EMPTY_START_AS_A_PART) {
+        return Some(start.iter().zip(inv).map(|(x, y)| (x.0.max(y.0), x.1.min(y.1))).collect());
+    }
+    if on(START_CLAMPED_TO_THE_WALL) {
+        return Some(start.iter().zip(inv).map(|(x, y)| (x.0.clamp(y.0, y.1), x.1.clamp(y.0, y.1))).collect());
+    }
+    let behind = on(START_BEHIND_THE_WALL_WHOLE).then(|| start.clone());
+    cut(&start, inv).or(behind)
+}
+
 /// The parts that the start box is: one, or none.
-fn starts_of(plant: &Plant, l: usize) -> Vec<Ranges> {
+fn starts_of(plant: &Plant, l: usize, taken_whole: bool) -> Vec<Ranges> {
     let location = plant.location(l);
     if !location.started && !on(STARTS_UNDER_FLAG_ZERO) {
         return vec![];
     }
-    let whole = ranges(location.start);
+    let Some(whole) = start_part(ranges(location.start), &ranges(location.invariant), taken_whole) else {
+        return vec![];
+    };
     match location.cut {
         Some(at) if on(CUTS_THE_START) => {
             let (mut low, mut high) = (whole.clone(), whole);
@@ -191,7 +221,7 @@ fn pass(plant: &Plant, before: &Faces, starts: bool) -> Faces {
         for number in 0..=2 * n {
             let parts = if number == 0 {
                 if starts {
-                    starts_of(plant, l)
+                    starts_of(plant, l, on(STEPS_FROM_WHOLE_STARTS))
                 } else {
                     vec![]
                 }
@@ -296,7 +326,7 @@ fn touched(plant: &Plant, faces: &Faces, starts: bool) -> bool {
         let forbidden = plant.forbidden(f);
         let location = plant.location(forbidden.location);
         let l = forbidden.location;
-        let mut parts = if starts { starts_of(plant, l) } else { vec![] };
+        let mut parts = if starts { starts_of(plant, l, on(TOUCHES_FROM_WHOLE_STARTS)) } else { vec![] };
         for face in 0..plant.sizes.faces() {
             let pieces = present(plant, faces, l, face);
             let taken = if on(TOUCHES_FROM_FIRST_PIECE_ALONE) { 1 } else { pieces.len() };
@@ -319,8 +349,52 @@ fn to_words(plant: &Plant, faces: &Faces) -> Vec<i32> {
     words
 }
 
+/// The model file's words, which has passed the questions before 11.
+fn words_of_file(file: &[u8]) -> Vec<i32> {
+    let places = field_places(file);
+    let fields = places.windows(2).map(|field| (file[field[0]], &file[field[0] + 3..field[1]]));
+    let word = |bytes: &[u8]| i32::from_be_bytes([bytes[0], bytes[1], bytes[2], bytes[3]]);
+    let (mut words, mut cuts) = (Vec::new(), Vec::new());
+    for (tag, payload) in fields {
+        let list = if tag == CUT { &mut cuts } else { &mut words };
+        list.extend(payload.chunks_exact(4).map(word));
+    }
+    let first = words.len();
+    words.extend([-1, 0].repeat(words[1] as usize));
+    cuts.chunks_exact(3).for_each(|cut| words[first + 2 * cut[0] as usize..][..2].copy_from_slice(&cut[1..]));
+    words
+}
+
+/// The file with what is not asked of its start boxes put right: the range, or the order, where a box that
+/// is out of order is no start.
+fn put_right(file: &[u8]) -> Vec<u8> {
+    let mut words = words_of_file(file);
+    let sizes = Sizes::ask(words[0], words[1], words[2], words[3]).expect("13 comes after 2 to 4");
+    for l in 0..sizes.locations {
+        let start = &mut words[sizes.location_at(l) + 4 * sizes.n..sizes.location_at(l + 1)];
+        let out_of_order = start[1..].chunks_exact(2).any(|r| r[0] > r[1]);
+        if start[0] == 1 && on(START_RANGE_NOT_ASKED) {
+            start[1..].iter_mut().for_each(|end| *end = (*end).clamp(-LEVEL, LEVEL));
+        } else if start[0] == 1 && out_of_order {
+            start.fill(0);
+        }
+    }
+    file_of_words(&sizes, &words)
+}
+
+/// The model of a file, with the mistakes that question 13 can have.
+fn model_of(file: &[u8]) -> Result<Model, u32> {
+    let read = model_of_file(file);
+    match &read {
+        Ok(model) if on(START_INSIDE_STILL_ASKED) && any_crosses(&model.plant()) => Err(13),
+        Err(13) if on(START_RANGE_NOT_ASKED) || on(START_ORDER_NOT_ASKED) => model_of_file(&put_right(file)),
+        _ => read,
+    }
+}
+
 fn decide(model: &[u8], buffer: &mut [u8], limit: u32) -> u64 {
-    let model = match model_of_file(model) {
+    CHECKING.set(false);
+    let model = match model_of(model) {
         Ok(model) => model,
         Err(number) => return (number as u64) << 32,
     };
@@ -355,7 +429,8 @@ fn decide(model: &[u8], buffer: &mut [u8], limit: u32) -> u64 {
 }
 
 fn check(model: &[u8], table: &[u8]) -> u64 {
-    let model = match model_of_file(model) {
+    CHECKING.set(true);
+    let model = match model_of(model) {
         Ok(model) => model,
         Err(number) => return number as u64,
     };
@@ -396,7 +471,7 @@ fn the_third_decider_without_a_mistake_agrees() {
 #[test]
 fn every_mistake_is_found() {
     for trap in 1..=TRAPS {
-        let found = found_after(trap, 3_000);
+        let found = found_after(trap, 6_000);
         println!("mistake {trap}: found with model {found:?}");
         assert!(found.is_some(), "mistake {trap} is not found");
     }

@@ -4,7 +4,8 @@
 use second::compare::{Comparison, Tested};
 use second::exports::{answer, Call, Input, Lent};
 use second::host;
-use second::model::{ordered_inside, words_per_location, Piece, Plant, Sizes};
+use second::model::{ordered_inside, words_per_location, Piece, Plant, Sizes, LEVEL};
+use second::starts::{any_crosses, table_of_whole_boxes, touched_by_whole_boxes};
 use second::tables::well_formed;
 
 type Answer = fn(Call, &Input, &mut Lent) -> u32;
@@ -413,6 +414,115 @@ fn thirty_six_for_thirty_seven_of_pieces(call: Call, input: &Input, lent: &mut L
     number
 }
 
+/// The model's words with something done to the start flag and start box of each location; None if there are
+/// too few words.
+fn with_starts(model: &[i32], change: fn(&mut [i32])) -> Option<Vec<i32>> {
+    let head = model.get(..4)?;
+    let sizes = Sizes::ask(head[0], head[1], head[2], head[3]).ok()?;
+    let mut words = model.get(..sizes.model_words())?.to_vec();
+    for l in 0..sizes.locations {
+        change(&mut words[sizes.location_at(l) + 4 * sizes.n..sizes.location_at(l + 1)]);
+    }
+    Some(words)
+}
+
+/// The ceiling with start boxes of which something is not asked: put right, they pass.
+fn ceiling_not_asking(call: Call, input: &Input, lent: &mut Lent, put_right: fn(&mut [i32])) -> u32 {
+    let number = answer(call, input, lent);
+    let words = with_starts(input.model, put_right);
+    match words {
+        Some(words) if call == Call::Ceiling && number == 13 => answer(call, &Input { model: &words, ..*input }, lent),
+        _ => number,
+    }
+}
+
+fn start_range_not_asked(call: Call, input: &Input, lent: &mut Lent) -> u32 {
+    ceiling_not_asking(call, input, lent, |start| {
+        if start[0] == 1 {
+            start[1..].iter_mut().for_each(|end| *end = (*end).clamp(-LEVEL, LEVEL));
+        }
+    })
+}
+
+fn start_order_not_asked(call: Call, input: &Input, lent: &mut Lent) -> u32 {
+    ceiling_not_asking(call, input, lent, |start| {
+        if start[0] == 1 && start[1..].chunks_exact(2).any(|range| range[0] > range[1]) {
+            start.fill(0);
+        }
+    })
+}
+
+fn zeros_not_asked_under_flag_0(call: Call, input: &Input, lent: &mut Lent) -> u32 {
+    ceiling_not_asking(call, input, lent, |start| {
+        if start[0] == 0 {
+            start.fill(0);
+        }
+    })
+}
+
+fn starts_asked_last(call: Call, input: &Input, lent: &mut Lent) -> u32 {
+    let number = answer(call, input, lent);
+    let mended = || with_starts(input.model, |start| start.fill(0));
+    if call == Call::Check && number == 13 {
+        return mended().and_then(|words| Plant::from_words(&words).err()).unwrap_or(13);
+    }
+    number
+}
+
+fn start_inside_still_asked(call: Call, input: &Input, lent: &mut Lent) -> u32 {
+    if call == Call::Ceiling && Plant::from_words(input.model).is_ok_and(|plant| any_crosses(&plant)) {
+        *lent.value = 0;
+        return 13;
+    }
+    answer(call, input, lent)
+}
+
+fn start_inside_still_asked_of_files(call: Call, input: &Input, lent: &mut Lent) -> u32 {
+    let number = answer(call, input, lent);
+    if call == Call::ReadModel && number == 100 && Plant::from_words(lent.words).is_ok_and(|plant| any_crosses(&plant))
+    {
+        lent.words.fill(0);
+        *lent.value = 0;
+        return 13;
+    }
+    number
+}
+
+fn buffer_kept_on_13(call: Call, input: &Input, lent: &mut Lent) -> u32 {
+    after_reading(call, input, lent, |number, before, words| {
+        if number == 13 {
+            words.copy_from_slice(before);
+        }
+    })
+}
+
+/// Safe is unknown where a start box, taken whole, touches a forbidden box or leads to one.
+fn analysed_with_whole_boxes(call: Call, input: &Input, lent: &mut Lent) -> u32 {
+    let number = answer(call, input, lent);
+    if call == Call::Analyse && number == 100 {
+        let plant = Plant::from_words(input.model).expect("an answer comes after the model's questions");
+        if touched_by_whole_boxes(&plant, &table_of_whole_boxes(&plant, 100).0) {
+            return 101;
+        }
+    }
+    number
+}
+
+/// A table is accepted only if it holds what whole start boxes reach in a step.
+fn checked_with_whole_boxes(call: Call, input: &Input, lent: &mut Lent) -> u32 {
+    let number = answer(call, input, lent);
+    if call == Call::Check && number == 100 {
+        let plant = Plant::from_words(input.model).expect("an answer comes after the model's questions");
+        let (reached, words) = (table_of_whole_boxes(&plant, 0).0, plant.sizes.face_words());
+        let holds =
+            |(held, new): (&[i32], &[i32])| new[0] == 0 || held[0] == 1 && ordered_inside(&new[1..], &held[1..]);
+        if !input.table.chunks_exact(words).zip(reached.chunks_exact(words)).all(holds) {
+            return 33;
+        }
+    }
+    number
+}
+
 fn fifteen_for_fourteen(call: Call, input: &Input, lent: &mut Lent) -> u32 {
     let number = answer(call, input, lent);
     if number == 14 {
@@ -422,7 +532,7 @@ fn fifteen_for_fourteen(call: Call, input: &Input, lent: &mut Lent) -> u32 {
     }
 }
 
-const WRONG: [(&str, Answer); 37] = [
+const WRONG: [(&str, Answer); 46] = [
     ("value not written on a refusal", value_not_written_on_a_refusal),
     ("the limit as an unknown answer's value", limit_as_value_of_unknown),
     ("ceiling of 32 bits", ceiling_of_32_bits),
@@ -449,6 +559,15 @@ const WRONG: [(&str, Answer); 37] = [
     ("limit cut to what is left", limit_cut_to_what_is_left),
     ("22 before 20", counters_asked_first),
     ("15 for 14", fifteen_for_fourteen),
+    ("13 without the range", start_range_not_asked),
+    ("13 without the order", start_order_not_asked),
+    ("13 without zeros under flag 0", zeros_not_asked_under_flag_0),
+    ("13 after 46", starts_asked_last),
+    ("13 of start boxes that stick out", start_inside_still_asked),
+    ("13 of such boxes in files", start_inside_still_asked_of_files),
+    ("buffer kept on 13", buffer_kept_on_13),
+    ("unknown by whole start boxes", analysed_with_whole_boxes),
+    ("33 by whole start boxes", checked_with_whole_boxes),
     ("46 before 19", cuts_asked_before_boxes),
     ("8 for 46", eight_for_forty_six),
     ("buffer kept on 46", buffer_kept_on_46),

@@ -33,6 +33,7 @@ fn print_counts(counts: &Counts) {
         &counts.cut_by_n[1..]
     );
     println!("  with {}", listed(&counts.model_kinds));
+    println!("  start boxes {}; compared trimmed too {}", listed(&counts.start_kinds), counts.trimmed);
     println!("  under limits {}", listed(&counts.limits));
     println!("  most passes of an answer: {}", counts.most_passes);
     println!("damaged inputs compared: {} of decide and check, {} of the others", counts.damaged, counts.damaged_calls);

@@ -30,6 +30,7 @@ use second::model::Plant;
 use second::plain;
 use second::random::Random;
 use second::simulate::{travel, Travelled};
+use second::starts::any_crosses;
 
 const MODELS: u64 = 10_000;
 const SEED: u64 = 0x01_9912;
@@ -41,6 +42,8 @@ type Seen = BTreeMap<&'static str, BTreeMap<u32, u64>>;
 struct Counts {
     answers: BTreeMap<&'static str, u64>,
     by_n: [u64; 7],
+    /// Models with a start box that sticks out of its invariant.
+    crossing: u64,
     passes: u64,
     most_passes: u32,
     /// Answers by k: 0, 1, 2, 3 to 5, 6 to 10, 11 to 100, more.
@@ -110,8 +113,9 @@ fn read_table(random: &mut Random, counts: &mut Counts, model: &[i32], file: &[u
 }
 
 fn one_model(random: &mut Random, counts: &mut Counts) {
-    let words = random_model(random).words();
+    let words = if random.chance(1, 8) { crossing_model(random) } else { random_model(random) }.words();
     let plant = Plant::from_words(&words).expect("a random model passes its questions");
+    counts.crossing += any_crosses(&plant) as u64;
     let sizes = plant.sizes;
     let size = plant.table_words();
     counts.by_n[sizes.n] += 1;
@@ -381,7 +385,7 @@ fn main() {
     let seed = arguments.get(1).copied().unwrap_or(SEED);
     println!("seed {seed}, {models} random models");
     let counts = run(models, seed);
-    println!("models by n: {:?}", &counts.by_n[1..]);
+    println!("models by n: {:?}; with a start box that crosses the wall: {}", &counts.by_n[1..], counts.crossing);
     println!("answers: {:?}", counts.answers);
     println!(
         "passes answered {} (at most {} in one answer), literal passes compared {}",
