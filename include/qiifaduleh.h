@@ -68,7 +68,7 @@
  *
  *     Model     n, L, E, B, then the records, one after the other:
  *                 location    invariant box, rate box, start flag (1 or 0), start box (zeros if
- *                             the flag is 0)
+ *                             the flag is 0; it may stick out of the invariant)
  *                 switch      source location, target location, wall variable d, source side,
  *                             target side (0 low, 1 high), reset mask (2^i for variable i), guard
  *                             box, reset box
@@ -82,19 +82,21 @@
  *               the value and piece 1 from the value; both hold it. On the walls of the cut
  *               variable piece 0 is the whole face, and piece 1 is always absent. A face of a
  *               location that is not cut is one piece, piece 0. C is the number of locations that
- *               are cut, so there are 2n(L + C) pieces. A cut changes no run, and start boxes stay
- *               whole.
- *     Run       Starts in the start box of a location with start flag 1. A delay of t stays in its
- *               location and moves each level by at least t times its low rate and at most t times
- *               its high rate. A switch leads from its source location, with levels in its guard,
- *               to its target location, with levels in its reset box: the masked variables set to
- *               their reset value, the others unchanged. The levels always lie in the location's
+ *               are cut, so there are 2n(L + C) pieces. A cut changes no run, and start parts are
+ *               not cut to pieces.
+ *     Start     The start part of a location with start flag 1 is its start box cut to its
+ *               invariant. Where nothing is left, and under start flag 0, no run starts there.
+ *     Run       Starts in the start part of a location. A delay of t stays in its location and
+ *               moves each level by at least t times its low rate and at most t times its high
+ *               rate. A switch leads from its source location, with levels in its guard, to its
+ *               target location, with levels in its reset box: the masked variables set to their
+ *               reset value, the others unchanged. The levels always lie in the location's
  *               invariant. Levels and delays need not be whole numbers. A run meets a forbidden box
  *               if it starts in one of its location, or a delay or switch of it ends in one.
  *     Table     For each location the pieces of its 2n faces, face by face: its piece, or piece 0
  *               and then piece 1. A piece is a flag and a box: 1 and the reached part of it, or all
  *               zeros where none is reached.
- *     Pass      A pass widens each piece by what can be reached in one step from the start boxes
+ *     Pass      A pass widens each piece by what can be reached in one step from the start parts
  *               and from the pieces of the table before the pass, rounded outward, then cut to the
  *               piece. Table 0 is all zeros, table k is the table after k passes.
  *
@@ -386,7 +388,7 @@ enum qii_refusal {
     /* A location's rate box is not ordered, or has an end that is no rate. */
     QII_RATES = 12,
     /* A location's start flag is neither 0 with a start box of zeros, nor 1 with one that is
-       ordered and inside the invariant. */
+       ordered and has no end that is no level. */
     QII_START = 13,
 
     /* A switch names a location, a variable d or a side that does not exist, or its mask is not
@@ -419,7 +421,7 @@ enum qii_refusal {
     QII_TABLE_FACE = 32,
     /* A pass changes the table. */
     QII_TABLE_GROWS = 33,
-    /* A start box or a piece of the table touches a forbidden box. */
+    /* A start part or a piece of the table touches a forbidden box. */
     QII_TABLE_TOUCHES = 34,
     /* The table file does not begin with a whole field of tag 6 and length 4 whose count is 0 to
        2n(L + C). */
@@ -563,7 +565,8 @@ static inline const char *qii_meaning(uint32_t number)
     case QII_RATES:
         return "a location's rates are not ordered or not in the range of rates";
     case QII_START:
-        return "a location's start flag is not 0 or 1, or its start box does not fit";
+        return "a location's start flag is not 0 or 1, or its start box is not zeros, not ordered "
+               "or not in the range of levels";
     case QII_SWITCH_PLACE:
         return "a switch names a location, variable, side or mask that does not exist";
     case QII_SWITCH_BOXES:
@@ -588,7 +591,7 @@ static inline const char *qii_meaning(uint32_t number)
     case QII_TABLE_GROWS:
         return "a pass changes the table: a step from it leads outside it";
     case QII_TABLE_TOUCHES:
-        return "a start box or a piece of the table touches a forbidden box";
+        return "a start part or a piece of the table touches a forbidden box";
     case QII_TABLE_HEAD:
         return "the table file has no whole head field with a possible count of pieces";
     case QII_FACE_FIELD:
