@@ -350,7 +350,8 @@ uint32_t qii_write_table(const int32_t *model, size_t model_len, const int32_t *
 enum qii_answer {
     /* No run meets a forbidden box; the table is accepted; what was to be read or written is. */
     QII_SAFE = 100,
-    /* A part of the table touches a forbidden box. With other cuts the plant may be safe. */
+    /* A start part or a piece of the table touches a forbidden box. With other cuts the plant may be
+       safe. */
     QII_UNKNOWN = 101,
     /* The limit came before an answer. */
     QII_UNFINISHED = 102
@@ -388,7 +389,7 @@ enum qii_refusal {
     /* A location's rate box is not ordered, or has an end that is no rate. */
     QII_RATES = 12,
     /* A location's start flag is neither 0 with a start box of zeros, nor 1 with one that is
-       ordered and has no end that is no level. */
+       ordered and whose ends are all levels. */
     QII_START = 13,
 
     /* A switch names a location, a variable d or a side that does not exist, or its mask is not
@@ -479,8 +480,8 @@ enum qii_refusal {
 #define QII_TABLE_BYTES_MAX 96775
 
 /* The stack of a thread that makes any call, and of one that makes any but decide and check. Of it
-   decide and check use 203,000 bytes, qii_check 88,000, each of the others less than 3,000 (measured
-   by tests/c/stack.c); the rest is for the thread itself and for the caller. */
+   decide and check use up to 205,000 bytes, qii_check 83,000, each of the others less than 3,000
+   (measured by tests/c/stack.c); the rest is for the thread itself and for the caller. */
 #define QII_STACK_BYTES (256 * 1024)
 #define QII_STACK_BYTES_ON_WORDS (128 * 1024)
 
@@ -565,8 +566,8 @@ static inline const char *qii_meaning(uint32_t number)
     case QII_RATES:
         return "a location's rates are not ordered or not in the range of rates";
     case QII_START:
-        return "a location's start flag is not 0 or 1, or its start box is not zeros, not ordered "
-               "or not in the range of levels";
+        return "a location's start flag is not 0 or 1, or its start box is not zeros under flag 0, "
+               "or not ordered or not in the range of levels under flag 1";
     case QII_SWITCH_PLACE:
         return "a switch names a location, variable, side or mask that does not exist";
     case QII_SWITCH_BOXES:

@@ -8,7 +8,7 @@ use native.Mathlib.Omega.{arith}
 use borrow.Rule.Slice.PartMut.{putMid}
 use lib.IntN.{ℤ, pos}
 use lib.ListN.{length, set, take, drop}
-use lib.Seq.{length-take-le}
+use lib.Seq.{length-take-le, take-append-le}
 use Rattle.plant.specs.Box.{boxAt, absent, present}
 use Rattle.plant.specs.Model.{n#, L#}
 use Rattle.plant.specs.Pieces.{pieces}
@@ -21,34 +21,29 @@ use Rattle.checks.specs.Parts.{partWords, PartAt}
 
 -- ---- the start part
 
-take-front : (k : ℕ) (x y : List ℤ) → length (take k x) ≡ k → take k (x ++ y) ≡ take k x
-take-front zero x y e = refl
-take-front (suc k) [] y e = absurd (omega (arith, e))
-take-front (suc k) (z ∷ x) y e = ap (λ (s : List ℤ). z ∷ s) (take-front k x y (omega (arith, e)))
-
 -- a box put behind the flag 0, and then the flag 1 or none
-module _ (n k : ℕ) (x : List ℤ) (e : length (take (2 * n) x) ≡ 2 * n) where
-  flag-set : (words : List ℤ) → 0 < length words → faceRead n (set (putMid 1 k (set words 0 (pos 0)) x) 0 (pos 1)) 0 ≡ present (take (2 * n) x)
+module _ (n k : ℕ) (x : List ℤ) where
+  flag-set : 2 * n ≤ length x → (words : List ℤ) → 0 < length words → faceRead n (set (putMid 1 k (set words 0 (pos 0)) x) 0 (pos 1)) 0 ≡ present (take (2 * n) x)
   unfolding faceRead boxAt
-  flag-set [] l = absurd (omega arith)
-  flag-set (w ∷ words) l = ap present (take-front (2 * n) x _ e)
+  flag-set e [] l = absurd (omega arith)
+  flag-set e (w ∷ words) l = ap present (take-append-le (2 * n) x _ e)
 
   flag-left : (words : List ℤ) → 0 < length words → faceRead n (putMid 1 k (set words 0 (pos 0)) x) 0 ≡ absent
   unfolding faceRead
   flag-left [] l = absurd (omega arith)
   flag-left (w ∷ words) l = refl
 
--- how long what is lent behind the flag is
-pub behind-long : (words : List ℤ) → length words ≡ 13 → length (take (length (set words 0 (pos 0)) - 1) (drop 1 (set words 0 (pos 0)))) ≡ 12
-behind-long [] e = absurd (omega (arith, e))
-behind-long (w ∷ words) e = length-take-le (length (pos 0 ∷ words) - 1) words (omega arith) ∙ omega (arith, e)
+-- how long what is lent behind a flag is
+pub behind-long : (flag : ℤ) (words : List ℤ) → length words ≡ 13 → length (take (length (set words 0 flag) - 1) (drop 1 (set words 0 flag))) ≡ 12
+behind-long flag [] e = absurd (omega (arith, e))
+behind-long flag (w ∷ words) e = length-take-le (length (flag ∷ words) - 1) words (omega arith) ∙ omega (arith, e)
 
 module _ (m : List ℤ) (l k : ℕ) {r : Bool} {x out : List ℤ} (gives : Handed (n# m) r x out (startPart m l)) (words : List ℤ) (some : 0 < length words) where
-  pub start-there : r ≡ true → faceRead (n# m) (set (putMid 1 k (set words 0 (pos 0)) x) 0 (pos 1)) 0 ≡ startPart m l
-  start-there u = flag-set (n# m) k x (gives .sized) words some ∙ sym (gives .is-face ∙ ap (λ (b : Bool). cond b (present (take (2 * n# m) x)) absent) u)
+  pub start-there : 2 * n# m ≤ length x → r ≡ true → faceRead (n# m) (set (putMid 1 k (set words 0 (pos 0)) x) 0 (pos 1)) 0 ≡ startPart m l
+  start-there room u = flag-set (n# m) k x room words some ∙ sym (gives .is-face ∙ ap (λ (b : Bool). cond b (present (take (2 * n# m) x)) absent) u)
 
   pub start-gone : r ≡ false → faceRead (n# m) (putMid 1 k (set words 0 (pos 0)) x) 0 ≡ startPart m l
-  start-gone u = flag-left (n# m) k x (gives .sized) words some ∙ sym (gives .is-face ∙ ap (λ (b : Bool). cond b (present (take (2 * n# m) x)) absent) u)
+  start-gone u = flag-left (n# m) k x words some ∙ sym (gives .is-face ∙ ap (λ (b : Bool). cond b (present (take (2 * n# m) x)) absent) u)
 
 -- ---- part p of location l
 

@@ -16,7 +16,7 @@ ghost use Rattle.checks.specs.Links.{Linked};
 ghost use Rattle.checks.specs.Parts.{partWords, PartAt};
 
 // Links the forbidden boxes of each location, from the last to the first. A box has its number plus 1 here, and 0 is none:
-// `last` holds the last box of each location, and `before` the one before each box in its location.
+// `last` holds the last box of each location, and `before` the one before each box in its location. Both are lent all zero.
 pub fn link(model: &[i32], last: &mut [usize; 64], before: &mut [usize; 64])
     requires { ⌜ (modelQuestions (now model) ≡ 0) × Linked (now model) 0 (now last) (now before) ⌝ }
     ensures { λ _. ⌜ Linked (now (model .entry)) (B# (now (model .entry))) (now (last .exit)) (now (before .exit)) ⌝ }
@@ -40,7 +40,7 @@ fn parts_asked(earlier: usize, next: usize, last: usize) -> usize
     if last == 0 { 0 } else { next - earlier + 1 }
 }
 
-// The words of the start part of location l, its flag and its box, if parts of the location are asked.
+// Writes the words of the start part of location l, a flag and a box of up to six variables, if parts of the location are asked.
 fn start_words(model: &[i32], l: usize, parts: usize, words: &mut [i32])
     requires { ⌜ (modelQuestions (now model) ≡ 0) × (l < L# (now model)) × (length (now words) ≡ 13) ⌝ }
     ensures { λ _. ⌜ (0 < parts → faceRead (n# (now (model .entry))) (now (words .exit)) 0 ≡ startPart (now (model .entry)) l) ⌝ }
@@ -103,8 +103,7 @@ pub fn touching(
             let bounds = records::box_at(part, 1, n);
             let mut b = first_asked(part, last[l]);
             'boxes: while 0 < b {
-                let forbidden = records::forbidden_box(model, b - 1);
-                if delays::touches(n, inv, rate, bounds, forbidden) {
+                if delays::touches(n, inv, rate, bounds, records::forbidden_box(model, b - 1)) {
                     found = true;
                     break 'search;
                 }

@@ -1,5 +1,5 @@
-// The pass over a table (document 01, "Pass, ceiling"), with pieces for faces (document 02, T-12), and the parts from which it
-// steps. Both functions serve the crates above and are no calls of outsiders: model and table have passed their questions.
+// The pass over a table (document 01, "Pass, ceiling"), with pieces for faces (document 02, T-12), and the start part of a location,
+// from which it steps as from pieces (T-02). Both functions serve the crates above and are no calls of outsiders: model and table have passed their questions.
 ghost use mathlib.Core.Path.{_≡_};
 ghost use lib.ListN.{length};
 ghost use Rattle.plant.specs.Tables as T;

@@ -101,8 +101,8 @@ fn join_part(
     }
 }
 
-// Joins to the pieces of each face of location l the wall step from its start part, if there is one.
-fn join_cut(
+// Joins to the pieces of each face of location l the wall step from its start part, if there is one: holds words for it.
+fn join_started(
     model: &[i32],
     l: usize,
     n: usize,
@@ -122,7 +122,7 @@ fn join_cut(
     }
 }
 
-// The same: without start flag 1 no words are held for it.
+// The same, once the start flag is asked: without flag 1 no words are held, and none cleared.
 fn join_start(
     model: &[i32],
     l: usize,
@@ -137,7 +137,7 @@ fn join_start(
     ensures { λ _. ⌜ now (block .exit) ≡ joinedEach n (piecesWith n (cutFrom variable value)) (now (block .entry)) (wallsFrom n (now (inv .entry)) (now (rate .entry)) (cutFrom variable value) (startPart (now (model .entry)) l)) ⌝ }
 {
     if integers::same(records::start_flag(model, l), 1) {
-        join_cut(model, l, n, inv, rate, variable, value, block);
+        join_started(model, l, n, inv, rate, variable, value, block);
     }
 }
 

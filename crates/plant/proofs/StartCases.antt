@@ -64,7 +64,7 @@ pub record StartCases : Type 0 where
   pub crossing-table :
       tableAfter (startingY (pos 2) (pos 15)) 1
       ≡ (pos 1 ∷ box₂ 0 0 2 10) ++ replicate 10 (pos 0) ++ (pos 1 ∷ box₂ 0 8 10 10)
-  -- y 5..15 crosses it and falls: from y 10..15, where no run starts, x 10 would be met with y up to 5, where 3..5 is forbidden
+  -- y 5..15 crosses it and falls: from y 15, where no run starts, x 10 would be met with y up to 5, where 3..5 is forbidden
   pub overhang-passes : modelQuestions overhang ≡ 0
   pub overhang-answer : analysis overhang 44 ≡ Safe 1
   pub overhang-table : tableAfter overhang 1 ≡ overhangTable 10 0 0

@@ -4,8 +4,7 @@ use mathlib.Core.Path.{_≡_, refl, ap, _∙_, subst}
 use mathlib.Core.Logic.{⊎-elim}
 use mathlib.Core.Bool.{Bool, true, false, cond, _&&_, _||_}
 use mathlib.Core.List.{List}
-use Prim.Native.Nat.{ℕ, zero, suc, _+_, _*_, _<_}
-use native.Mathlib.Nat.{mul-le-mul-right}
+use Prim.Native.Nat.{ℕ, zero, suc, _*_, _<_}
 use native.Mathlib.Omega.{arith}
 use lib.Dec.{T, leb}
 use lib.IntN.{ℤ, pos, negℤ}
@@ -20,7 +19,7 @@ use Rattle.plant.specs.declared.Answer.{Answer}
 use Rattle.plant.specs.declared.Answer.the-variants.{Safe, Unknown}
 use Rattle.plant.specs.Ask.{ask, _then_, first}
 use Rattle.plant.specs.Box.{low, high, Inside, Face, unlessEmpty, faceWords, onBox, joins}
-use Rattle.plant.specs.Model.{n#, L#, E#, B#, locationAt, switchAt, forbiddenAt, cutAt, modelSize, locationSize, invariant, rate, startFlag, startBox, source}
+use Rattle.plant.specs.Model.{n#, L#, E#, B#, modelSize, invariant, rate, startFlag, startBox, source}
 use Rattle.plant.specs.Questions.{levelLimit, rateLimit, boxOk, insideOk, zerosOk, startOk, locationQuestions, rangesQuestions, recordsQuestions, modelQuestions}
 use Rattle.plant.specs.Pieces.{perFace, pieces, pieceFace}
 use Rattle.plant.specs.Tables.{pieceOf, startPart, partOf, toPiece, wallStepAt, wallFrom, switchOnto, wallsJoined, switchesJoined, newPiece, pass, tableAfter, partTouches, touching}
@@ -28,8 +27,9 @@ use Rattle.plant.specs.Calls.{unchanged, certificateQuestions, tableQues
 use Rattle.plant.specs.StartsInside.{SameAnswers, AsBefore}
 use Rattle.plant.specs.StartsInside as before
 use Rattle.plant.proofs.Asks.{ask-yes, then-both, asked, first-each}
-use Rattle.plant.proofs.Boxes.{length-boxAt, cut-whole, not-empty, joins-ext}
+use Rattle.plant.proofs.Boxes.{cut-whole, not-empty, joins-ext}
 use Rattle.plant.proofs.Passed.{Passed, passed, inside-ordered, inside-is}
+use Rattle.plant.proofs.StartPart.{length-start}
 use Rattle.plant.proofs.Tables.{table-ext}
 
 -- ---- the questions: every number but 13 is given as it was
@@ -86,15 +86,11 @@ module _ (m : List ℤ) where
 -- ---- the start part, where the start box lies inside the invariant
 
 module _ (m : List ℤ) (ok : Passed m) (l : ℕ) (u : l < L# m) where
-  length-start : length (startBox m l) ≡ 2 * n# m
-  unfolding startBox modelSize cutAt forbiddenAt switchAt locationAt
-  length-start = length-boxAt (n# m) m (locationAt m l + (4 * n# m + 1)) (omega (arith, ok .long, mul-le-mul-right (locationSize (n# m)) u))
-
   start-whole : (startFlag m l ≡ pos 1 → Inside (n# m) (startBox m l) (invariant m l)) → startPart m l ≡ before.startPart m l
   unfolding startPart before.startPart
   start-whole p = by-test₂ _≡_ (eqZ (startFlag m l) (pos 1))
       (λ h. let e : startFlag m l ≡ pos 1 = eqZ-eq (startFlag m l) (pos 1) h in
-      ap (unlessEmpty (n# m)) (cut-whole (n# m) (startBox m l) (invariant m l) length-start (p e)) ∙ not-empty (n# m) (startBox m l) (ok .of-location l u .start-ordered e))
+      ap (unlessEmpty (n# m)) (cut-whole (n# m) (startBox m l) (invariant m l) (length-start m l (ok .long) u) (p e)) ∙ not-empty (n# m) (startBox m l) (ok .of-location l u .start-ordered e))
       (λ _. refl)
 
 -- ---- a model that passed then

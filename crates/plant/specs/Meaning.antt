@@ -188,7 +188,8 @@ pub record Meaning : Type 0 where
       (n mask : ℕ) (guard guard′ reset reset′ inv : List ℤ) → Inside n guard guard′ → Inside n reset reset′
       → (g g′ : Face) → FaceIn n g g′
       → FaceIn n (switchStep n mask guard reset inv g) (switchStep n mask guard′ reset′ inv g′)
-  -- the start part of a location holds exactly the levels at which a run may start there, and is never empty (document 02, T-02)
+  -- the start part of a location holds exactly the levels at which a run may start there; where there is one, it is not empty
+  -- (document 02, T-02)
   pub start-part :
       (m : List ℤ) (l D : ℕ) (x : List ℤ) → l < L# m → length x ≡ n# m → 0 < D
       → Holds (n# m) D x (startPart m l) ↔ IsInitial m D (record { location = l; levels = x })

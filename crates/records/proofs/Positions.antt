@@ -8,6 +8,7 @@ use lib.IntN.{ℤ}
 use lib.ListN.{length}
 use Rattle.plant.specs.Model.{n#, L#, E#, B#, headSize, locationSize, switchSize, forbiddenSize, locationAt, invariant, rate, startBox, switchAt, guard, reset, forbiddenAt, forbiddenBox, cutSize, cutAt, modelSize}
 use Rattle.plant.proofs.Boxes.{length-boxAt}
+use Rattle.plant.proofs.StartPart.{length-start}
 use Rattle.records.specs.Whole.{Head, Whole}
 
 -- record i of some records of w words ends with them
@@ -72,8 +73,7 @@ module _ (m : List ℤ) (w : Whole m) where
   length-rate l k = length-boxAt (n# m) m (locationAt m l + 2 * n# m) (omega (arith, location-within l k))
 
   pub length-startBox : (l : ℕ) → l < L# m → length (startBox m l) ≡ 2 * n# m
-  unfolding startBox
-  length-startBox l k = length-boxAt (n# m) m (locationAt m l + (4 * n# m + 1)) (omega (arith, location-within l k))
+  length-startBox l = length-start m l (w .long)
 
   pub length-guard : (e : ℕ) → e < E# m → length (guard m e) ≡ 2 * n# m
   unfolding guard

@@ -1,4 +1,4 @@
--- How the steps hand over a face: by the answer there is none, or its box stands at the front of the lent words. Where there is
+-- How a step, the cut of a box and a start part are handed over, as a face: by the answer there is none, or its box stands at the front of the lent words. Where there is
 -- none, nothing is said of the first places; the rest is unchanged.
 use mathlib.Core.Path.{_≡_}
 use mathlib.Core.Bool.{Bool, cond}

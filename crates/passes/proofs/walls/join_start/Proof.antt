@@ -19,14 +19,14 @@ start-flag-requires c κs = (whole (c .args .model .now) (c .pre .passes), c .pr
 same-requires : tie.Need-same-requires
 same-requires c κs = search needs
 
-join-cut-requires : tie.Need-join-cut-requires
-join-cut-requires c κs = let s = c .before .before .before .before in rw (toZ-ofZ (s .fits .variable), toZ-ofZ (s .fits .value)) (s .pre)
+join-started-requires : tie.Need-join-started-requires
+join-started-requires c κs = let s = c .before .before .before .before in rw (toZ-ofZ (s .fits .variable), toZ-ofZ (s .fits .value)) (s .pre)
 
 same-length : tie.Need-same-length
 same-length c = search needs
 
 returns : tie.Need-returns
-returns c = let s = c .before .before .before .before .before .before in rw (toZ-ofZ (s .fits .variable), toZ-ofZ (s .fits .value)) at (c .before .join-cut .ensures)
+returns c = let s = c .before .before .before .before .before .before in rw (toZ-ofZ (s .fits .variable), toZ-ofZ (s .fits .value)) at (c .before .join-started .ensures)
 
 returns-2 : tie.Need-returns-2
 returns-2 c =
@@ -40,7 +40,7 @@ join-start-spec =
     (tie.spec
     start-flag-requires
     same-requires
-    join-cut-requires
+    join-started-requires
     same-length
     returns
     returns-2)

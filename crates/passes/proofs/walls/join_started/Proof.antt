@@ -4,8 +4,8 @@ use native.Mathlib.Omega.{arith}
 use mir.Facts.{toZ-ofZ}
 use borrow.Author.Needs.{needs}
 use Rattle.passes.proofs.Handing.{start-joins-nothing, start-is, start-walls, start-joins}
-use Rattle.passes.proofs.walls.join_cut.Statement.{statement}
-use Rattle.passes.proofs.walls.join_cut.Tie as tie
+use Rattle.passes.proofs.walls.join_started.Statement.{statement}
+use Rattle.passes.proofs.walls.join_started.Tie as tie
 
 mul-end : tie.Need-mul-end
 mul-end c = search needs
@@ -43,8 +43,8 @@ returns-2 c =
     let a = s .args in
     start-joins-nothing (a .model .now) (a .l) (a .n) (a .inv .now) (a .rate .now) (a .variable) (a .value) (a .block .now) (s .pre) (start-is (a .model .now) (a .l) (a .n) (a .inv .now) (a .rate .now) (a .variable) (a .value) (a .block .now) (s .pre) (c .before .before .start-part .ensures) (c .if1 .left))
 
-pub join-cut-spec : {M : Type 1} → statement M
-join-cut-spec =
+pub join-started-spec : {M : Type 1} → statement M
+join-started-spec =
     tie.close
     (tie.spec
     mul-end
