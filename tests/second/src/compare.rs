@@ -385,14 +385,15 @@ impl Comparison {
 
     pub(crate) fn damaged_model(&mut self, plant: &Plant, model: &[u8]) -> Vec<u8> {
         if self.random.chance(9, 10) {
-            return self.damaged_beside_starts(plant, model);
+            return self.otherwise_damaged_model(plant, model);
         }
         let (words, kind) = damaged_starts(&mut self.random, plant);
         self.note_damage("model", START_DAMAGE[kind].0);
         file_of_words(&plant.sizes, &words)
     }
 
-    fn damaged_beside_starts(&mut self, plant: &Plant, model: &[u8]) -> Vec<u8> {
+    /// A model file with a change that is not one of `START_DAMAGE`.
+    fn otherwise_damaged_model(&mut self, plant: &Plant, model: &[u8]) -> Vec<u8> {
         let random = &mut self.random;
         match random.below(26) {
             20.. => {

@@ -267,8 +267,8 @@ fn out(random: &mut Random, edge: i32) -> i32 {
     sign * (edge + random.pick(&[0, 1, 1, 1, 1000]))
 }
 
-/// One change to variable i of a location, or to its start flag. A start box that sticks out of the
-/// invariant is none that is refused.
+/// One change to variable i of a location, or to its start flag. Two of them let a start box stick out of
+/// the invariant, which is not refused.
 fn location_edit(random: &mut Random, plant: &Plant, i: usize) -> (usize, i32) {
     let (sizes, words) = (plant.sizes, plant.words());
     let at = sizes.location_at(random.below(sizes.locations));
@@ -366,7 +366,10 @@ fn changed_start(random: &mut Random, location: &Location, kind: usize) -> (i32,
             start.fill(0);
             start[face] = random.pick(&[1, -1, LEVEL, i32::MIN]);
         }
-        9 => start[face] = (wall + outward).clamp(-LEVEL, LEVEL),
+        9 => {
+            start[2 * i..2 * i + 2].copy_from_slice(&location.invariant[2 * i..2 * i + 2]);
+            start[face] = (wall + outward).clamp(-LEVEL, LEVEL);
+        }
         10 => start[2 * i..2 * i + 2].copy_from_slice(&[wall.min(behind), wall.max(behind)]),
         11 => start[2 * i..2 * i + 2].fill(behind),
         12 => start.chunks_exact_mut(2).for_each(|range| range.copy_from_slice(&[-LEVEL, LEVEL])),

@@ -29,14 +29,60 @@ pub fn plant_p_from(start: [i32; 4]) -> Draft {
     draft
 }
 
+/// The words of P with this start flag and start box, which need not pass the questions.
+pub fn plant_p_with_start(flag: i32, start: [i32; 4]) -> Vec<i32> {
+    let mut words = plant_p().words();
+    words[12] = flag;
+    words[13..17].copy_from_slice(&start);
+    words
+}
+
+/// P from x 3, y 4..15, with x 3, y 5..6 forbidden, which only the start part, y 4..10, touches.
+pub fn plant_p_starting_forbidden() -> Draft {
+    Draft { forbidden: vec![(0, vec![3, 3, 5, 6])], ..plant_p_from([3, 3, 4, 15]) }
+}
+
+/// Its table at rest, face 3 alone, with x 3..9: y = 10 is met after 0 to 6, and x = 10 with y from 11 up.
+pub fn plant_p_starting_forbidden_table() -> Vec<i32> {
+    [vec![0; 15], vec![1, 3, 9, 10, 10]].concat()
+}
+
+/// P with y falling by 1 to 2, from another start box, and with another forbidden box.
+fn plant_p_falling(start: [i32; 4], forbidden: [i32; 4]) -> Draft {
+    let mut draft = plant_p_from(start);
+    draft.locations[0].rates = vec![1, 1, -2, -1];
+    draft.forbidden = vec![(0, forbidden.to_vec())];
+    draft
+}
+
+/// P with y falling by 1 to 2, from x 0, y 5..15, and x 10, y 3..5 forbidden. x = 10 is met after 10: from the
+/// start part, y 5..10, with y 0; from the whole start box it would be with y 0..5.
+pub fn plant_p_falling_short() -> Draft {
+    plant_p_falling([0, 0, 5, 15], [10, 10, 3, 5])
+}
+
 /// P with y falling by 1 to 2, from x 0, y 11..15, and y 8..9 forbidden. Under a wall at y = 10 that start box
 /// lies behind the wall, and there is no start; under one at 15 the forbidden box is touched.
 pub fn plant_p_behind(wall: i32) -> Draft {
-    let mut draft = plant_p_from([0, 0, 11, 15]);
+    let mut draft = plant_p_falling([0, 0, 11, 15], [0, 10, 8, 9]);
     draft.locations[0].invariant[3] = wall;
-    draft.locations[0].rates = vec![1, 1, -2, -1];
-    draft.forbidden = vec![(0, vec![0, 10, 8, 9])];
     draft
+}
+
+/// A start part on both sides of its location's cut, of a start box that crosses walls. On x = 20 t is 0..20
+/// from the part x 0..20; 0..10 from its half above the cut at 10 alone (from the half below it y leaves its
+/// range before); and 0..25 from the whole start box, x -5..25.
+pub fn start_part_across_a_cut() -> Draft {
+    Draft {
+        n: 3,
+        locations: vec![LocationDraft {
+            invariant: vec![0, 20, 0, 10, 0, 40],
+            rates: vec![1; 6],
+            start: Some(vec![-5, 25, 6, 6, -3, 0]),
+        }],
+        cuts: vec![(0, 0, 10)],
+        ..Draft::default()
+    }
 }
 
 /// P's answer's table.

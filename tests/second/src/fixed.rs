@@ -6,7 +6,10 @@
 use crate::compare::{hex, written_table, Comparison, Difference, MOST_ROOM};
 use crate::draft::{grid, Draft};
 use crate::examples;
-use crate::files::{field, file_of_words, model_file, model_of_file, table_file};
+use crate::exports::{Call, Input};
+use crate::files::{field, file_of_words, model_file, model_of_file, parse_table, table_file};
+use crate::fixed_calls::Whole;
+use crate::lending::Lengths;
 use crate::model::{Plant, LEVEL, RATE};
 use crate::samples;
 
@@ -96,6 +99,35 @@ fn p_up_to(level: i32) -> Vec<u8> {
     model_file(&draft.words())
 }
 
+/// Tables of as many words as the library's calls hold at first, 160, and then, 1,280, with those next to
+/// them: variables, cells of a row, how many of them are cut, words, passes.
+const TABLES_HELD: [(usize, usize, usize, usize, u64); 8] = [
+    (1, 26, 0, 156, 1),
+    (1, 27, 0, 162, 1),
+    (2, 7, 1, 160, 3),
+    (2, 8, 0, 160, 3),
+    (2, 8, 1, 180, 3),
+    (2, 9, 0, 180, 3),
+    (2, 64, 0, 1_280, 3),
+    (2, 64, 1, 1_300, 3),
+];
+
+/// A row of cells, so many of them cut, all with rates of 1 to 2 and a start box across their low wall. Of one
+/// variable the first pass fills all faces. Of two it fills those on y = 10 from x = 2 of each cell on; the
+/// second adds what comes over the walls between the cells, and the third what that reaches on y = 10.
+fn row_of_starts(n: usize, cells: usize, cuts: usize) -> Draft {
+    let mut walls = vec![vec![0, 10]; n];
+    walls[0] = (0..=cells as i32).map(|wall| 10 * wall).collect();
+    let mut draft = grid(&walls, |_| [1, 2].repeat(n));
+    for location in &mut draft.locations {
+        let mut start = [2, 5].repeat(n);
+        start[..2].copy_from_slice(&[location.invariant[0] - 3, location.invariant[0] + 4]);
+        location.start = Some(start);
+    }
+    draft.cuts = (0..cuts).map(|l| (l, 0, 10 * l as i32 + 5)).collect();
+    draft
+}
+
 /// A row of forty cells of one variable, of which some are filled from the one before, with as many
 /// switches and forbidden boxes as make a model of that many words, 480 or somewhat more.
 fn row_of_cells(size: usize) -> Draft {
@@ -117,6 +149,7 @@ impl Comparison {
         self.tables_of_p()?;
         self.largest_model()?;
         self.words_held()?;
+        self.tables_held()?;
         self.source_000()?;
         self.sample_models()?;
         self.lengths_and_bits()?;
@@ -154,6 +187,20 @@ impl Comparison {
         expect(label, wanted, number)?;
         self.counts.fixed += 1;
         Ok(())
+    }
+
+    /// check and qii_check on a table, whose number the document gives.
+    pub(crate) fn checks_give(
+        &mut self,
+        label: &str,
+        draft: &Draft,
+        table: &[i32],
+        number: u32,
+    ) -> Result<(), Difference> {
+        let whole = Whole::new(draft, table.to_vec());
+        self.gives(label, Call::Check, &whole.input(Call::Check, 0), &whole.lengths(Call::Check), (number, 0))?;
+        let (model, table) = (whole.input(Call::ReadModel, 0).file, whole.input(Call::ReadTable, 0).file);
+        self.check_gives(label, model, table, number as u64)
     }
 
     fn answers_of_p(&mut self) -> Result<(), Difference> {
@@ -259,6 +306,30 @@ impl Comparison {
                 self.check("a row of cells, changed", &model, &table)?;
                 self.counts.fixed += 2;
             }
+        }
+        Ok(())
+    }
+
+    /// Such tables, in decide and in both checks: the answer's, without its last face, short of one word, and
+    /// with the last cell forbidden.
+    fn tables_held(&mut self) -> Result<(), Difference> {
+        for (n, cells, cuts, size, passes) in TABLES_HELD {
+            let label = format!("{cells} cells of {n} variables, {cuts} cut");
+            let mut draft = row_of_starts(n, cells, cuts);
+            let words = draft.words();
+            let plant = Plant::from_words(&words).expect("a row of cells passes its questions");
+            assert_eq!(plant.table_words(), size);
+            let buffer = self.decide_gives(&label, &model_file(&words), MOST_ROOM, 9, answer(100, passes))?;
+            let table = parse_table(&plant, written_table(&plant, &buffer)).expect("the answer's table reads");
+            self.checks_give(&label, &draft, &table, 100)?;
+            let mut without_the_last = table.clone();
+            without_the_last[size - plant.sizes.face_words()..].fill(0);
+            self.checks_give(&label, &draft, &without_the_last, 33)?;
+            let short = Input { model: &words, table: &table[..size - 1], file: &[], limit: 0 };
+            self.gives(&label, Call::Check, &short, &Lengths::default(), (20, 0))?;
+            draft.forbidden = vec![(cells - 1, draft.locations[cells - 1].invariant.clone())];
+            self.decide_gives(&label, &model_file(&draft.words()), MOST_ROOM, 9, answer(101, 0))?;
+            self.checks_give(&label, &draft, &table, 34)?;
         }
         Ok(())
     }

@@ -2,22 +2,18 @@
 //! edges and in its order, and answers worked out by hand.
 
 use crate::compare::{Comparison, Difference, MOST_ROOM};
-use crate::draft::{Draft, LocationDraft};
+use crate::draft::Draft;
 use crate::examples;
 use crate::exports::{Call, Input};
 use crate::files::{field, file_of_words};
 use crate::fixed::answer;
-use crate::fixed_calls::Whole;
 use crate::lending::Lengths;
 use crate::model::{Plant, Sizes, LEVEL, RATE};
 
 const LIMIT: u32 = 9;
 
-/// Where P's start flag stands in its words; the start box follows.
-const FLAG_OF_P: usize = 12;
-
 /// Start flags and start boxes of P, x and y 0..10, and the number of question 13; 100 if it is yes.
-const STARTS_OF_P: [(i32, [i32; 4], u32); 38] = [
+pub const STARTS_OF_P: [(i32, [i32; 4], u32); 40] = [
     (1, [0, 0, 2, 5], 100),
     (1, [0, 10, 0, 10], 100),
     (1, [0, 0, 0, 0], 100),
@@ -30,6 +26,7 @@ const STARTS_OF_P: [(i32, [i32; 4], u32); 38] = [
     (1, [-2, -1, 2, 5], 100),
     (1, [0, 0, 11, 15], 100),
     (1, [11, 12, 11, 15], 100),
+    (1, [-7, 17, 11, 11], 100),
     // The level range.
     (1, [-LEVEL, LEVEL, -LEVEL, LEVEL], 100),
     (1, [-LEVEL, -LEVEL, 2, 5], 100),
@@ -62,6 +59,7 @@ const STARTS_OF_P: [(i32, [i32; 4], u32); 38] = [
     (-1, [0, 0, 2, 5], 13),
     (2, [0, 0, 0, 0], 13),
     (i32::MIN, [0, 0, 11, 15], 13),
+    (i32::MAX, [0, 0, 0, 0], 13),
 ];
 
 /// Places of words, and what stands there then.
@@ -105,74 +103,97 @@ impl Answered {
     }
 }
 
+fn answered_as(label: &'static str, draft: Draft, code: u32, passes: u32, records: &[&[i32]]) -> Answered {
+    Answered { label, draft, code, passes, records: records.iter().map(|record| record.to_vec()).collect() }
+}
+
 /// P from another start box, with P's forbidden box: safe after one pass, or at once if nothing is reached.
-fn p_from(label: &'static str, start: [i32; 4], records: &[[i32; 6]]) -> Answered {
-    let passes = !records.is_empty() as u32;
-    let records = records.iter().map(|record| record.to_vec()).collect();
-    Answered { label, draft: examples::plant_p_from(start), code: 100, passes, records }
+fn p_from(label: &'static str, start: [i32; 4], records: &[&[i32]]) -> Answered {
+    answered_as(label, examples::plant_p_from(start), 100, !records.is_empty() as u32, records)
 }
 
 /// Plants of one location worked out by hand.
 fn answered() -> Vec<Answered> {
-    let all = [-LEVEL, LEVEL, -LEVEL, LEVEL];
-    let unguarded = |draft: Draft| Draft { forbidden: vec![], ..draft };
-    let answered = |label, draft, code, passes, records| Answered { label, draft, code, passes, records };
-    let whole = [[0, 0, 0, 0, 0, 10], [0, 1, 10, 10, 0, 10], [0, 2, 0, 10, 0, 0], [0, 3, 0, 10, 10, 10]];
+    let all = || examples::plant_p_from([-LEVEL, LEVEL, -LEVEL, LEVEL]);
+    let unguarded = Draft { forbidden: vec![], ..all() };
+    let mut flat = examples::plant_p_from([0, 0, 3, 8]);
+    flat.locations[0].invariant = vec![0, 10, 5, 5];
+    let whole: [&[i32]; 4] =
+        [&[0, 0, 0, 0, 0, 10], &[0, 1, 10, 10, 0, 10], &[0, 2, 0, 10, 0, 0], &[0, 3, 0, 10, 10, 10]];
+    let falling: [&[i32]; 4] =
+        [&[0, 0, 0, 0, 5, 10], &[0, 1, 10, 10, 0, 0], &[0, 2, 2, 10, 0, 0], &[0, 3, 0, 0, 10, 10]];
+    // The whole box would be on y = 5 after 0 to 2, with x 0..2.
+    let on_the_line: [&[i32]; 3] = [&[0, 0, 0, 0, 5, 5], &[0, 2, 0, 0, 5, 5], &[0, 3, 0, 0, 5, 5]];
     vec![
-        p_from("y 2..15", [0, 0, 2, 15], &[[0, 0, 0, 0, 2, 10], [0, 3, 0, 8, 10, 10]]),
-        p_from("y 2 to the last level", [0, 0, 2, LEVEL], &[[0, 0, 0, 0, 2, 10], [0, 3, 0, 8, 10, 10]]),
+        p_from("y 2..15", [0, 0, 2, 15], &[&[0, 0, 0, 0, 2, 10], &[0, 3, 0, 8, 10, 10]]),
+        p_from("y 2 to the last level", [0, 0, 2, LEVEL], &[&[0, 0, 0, 0, 2, 10], &[0, 3, 0, 8, 10, 10]]),
         // Of x only the wall is left: P's own start part, and P's table.
-        p_from("x -5..0, y 2..5", [-5, 0, 2, 5], &[[0, 0, 0, 0, 2, 5], [0, 3, 2, 8, 10, 10]]),
-        p_from("y 10..15", [0, 0, 10, 15], &[[0, 0, 0, 0, 10, 10], [0, 3, 0, 0, 10, 10]]),
+        p_from("x -5..0, y 2..5", [-5, 0, 2, 5], &[&[0, 0, 0, 0, 2, 5], &[0, 3, 2, 8, 10, 10]]),
+        p_from("y 10..15", [0, 0, 10, 15], &[&[0, 0, 0, 0, 10, 10], &[0, 3, 0, 0, 10, 10]]),
         p_from("y 11..15", [0, 0, 11, 15], &[]),
         // The whole box would come to x = 0 after 1 to 5, with y 3..10: behind the wall it is no start.
         p_from("x -5..-1, y 2..5", [-5, -1, 2, 5], &[]),
         p_from("x -5..-1, y 11..15", [-5, -1, 11, 15], &[]),
-        // Falling, the whole box would come to y 8..9, which is forbidden.
-        answered("P falling, y 11..15", examples::plant_p_behind(10), 100, 0, vec![]),
-        answered("P falling, y 11..15 under walls at 15", examples::plant_p_behind(15), 101, 0, vec![]),
-        answered("all levels", examples::plant_p_from(all), 101, 0, vec![]),
-        answered(
-            "all levels, nothing forbidden",
-            unguarded(examples::plant_p_from(all)),
-            100,
-            1,
-            whole.iter().map(|record| record.to_vec()).collect(),
-        ),
-        // P cut at x = 5, from y 2..15: x 0..8 on y = 10 in two pieces.
-        answered(
-            "P cut, y 2..15",
-            Draft { cuts: vec![(0, 0, 5)], ..examples::plant_p_from([0, 0, 2, 15]) },
-            100,
-            1,
-            vec![vec![0, 0, 0, 0, 0, 2, 10], vec![0, 3, 0, 0, 5, 10, 10], vec![0, 3, 1, 5, 8, 10, 10]],
-        ),
+        // Falling, the whole boxes would come to what is forbidden.
+        answered_as("P falling, y 5..15", examples::plant_p_falling_short(), 100, 1, &falling),
+        answered_as("P falling, y 11..15", examples::plant_p_behind(10), 100, 0, &[]),
+        answered_as("P falling, y 11..15 under walls at 15", examples::plant_p_behind(15), 101, 0, &[]),
+        answered_as("all levels", all(), 101, 0, &[]),
+        answered_as("all levels, nothing forbidden", unguarded, 100, 1, &whole),
+        answered_as("y 3..8 in an invariant of zero width", flat, 100, 1, &on_the_line),
     ]
 }
 
-/// A start part on both sides of its location's cut is left whole. On x = 20 t is 0..20 from the part
-/// x 0..20, 0..10 from its half above the cut at 10 (from the half below y leaves its range before), and
-/// would be 0..25 from the start box, x -5..25.
-fn left_whole() -> Draft {
-    Draft {
-        n: 3,
-        locations: vec![LocationDraft {
-            invariant: vec![0, 20, 0, 10, 0, 40],
-            rates: vec![1; 6],
-            start: Some(vec![-5, 25, 6, 6, -3, 0]),
-        }],
-        cuts: vec![(0, 0, 10)],
-        ..Draft::default()
-    }
+/// The same with the location cut at x = 5.
+fn answered_with_a_cut() -> Vec<Answered> {
+    // x 0..8 on y = 10 in two pieces.
+    let in_pieces: [&[i32]; 3] = [&[0, 0, 0, 0, 0, 2, 10], &[0, 3, 0, 0, 5, 10, 10], &[0, 3, 1, 5, 8, 10, 10]];
+    vec![
+        answered_as("P cut, y 2..15", cut(examples::plant_p_from([0, 0, 2, 15])), 100, 1, &in_pieces),
+        answered_as("P cut and falling, y 11..15", cut(examples::plant_p_behind(10)), 100, 0, &[]),
+    ]
 }
 
-/// The words of P with this start, and its file, whether it passes the questions or not.
-fn p_with_start(flag: i32, start: &[i32; 4]) -> (Vec<i32>, Vec<u8>) {
-    let mut words = examples::plant_p().words();
-    words[FLAG_OF_P] = flag;
-    words[FLAG_OF_P + 1..FLAG_OF_P + 5].copy_from_slice(start);
-    let file = file_of_words(&Sizes { n: 2, locations: 1, switches: 0, forbidden: 1 }, &words);
-    (words, file)
+/// A plant of one location cut at x = 5.
+fn cut(draft: Draft) -> Draft {
+    Draft { cuts: vec![(0, 0, 5)], ..draft }
+}
+
+/// A table of P from another start box, and the checker's number.
+type OfTable = (&'static str, Draft, Vec<i32>, u32);
+
+fn tables() -> Vec<OfTable> {
+    let (p, of_p, wider) = (examples::plant_p_from, examples::plant_p_table, examples::plant_p_wider);
+    let none = || vec![0; 20];
+    let face_3 = examples::plant_p_starting_forbidden_table;
+    vec![
+        ("P's table, y 2..15", p([0, 0, 2, 15]), of_p(), 33),
+        ("the wider table, y 2..15", p([0, 0, 2, 15]), wider(), 100),
+        ("no faces, y 2..15", p([0, 0, 2, 15]), none(), 33),
+        ("P's table, x -5..0", p([-5, 0, 2, 5]), of_p(), 100),
+        ("the wider table, x -5..0", p([-5, 0, 2, 5]), wider(), 100),
+        ("P's table, y 10..15", p([0, 0, 10, 15]), of_p(), 33),
+        ("no faces, y 10..15", p([0, 0, 10, 15]), none(), 33),
+        ("P's table, y 11..15", p([0, 0, 11, 15]), of_p(), 100),
+        ("no faces, y 11..15", p([0, 0, 11, 15]), none(), 100),
+        ("no faces, P falling", examples::plant_p_behind(10), none(), 100),
+        ("no faces, P falling, walls at 15", examples::plant_p_behind(15), none(), 33),
+        ("face 3 alone, x 3, y 4..15", p([3, 3, 4, 15]), face_3(), 100),
+        ("the same, only the start part touches", examples::plant_p_starting_forbidden(), face_3(), 34),
+    ]
+}
+
+/// The same with the location cut at x = 5: 8 pieces of 5 words, the last two of them on y = 10.
+fn tables_of_pieces() -> Vec<OfTable> {
+    let with = |first: [i32; 5], second: [i32; 5]| [&[0; 30][..], &first, &second].concat();
+    let both = || with([1, 3, 5, 10, 10], [1, 5, 9, 10, 10]);
+    let p = |start| cut(examples::plant_p_from(start));
+    vec![
+        ("P cut's table, y 2..15", p([0, 0, 2, 15]), examples::plant_p_cut_table(), 33),
+        ("face 3 cut, x 3, y 4..15", p([3, 3, 4, 15]), both(), 100),
+        ("its first piece alone", p([3, 3, 4, 15]), with([1, 3, 5, 10, 10], [0; 5]), 33),
+        ("both, only the start part touches", cut(examples::plant_p_starting_forbidden()), both(), 34),
+    ]
 }
 
 fn unwanted(label: &str, wanted: impl std::fmt::Debug, found: impl std::fmt::Debug) -> Difference {
@@ -184,19 +205,23 @@ const ON_WORDS: [Call; 5] = [Call::Check, Call::Analyse, Call::ReadTable, Call::
 
 impl Comparison {
     pub(crate) fn fixed_starts(&mut self) -> Result<(), Difference> {
+        let sizes = Sizes { n: 2, locations: 1, switches: 0, forbidden: 1 };
         for (flag, start, number) in STARTS_OF_P {
             let label = format!("P with flag {flag} and {start:?}");
-            let (words, file) = p_with_start(flag, &start);
+            let words = examples::plant_p_with_start(flag, start);
+            let file = file_of_words(&sizes, &words);
             // P's ceiling does not look at starts.
             self.asked_of_words(&label, &words, number, 44)?;
             self.asked_of_file(&label, &file, words.len(), number)?;
         }
         self.asked_in_order()?;
-        for case in answered() {
+        for case in answered().into_iter().chain(answered_with_a_cut()) {
             self.answered_by_hand(&case)?;
         }
-        self.left_whole()?;
-        self.tables_of_starts()?;
+        self.not_cut_to_pieces()?;
+        for (label, draft, table, number) in tables().into_iter().chain(tables_of_pieces()) {
+            self.checks_give(label, &draft, &table, number)?;
+        }
         self.one_recipe()
     }
 
@@ -284,50 +309,19 @@ impl Comparison {
         Ok(())
     }
 
-    /// The start part of a location that is cut.
-    fn left_whole(&mut self) -> Result<(), Difference> {
-        let draft = left_whole();
-        let words = draft.words();
+    /// A start part is not cut to pieces.
+    fn not_cut_to_pieces(&mut self) -> Result<(), Difference> {
+        let label = "a start part across a cut";
+        let words = examples::start_part_across_a_cut().words();
         let plant = Plant::from_words(&words).expect("a start box across walls passes its questions");
         let size = plant.table_words();
         let lengths = Lengths { words: size, work: size, file: 0 };
         let input = Input { model: &words, table: &[], file: &[], limit: 1 };
-        let left = self.call("a start part left whole", Call::Analyse, &input, &lengths, Default::default())?;
+        let left = self.call(label, Call::Analyse, &input, &lengths, Default::default())?;
         self.counts.fixed += 1;
         let (wanted, found) = ([1, 20, 20, 6, 10, 0, 20], &left.words[plant.face_places(0, 1)][..7]);
         if found != wanted {
-            return Err(unwanted("a start part left whole", wanted, found));
-        }
-        Ok(())
-    }
-
-    /// Tables of P from other start boxes, as words and as files.
-    fn tables_of_starts(&mut self) -> Result<(), Difference> {
-        let (of_p, wider) = (examples::plant_p_table(), examples::plant_p_wider());
-        let none = vec![0; of_p.len()];
-        let p = examples::plant_p_from;
-        let on_the_wall = Draft { forbidden: vec![(0, vec![0, 0, 10, 10])], ..p([0, 0, 2, 15]) };
-        let behind_it = Draft { forbidden: vec![(0, vec![0, 0, 11, 15])], ..p([0, 0, 2, 15]) };
-        for (label, draft, table, number) in [
-            ("P's table, y 2..15", p([0, 0, 2, 15]), &of_p, 33),
-            ("the wider table, y 2..15", p([0, 0, 2, 15]), &wider, 100),
-            ("no faces, y 2..15", p([0, 0, 2, 15]), &none, 33),
-            ("P's table, x -5..0", p([-5, 0, 2, 5]), &of_p, 100),
-            ("the wider table, x -5..0", p([-5, 0, 2, 5]), &wider, 100),
-            ("P's table, y 10..15", p([0, 0, 10, 15]), &of_p, 33),
-            ("no faces, y 10..15", p([0, 0, 10, 15]), &none, 33),
-            ("P's table, y 11..15", p([0, 0, 11, 15]), &of_p, 100),
-            ("no faces, y 11..15", p([0, 0, 11, 15]), &none, 100),
-            ("no faces, P falling", examples::plant_p_behind(10), &none, 100),
-            ("no faces, P falling, walls at 15", examples::plant_p_behind(15), &none, 33),
-            ("the wall forbidden", on_the_wall, &wider, 34),
-            ("what is behind the wall forbidden", behind_it, &wider, 100),
-        ] {
-            let whole = Whole::new(&draft, table.clone());
-            let lengths = whole.lengths(Call::Check);
-            self.gives(label, Call::Check, &whole.input(Call::Check, 0), &lengths, (number, 0))?;
-            let table_file = whole.input(Call::ReadTable, 0).file;
-            self.check_gives(label, whole.input(Call::ReadModel, 0).file, table_file, number as u64)?;
+            return Err(unwanted(label, wanted, found));
         }
         Ok(())
     }
@@ -337,13 +331,12 @@ impl Comparison {
     fn one_recipe(&mut self) -> Result<(), Difference> {
         let mut draft = examples::three_tanks(false);
         draft.locations[1].start = Some(vec![0, 0, 11, 12, 1, 2]);
-        let records = [
-            [0, 0, 0, 0, 1, 2, 6, 7],
-            [0, 1, 10, 10, 1, 2, 6, 7],
-            [2, 0, 0, 0, 1, 4, 6, 9],
-            [2, 1, 10, 10, 1, 2, 6, 7],
+        let records: [&[i32]; 4] = [
+            &[0, 0, 0, 0, 1, 2, 6, 7],
+            &[0, 1, 10, 10, 1, 2, 6, 7],
+            &[2, 0, 0, 0, 1, 4, 6, 9],
+            &[2, 1, 10, 10, 1, 2, 6, 7],
         ];
-        let records = records.iter().map(|record| record.to_vec()).collect();
-        self.answered_by_hand(&Answered { label: "one recipe", draft, code: 100, passes: 3, records })
+        self.answered_by_hand(&answered_as("one recipe", draft, 100, 3, &records))
     }
 }

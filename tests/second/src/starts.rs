@@ -24,7 +24,7 @@ pub const START_KINDS: [&str; 13] = [
 ];
 
 /// How one variable of a start box lies to its invariant.
-struct Side {
+struct Lying {
     low_out: bool,
     high_out: bool,
     behind: bool,
@@ -32,15 +32,15 @@ struct Side {
     meets: bool,
 }
 
-fn sides(location: &Location) -> Vec<Side> {
+fn lying(location: &Location) -> Vec<Lying> {
     let ranges = location.start.chunks_exact(2).zip(location.invariant.chunks_exact(2));
-    let side = |(start, wall): (&[i32], &[i32])| {
+    let of_one = |(start, wall): (&[i32], &[i32])| {
         let (low_out, high_out) = (start[0] < wall[0], wall[1] < start[1]);
         let behind = start[1] < wall[0] || wall[1] < start[0];
         let meets = (low_out && start[1] == wall[0]) || (high_out && start[0] == wall[1]);
-        Side { low_out, high_out, behind, meets }
+        Lying { low_out, high_out, behind, meets }
     };
-    ranges.map(side).collect()
+    ranges.map(of_one).collect()
 }
 
 /// The location has a start box that sticks out of its invariant.
@@ -58,21 +58,21 @@ fn kinds_of_one(location: &Location) -> [bool; 10] {
     if !location.started {
         return [false; 10];
     }
-    let sides = sides(location);
-    let behind = sides.iter().filter(|side| side.behind).count();
-    let some = |is: fn(&Side) -> bool| behind == 0 && sides.iter().any(is);
+    let variables = lying(location);
+    let behind = variables.iter().filter(|lying| lying.behind).count();
+    let some = |is: fn(&Lying) -> bool| behind == 0 && variables.iter().any(is);
     let end_at = |level: i32, end: usize| {
         let ranges = location.start.chunks_exact(2).zip(location.invariant.chunks_exact(2));
         ranges.into_iter().any(|(start, wall)| start[end] == level && wall[end] != level)
     };
     [
         !crosses(location),
-        some(|side| side.low_out != side.high_out && !side.meets),
-        some(|side| side.low_out && side.high_out),
-        some(|side| side.meets),
+        some(|lying| lying.low_out != lying.high_out && !lying.meets),
+        some(|lying| lying.low_out && lying.high_out),
+        some(|lying| lying.meets),
         behind == 1,
         behind > 1,
-        sides.iter().all(|side| side.low_out && side.high_out),
+        variables.iter().all(|lying| lying.low_out && lying.high_out),
         end_at(-LEVEL, 0),
         end_at(LEVEL, 1),
         location.cut.is_some() && crosses(location) && behind == 0,

@@ -9,8 +9,15 @@ use crate::lending::Lengths;
 use crate::model::Plant;
 use crate::starts::trimmed;
 
-fn differs(what: &str, words: &[i32]) -> Difference {
-    Difference { text: format!("{what}: another outcome with trimmed start boxes\nmodel {}", hex(&model_file(words))) }
+/// What a call gave.
+#[derive(Default, PartialEq)]
+struct Gave {
+    call: &'static str,
+    number: u64,
+    value: u64,
+    desk: Desk,
+    words: Vec<i32>,
+    file: Vec<u8>,
 }
 
 impl Comparison {
@@ -18,58 +25,41 @@ impl Comparison {
     pub(crate) fn trimmed_case(&mut self, plant: &Plant, limit: u32, tables: [&[i32]; 2]) -> Result<(), Difference> {
         self.counts.trimmed += 1;
         let words = trimmed(plant);
-        self.decided_alike(plant, &words, limit, tables)?;
-        self.answered_alike(plant, &words, limit, tables)
+        let other = Plant::from_words(&words).expect("start parts are start boxes that pass their question");
+        let as_it_is = self.all_calls("start boxes as they are", plant, limit, tables)?;
+        let trimmed = self.all_calls("start boxes trimmed", &other, limit, tables)?;
+        let Some((gave, _)) = as_it_is.iter().zip(&trimmed).find(|(one, other)| one != other) else {
+            return Ok(());
+        };
+        let model = hex(&model_file(plant.words()));
+        Err(Difference { text: format!("{}: another outcome with trimmed start boxes\nmodel {model}", gave.call) })
     }
 
-    /// decide and check on both files.
-    fn decided_alike(
+    fn all_calls(
         &mut self,
+        label: &str,
         plant: &Plant,
-        words: &[i32],
         limit: u32,
         tables: [&[i32]; 2],
-    ) -> Result<(), Difference> {
-        let (model, other) = (model_file(plant.words()), model_file(words));
-        let room = plant.table_file_room();
-        let (number, buffer) = self.decide("start boxes as they are", &model, room, limit)?;
-        let (again, buffer_again) = self.decide("start boxes trimmed", &other, room, limit)?;
-        let table = written_table(plant, &buffer).to_vec();
-        if number != again || table != written_table(plant, &buffer_again) {
-            return Err(differs("decide", plant.words()));
+    ) -> Result<Vec<Gave>, Difference> {
+        let model = model_file(plant.words());
+        let (number, buffer) = self.decide(label, &model, plant.table_file_room(), limit)?;
+        let file = written_table(plant, &buffer).to_vec();
+        let mut gave = vec![Gave { call: "decide", number, file: file.clone(), ..Gave::default() }];
+        for table in [&file, &table_file(plant, tables[0]), &table_file(plant, tables[1])] {
+            gave.push(Gave { call: "check", number: self.check(label, &model, table)?, ..Gave::default() });
         }
-        for table in [table, table_file(plant, tables[0]), table_file(plant, tables[1])] {
-            let checked = self.check("start boxes as they are", &model, &table)?;
-            if checked != self.check("start boxes trimmed", &other, &table)? {
-                return Err(differs("check", plant.words()));
-            }
-        }
-        Ok(())
-    }
-
-    /// Ceiling, checker, analysis and desk on the words of both.
-    fn answered_alike(
-        &mut self,
-        plant: &Plant,
-        words: &[i32],
-        limit: u32,
-        tables: [&[i32]; 2],
-    ) -> Result<(), Difference> {
         let size = plant.table_words();
         let lengths = Lengths { words: size, work: size, file: 0 };
         let [first, second] = tables;
         let calls = [Call::Ceiling, Call::Analyse, Call::Desk, Call::Check].map(|call| (call, first));
         for (call, table) in calls.into_iter().chain([(Call::Check, second)]) {
             let input = Input { model: plant.words(), table, file: &[], limit };
-            let as_it_is = self.call("start boxes as they are", call, &input, &lengths, Desk::default())?;
-            let input = Input { model: words, ..input };
-            let other = self.call("start boxes trimmed", call, &input, &lengths, Desk::default())?;
-            let value_alike = call == Call::Check || as_it_is.value == other.value;
-            let alike = as_it_is.number == other.number && value_alike && as_it_is.desk == other.desk;
-            if !alike || as_it_is.words != other.words {
-                return Err(differs(call.name(), plant.words()));
-            }
+            let left = self.call(label, call, &input, &lengths, Desk::default())?;
+            let value = if call == Call::Check { 0 } else { left.value };
+            let (number, desk, words) = (left.number as u64, left.desk, left.words);
+            gave.push(Gave { call: call.name(), number, value, desk, words, file: vec![] });
         }
-        Ok(())
+        Ok(gave)
     }
 }

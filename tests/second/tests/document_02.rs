@@ -6,6 +6,7 @@ use second::damage::{damaged_starts, START_DAMAGE};
 use second::draft::{Draft, LocationDraft};
 use second::examples::*;
 use second::files::{field, model_file};
+use second::fixed_starts::STARTS_OF_P;
 use second::generate::random_model;
 use second::listing::listing;
 use second::model::{words_per_location, Plant};
@@ -16,38 +17,16 @@ fn buffers(words: usize) -> Buffers {
     Buffers { table: vec![-7; words], work: vec![-9; words] }
 }
 
-/// P's number with this start flag and this start box; None if it passes its questions.
-fn number_of_start(flag: i32, start: [i32; 4]) -> Option<u32> {
-    let mut words = plant_p().words();
-    words[12] = flag;
-    words[13..17].copy_from_slice(&start);
-    calls::ceiling(&words).err()
-}
-
 /// T-02: question 13 asks for flag, order, range, and zeros under flag 0.
 #[test]
 fn start_boxes_in_order_and_range() {
-    for start in [[0, 0, 2, 5], [0, 0, 2, 15], [0, 0, 11, 15], [-7, -3, 2, 5], [0, 0, 0, 0], [-7, 17, 11, 11]] {
-        assert_eq!(number_of_start(1, start), None, "{start:?}");
-    }
-    assert_eq!(number_of_start(1, [-1_000_000, 1_000_000, -1_000_000, 1_000_000]), None);
-    for start in [[-1_000_001, 0, 2, 5], [0, 1_000_001, 2, 5], [0, 0, -1_000_001, 5], [0, 0, 2, 1_000_001]] {
-        assert_eq!(number_of_start(1, start), Some(13), "{start:?}");
-    }
-    for start in [[1, 0, 2, 5], [0, 0, 5, 2], [0, 0, 15, 11], [11, 12, 5, 2], [i32::MAX, i32::MIN, 2, 5]] {
-        assert_eq!(number_of_start(1, start), Some(13), "{start:?}");
-    }
-    assert_eq!(number_of_start(0, [0, 0, 0, 0]), None);
-    for start in [[0, 0, 2, 5], [0, 0, 0, 1], [-1, 0, 0, 0]] {
-        assert_eq!(number_of_start(0, start), Some(13), "{start:?}");
-    }
-    for flag in [2, -1, i32::MIN, i32::MAX] {
-        assert_eq!(number_of_start(flag, [0, 0, 2, 5]), Some(13), "{flag}");
-        assert_eq!(number_of_start(flag, [0, 0, 0, 0]), Some(13), "{flag}");
+    for (flag, start, number) in STARTS_OF_P {
+        let refusal = (number != 100).then_some(number);
+        assert_eq!(calls::ceiling(&plant_p_with_start(flag, start)).err(), refusal, "{flag}, {start:?}");
     }
 }
 
-/// T-02: 13 is asked in its old place, and a file refused by it zeroes the word buffer.
+/// T-02: 13 is asked in its place, after 11 and 12, and a file refused by it zeroes the word buffer.
 #[test]
 fn start_boxes_are_asked_in_their_place() {
     let number = |changes: &[(usize, i32)]| {
@@ -70,18 +49,23 @@ fn start_boxes_are_asked_in_their_place() {
     assert_eq!(calls::read_model(&model_file(&words), vec![3; 26]), (Ok(24), [&words[..], &[3, 3]].concat()));
 }
 
-/// T-02: what each kind of damage to a start box is refused by.
+/// T-02: what each kind of damage to a start box is refused by; of random models, and of P with a start box
+/// far behind the low walls or the high ones.
 #[test]
 fn damaged_start_boxes() {
     let mut random = Random::new(21);
     let mut seen = [0; START_DAMAGE.len()];
-    for _ in 0..2_000 {
-        let words = random_model(&mut random).words();
+    for turn in 0..6_000 {
+        let words = match turn % 4 {
+            0 => plant_p_from([-5, -3, -5, -3]).words(),
+            1 => plant_p_from([13, 15, 13, 15]).words(),
+            _ => random_model(&mut random).words(),
+        };
         let (damaged, kind) = damaged_starts(&mut random, &Plant::from_words(&words).unwrap());
         assert_eq!(calls::ceiling(&damaged).err(), START_DAMAGE[kind].1, "{}", START_DAMAGE[kind].0);
         seen[kind] += 1;
     }
-    assert!(seen.iter().all(|&count| count > 50), "{seen:?}");
+    assert!(seen.iter().all(|&count| count > 100), "{seen:?}");
 }
 
 /// T-02: P from start boxes that cross the wall y = 10, only meet it, or lie behind it.
@@ -132,13 +116,23 @@ fn tables_are_held_to_start_parts() {
     assert_eq!(number([0, 0, 2, 15], &plant_p_table()), Some(33));
     assert_eq!(number([-5, 0, 2, 5], &plant_p_table()), None);
     assert_eq!(number([0, 0, 11, 15], &plant_p_table()), None);
-    // The wall itself is in the start part, what lies behind it is not.
-    let forbidden = |low, high| {
-        let draft = Draft { forbidden: vec![(0, vec![0, 0, low, high])], ..plant_p_from([0, 0, 2, 15]) };
-        calls::checker(&draft.words(), &plant_p_wider()).err()
-    };
-    assert_eq!(forbidden(10, 15), Some(34));
-    assert_eq!(forbidden(11, 15), None);
+    // Of all parts only the start part touches: with P's own forbidden box the table is accepted.
+    let (touched, table) = (plant_p_starting_forbidden(), plant_p_starting_forbidden_table());
+    assert_eq!(calls::checker(&touched.words(), &table), Err(34));
+    assert_eq!(number([3, 3, 4, 15], &table), None);
+}
+
+/// T-02: what lies behind the wall touches nothing and adds nothing to a table.
+#[test]
+fn what_is_behind_the_wall_is_no_part() {
+    let words = plant_p_falling_short().words();
+    let file = model_file(&words);
+    assert_eq!(listing(&file), "safe 1 4\n0 0 0 0 5 10\n0 1 10 10 0 0\n0 2 2 10 0 0\n0 3 0 0 10 10\n");
+    let mut table = vec![1, 0, 0, 5, 10, 1, 10, 10, 0, 0, 1, 2, 10, 0, 0, 1, 0, 0, 10, 10];
+    assert_eq!(calls::checker(&words, &table), Ok(()));
+    // Face 1 with y 0..5, as it would be from the whole box, touches.
+    table[9] = 5;
+    assert_eq!(calls::checker(&words, &table), Err(34));
 }
 
 /// T-02: a run starts in the start box and in the invariant.
@@ -153,21 +147,10 @@ fn runs_start_in_both() {
     assert!(!may(1, 0, 1) && !may(1, 0, 11) && !may(3, 0, 31) && !may(1, -1, 5) && !may(2, -1, 5) && !may(1, 1, 5));
 }
 
-/// T-02 and T-12: a start part on both sides of its location's cut is left whole. On x = 20 t is 0..20 from it;
-/// from its half x 10..20 alone it would be 0..10, and 0..25 from the start box.
+/// T-02 and T-12: the start part of a start box that crosses the wall is not cut to pieces.
 #[test]
-fn start_parts_are_left_whole() {
-    let words = Draft {
-        n: 3,
-        locations: vec![LocationDraft {
-            invariant: vec![0, 20, 0, 10, 0, 40],
-            rates: vec![1; 6],
-            start: Some(vec![-5, 25, 6, 6, 0, 0]),
-        }],
-        cuts: vec![(0, 0, 10)],
-        ..Draft::default()
-    }
-    .words();
+fn crossing_start_parts_are_not_cut_to_pieces() {
+    let words = start_part_across_a_cut().words();
     let plant = Plant::from_words(&words).unwrap();
     let (outcome, after) = calls::analysis(&words, 1, buffers(plant.table_words()));
     assert!(outcome.is_ok());
@@ -242,10 +225,10 @@ fn p_cut() {
     assert_eq!(listing(&file), "safe 1 3\n0 0 0 0 0 2 5\n0 3 0 2 5 10 10\n0 3 1 5 8 10 10\n");
 }
 
-/// T-12: a start box is left whole. From its half x 5..10 alone t would come to 5 on x = 10, and from its
+/// T-12: a start part is not cut to pieces. From its half x 5..10 alone t would come to 5 on x = 10, and from its
 /// half x 0..5 nothing would arrive, as y leaves its range before.
 #[test]
-fn start_boxes_are_left_whole() {
+fn start_parts_are_not_cut_to_pieces() {
     let words = Draft {
         n: 3,
         locations: vec![LocationDraft {

@@ -1,6 +1,6 @@
 //! Does the comparison find wrong programs? A third, literal decider in which one mistake
 //! at a time can be switched on (document 01's traps, T-02's start parts, T-12's pieces and others); each
-//! must be found within few random models, and the decider without a mistake must agree.
+//! must be found within 6,000 random models, and the decider without a mistake must agree.
 
 use std::cell::Cell;
 
