@@ -1,2 +1,3 @@
 pub mod Small
-pub mod Window
+pub mod Touching
+pub mod WindowEnd

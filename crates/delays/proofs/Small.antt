@@ -1,7 +1,8 @@
 -- Delays between two levels at a rate are small: their cross products fit a word.
 use mathlib.Core.Path.{_≡_, subst}
 use mathlib.Core.Bool.{Bool, true, false, not, _&&_, _||_}
-use Prim.Native.Nat.{_*_, _≤_, _<_}
+use mathlib.Core.List.{List}
+use Prim.Native.Nat.{ℕ, _*_, _≤_, _<_}
 use native.Mathlib.Nat.{mul-le-mul}
 use native.Mathlib.Omega.{arith}
 use lib.Dec.{T}
@@ -10,7 +11,8 @@ use lib.Signed.{ltZ, leZ}
 use Rattle.integers.proofs.Parts.{arithZ}
 use Rattle.integers.specs.Rounding.{maxZ, minZ}
 use Rattle.integers.proofs.Tests.{by-test, or-no, and-no}
-use Rattle.integers.proofs.Signed.{abs-neg, abs-minus}
+use Rattle.integers.proofs.Order.{trans}
+use Rattle.integers.proofs.Signed.{abs-neg, abs-minus, between}
 use Rattle.plant.specs.declared.Fraction.{Fraction}
 use Rattle.plant.specs.declared.End.{End}
 use Rattle.plant.specs.declared.End.the-variants.{At, Endless}
@@ -18,7 +20,8 @@ use Rattle.plant.specs.declared.Interval.{Interval}
 use Rattle.plant.specs.declared.Delays.{Delays}
 use Rattle.plant.specs.declared.Delays.the-variants.{Between, Never}
 use Rattle.plant.specs.Delays.{ratio, noDelay, earliestInto, isEndless, latestInto, delaysInto, leF, later, sooner, both}
-use Rattle.delays.specs.Ranges.{Level, Rate, Small, SmallEnd, SmallInterval}
+use Rattle.plant.specs.Box.{low, high}
+use Rattle.delays.specs.Ranges.{Level, Rate, Levels, InInvariant, Small, SmallEnd, SmallInterval}
 
 ratio-small : (x y d : ℤ) → Level x → Level y → Rate d → 0 < natAbs d → Small (ratio (x -ℤ y) d)
 ratio-small x y d h k r l = record { num-small = omega (arith, abs-minus x y); den-positive = l; den-small = r }
@@ -42,7 +45,7 @@ and-no-left true false h k = k
 and-no-left false t h k = tt
 
 -- where there is an interval of delays, it is small
-abbrev SmallDelays : Delays → Type 0
+abbrev pub SmallDelays : Delays → Type 0
 SmallDelays Never = Unit {0}
 SmallDelays (Between t) = SmallInterval t
 
@@ -56,7 +59,7 @@ module _ (p q a c lo hi : ℤ) (lp : Level p) (lq : Level q) (ra : Rate a) (rc :
       (λ h. ratio-small lo q c ll lq rc (above c (and-no (ltZ q lo) (leZ c (pos 0)) (u .1) h)))
       (λ _. record { num-small = omega arith; den-positive = omega arith; den-small = omega arith }))
 
-  latest-into-small : SmallEnd (latestInto p q a c lo hi)
+  pub latest-into-small : SmallEnd (latestInto p q a c lo hi)
   latest-into-small =
       by-test SmallEnd (isEndless p q a c lo hi) (λ _. tt)
       (λ t.
@@ -65,12 +68,12 @@ module _ (p q a c lo hi : ℤ) (lp : Level p) (lq : Level q) (ra : Rate a) (rc :
       (λ h. ratio-small-neg q lo c lq ll rc (below c (omega arithZ)))
       (λ h. ratio-small hi p a lh lp ra (above a (and-no-left (leZ a (pos 0)) (leZ (pos 0) c) (u .0) (omega arithZ)))))
 
-  pub delays-small : (t : Interval) → delaysInto p q a c lo hi ≡ Between t → SmallInterval t
+  pub into-small : SmallDelays (delaysInto p q a c lo hi)
   unfolding delaysInto
-  delays-small t e =
-      subst SmallDelays e
-      (by-test SmallDelays (noDelay p q a c lo hi) (λ _. tt)
-      (λ n. record { earliest-small = earliest-into-small n; latest-small = latest-into-small }))
+  into-small = by-test SmallDelays (noDelay p q a c lo hi) (λ _. tt) (λ n. record { earliest-small = earliest-into-small n; latest-small = latest-into-small })
+
+  pub delays-small : (t : Interval) → delaysInto p q a c lo hi ≡ Between t → SmallInterval t
+  delays-small t e = subst SmallDelays e into-small
 
 -- a cross product
 pub cross-small : {e f : Fraction} → Small e → Small f → e .num * f .den ≤ 2000000000
@@ -81,7 +84,7 @@ cross-small s t = mul-le-mul (s .num-small) (t .den-small)
 later-small : {e f : Fraction} → Small e → Small f → Small (later e f)
 later-small {e} {f} s t = by-test Small (leF e f) (λ _. t) (λ _. s)
 
-sooner-small : (e f : End) → SmallEnd e → SmallEnd f → SmallEnd (sooner e f)
+pub sooner-small : (e f : End) → SmallEnd e → SmallEnd f → SmallEnd (sooner e f)
 sooner-small Endless f s t = t
 sooner-small (At e) Endless s t = s
 sooner-small (At e) (At f) s t = by-test Small (leF e f) (λ _. s) (λ _. t)
@@ -102,3 +105,12 @@ level-max x y h k = by-test Level (ltZ x y) (λ _. k) (λ _. h)
 pub level-min : (x y : ℤ) → Level x → Level y → Level (minZ x y)
 unfolding minZ
 level-min x y h k = by-test Level (ltZ x y) (λ _. h) (λ _. k)
+
+-- ---- a box inside an invariant of levels is one of levels
+
+pub in-levels : {n : ℕ} {inv b : List ℤ} → Levels n inv → InInvariant n inv b → Levels n b
+in-levels {n} {inv} {b} v h i l = record {
+  there = omega (arith, h .sized);
+  low-in = between (low b i) (h .inside .lower i l) (trans (h .is-ordered i l) (h .inside .higher i l)) (v i l .low-in) (v i l .high-in);
+  high-in = between (high b i) (trans (h .inside .lower i l) (h .is-ordered i l)) (h .inside .higher i l) (v i l .low-in) (v i l .high-in);
+}

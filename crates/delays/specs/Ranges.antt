@@ -1,9 +1,10 @@
 -- The ranges in which the code computes: levels and rates of document 01, and the delays that they give.
+use mathlib.Core.Path.{_≡_}
 use Prim.Native.Nat.{ℕ, _+_, _*_, _≤_, _<_}
 use mathlib.Core.List.{List}
 use lib.IntN.{ℤ, natAbs}
 use lib.ListN.{length}
-use Rattle.plant.specs.Box.{low, high}
+use Rattle.plant.specs.Box.{low, high, Ordered, Inside}
 use Rattle.plant.specs.declared.Fraction.{Fraction}
 use Rattle.plant.specs.declared.End.{End}
 use Rattle.plant.specs.declared.End.the-variants.{At, Endless}
@@ -34,6 +35,12 @@ Levels n b = (i : ℕ) → i < n → LevelAt b i
 
 abbrev pub Rates : ℕ → List ℤ → Type 0
 Rates n b = (i : ℕ) → i < n → RateAt b i
+
+-- a box of n variables, ordered and inside the invariant
+pub record InInvariant (n : ℕ) (inv b : List ℤ) : Type 0 where
+  pub sized : length b ≡ 2 * n
+  pub is-ordered : Ordered n b
+  pub inside : Inside n b inv
 
 -- a delay between two levels at a rate
 pub record Small (f : Fraction) : Type 0 where

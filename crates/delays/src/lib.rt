@@ -5,9 +5,11 @@ ghost use lib.IntN.{_-ℤ_};
 ghost use Rattle.integers.specs.Rounding.{maxZ, minZ};
 ghost use Rattle.plant.specs.Box.{low, high};
 ghost use Rattle.plant.specs.Delays as D;
-ghost use Rattle.plant.specs.Delays.{ratio, noDelay, isEndless, earliestInto, latestInto, delaysInto, delaysTo, leF, both, reachesEnd};
+ghost use Rattle.plant.specs.Delays.{ratio, noDelay, isEndless, earliestInto, latestInto, delaysInto, delaysTo, leF, both, bothDelays, reachesEnd, orNever};
+ghost use Rattle.plant.specs.declared.Delays.the-variants.{Between};
 ghost use Rattle.plant.specs.Steps as Steps;
-ghost use Rattle.delays.specs.Ranges.{Level, Rate, LevelAt, RateAt, Levels, Rates, Small, SmallEnd, SmallInterval};
+ghost use Rattle.delays.specs.Ranges.{Level, Rate, LevelAt, RateAt, Levels, Rates, InInvariant, Small, SmallEnd, SmallInterval};
+ghost use Rattle.delays.specs.Windows.{WithinAt, upTo, WindowEnd};
 use plant::Delays;
 use plant::End;
 use plant::Fraction;
@@ -95,14 +97,6 @@ pub fn variable_delays(rate: &[i32], part: &[i32], i: usize, lo: i64, hi: i64) -
     delays_into(p, q, a, c, lo, hi)
 }
 
-// The delays from a part to the wall value b of variable d.
-pub fn wall_delays(rate: &[i32], part: &[i32], d: usize, b: i64) -> Delays
-    requires { ⌜ RateAt (now rate) d × LevelAt (now part) d × Level b ⌝ }
-    ensures { λ r. ⌜ r ≡ delaysTo (low (now (part .entry)) d) (high (now (part .entry)) d) (low (now (rate .entry)) d) (high (now (rate .entry)) d) b ⌝ }
-{
-    variable_delays(rate, part, d, b, b)
-}
-
 // One delay is no later than another, compared exactly.
 fn le(e: Fraction, f: Fraction) -> bool
     requires { ⌜ Small e × Small f ⌝ }
@@ -172,6 +166,61 @@ fn has_delay(t: Interval) -> bool
     le(e, f)
 }
 
+// The delays from a part to the wall value b of variable d that are in a window from 0 to an end; none if no delay is.
+pub fn wall_delays(rate: &[i32], part: &[i32], d: usize, b: i64, end: End) -> Delays
+    requires { ⌜ RateAt (now rate) d × LevelAt (now part) d × Level b × SmallEnd end ⌝ }
+    ensures { λ r. ⌜ r ≡ orNever (bothDelays (delaysTo (low (now (part .entry)) d) (high (now (part .entry)) d) (low (now (rate .entry)) d) (high (now (rate .entry)) d) b) (Between (upTo end))) ⌝ }
+{
+    let Delays::Between(t) = variable_delays(rate, part, d, b, b) else {
+        return Delays::Never;
+    };
+    let e = t.earliest;
+    let l = t.latest;
+    let cut = Interval {
+        earliest: e,
+        latest: sooner(l, end),
+    };
+    if has_delay(cut) {
+        Delays::Between(cut)
+    } else {
+        Delays::Never
+    }
+}
+
+// The latest delay after which variable i of a part inside the invariant can still be inside it. Where its rates hold 0 there is none,
+// which two comparisons tell.
+fn latest_inside(inv: &[i32], rate: &[i32], part: &[i32], i: usize) -> End
+    requires { ⌜ LevelAt (now inv) i × RateAt (now rate) i × LevelAt (now part) i × WithinAt (now inv) (now part) i ⌝ }
+    ensures { λ r. ⌜ r ≡ latestInto (low (now (part .entry)) i) (high (now (part .entry)) i) (low (now (rate .entry)) i) (high (now (rate .entry)) i) (low (now (inv .entry)) i) (high (now (inv .entry)) i) ⌝ }
+{
+    let k = 2 * i;
+    let j = k + 1;
+    let a = integers::word(rate, k);
+    let c = integers::word(rate, j);
+    if c < 0 {
+        End::At(delay(integers::word(part, j), integers::word(inv, k), c))
+    } else if 0 < a {
+        End::At(delay(integers::word(inv, j), integers::word(part, k), a))
+    } else {
+        End::Endless
+    }
+}
+
+// The end of a part's window, the latest delay after which every variable can still be inside the invariant. The part is, so the
+// window begins at 0.
+pub fn window_end(n: usize, inv: &[i32], rate: &[i32], part: &[i32]) -> End
+    requires { ⌜ Levels n (now inv) × Rates n (now rate) × InInvariant n (now inv) (now part) ⌝ }
+    ensures { λ r. ⌜ WindowEnd n (now (inv .entry)) (now (rate .entry)) (now (part .entry)) r ⌝ }
+{
+    let mut end = End::Endless;
+    let mut i = 0;
+    while i < n {
+        end = sooner(end, latest_inside(inv, rate, part, i));
+        i += 1;
+    }
+    end
+}
+
 // The low of variable i of the box a cut to the box b.
 pub fn cut_low(a: &[i32], b: &[i32], i: usize) -> i64
     requires { ⌜ LevelAt (now a) i × LevelAt (now b) i ⌝ }
@@ -222,7 +271,7 @@ pub fn touches(n: usize, inv: &[i32], rate: &[i32], part: &[i32], forbidden: &[i
     if ruled_out(n, inv, rate, part, forbidden) {
         return false;
     }
-    let mut window = Interval {
+    let mut shared = Interval {
         earliest: Fraction { num: 0, den: 1 },
         latest: End::Endless,
     };
@@ -236,8 +285,8 @@ pub fn touches(n: usize, inv: &[i32], rate: &[i32], part: &[i32], forbidden: &[i
         let Delays::Between(t) = variable_delays(rate, part, i, lo, hi) else {
             return false;
         };
-        window = both(window, t);
+        shared = both(shared, t);
         i += 1;
     }
-    has_delay(window)
+    has_delay(shared)
 }

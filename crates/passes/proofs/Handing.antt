@@ -4,30 +4,43 @@ use mathlib.Core.Path.{_≡_, refl, sym, ap, _∙_, subst}
 use mathlib.Core.Bool.{Bool, true, false, cond}
 use mathlib.Core.List.{List}
 use Prim.Native.Nat.{ℕ, _+_, _*_, _<_, _≤_}
-use lib.IntN.{ℤ, pos}
+use native.Mathlib.Nat.{mul-le-mul-right}
+use native.Mathlib.Omega.{arith}
+use lib.IntN.{ℤ, pos, negsuc}
 use lib.ListN.{length, take}
 use Rattle.integers.specs.Words.{word, eqZ}
+use Rattle.integers.proofs.Signed.{between}
 use Rattle.integers.proofs.Tests.{true-is}
 use Rattle.integers.proofs.Counted.{eqZ-eq}
 use Rattle.integers.proofs.Buffers.{cat-ext}
-use Rattle.plant.specs.Box.{boxAt, Face, absent, present, faceWords, join}
-use Rattle.plant.specs.Model.{n#, Cut, cutFrom, variableOf}
+use Rattle.plant.specs.Box.{low, high, Ordered, boxAt, hull, Face, absent, present, faceWords, join}
+use Rattle.plant.specs.Model.{n#, Cut, uncut, cutBy, cutFrom, variableOf}
 use Rattle.plant.specs.Pieces.{piecesPerFace}
-use Rattle.plant.specs.Steps.{wallStep, switchStep}
-use Rattle.plant.specs.Tables.{faceRead, startPart}
-use Rattle.plant.proofs.Boxes.{FaceAll}
+use Rattle.plant.specs.declared.Interval.{Interval}
+use Rattle.plant.specs.declared.Delays.{Delays}
+use Rattle.plant.specs.declared.Delays.the-variants.{Between, Never}
+use Rattle.plant.specs.Delays.{delaysTo, bothDelays, orNever}
+use Rattle.plant.specs.Steps.{lowAfter, highAfter, boxAfter, faceAfter, wallDelays, wallStep, switchStep}
+use Rattle.plant.specs.Tables.{faceSize, faceRead, startPart}
+use Rattle.plant.proofs.Boxes.{FaceAll, length-boxBy, inside-ordered, not-empty}
+use Rattle.plant.proofs.Inside.{not-empty-after}
 use Rattle.plant.proofs.Passed.{passed}
 use Rattle.plant.proofs.Pieces.{face-of-number, index-of-number}
-use Rattle.delays.specs.Ranges.{Levels}
+use Rattle.plant.specs.declared.End.{End}
+use Rattle.delays.specs.Ranges.{Level, LevelAt, RateAt, Levels, InInvariant, SmallEnd, SmallInterval}
+use Rattle.delays.specs.Windows.{upTo}
+use Rattle.delays.proofs.Small.{into-small, in-levels}
+use Rattle.delays.proofs.WindowEnd.{wall-small}
 use Rattle.tables.specs.Room.{faceIn, AreFaces, joinedEach, cutEach, CutVariable, PiecesJoinable}
-use Rattle.tables.proofs.Faces.{join-absent}
+use Rattle.tables.proofs.Faces.{join-absent, join-widened}
+use Rattle.tables.proofs.Cutting.{one-joinable, one-joined}
 use Rattle.steps.specs.Ready.{WallReady, SwitchReady}
 use Rattle.steps.specs.Handing.{Handed}
-use Rattle.steps.proofs.Faces.{InInvariant, wall-in, switch-in}
-use Rattle.passes.specs.Joining.{piecesWith, WallJoin, WallsJoin, PartJoin, StartJoin, SwitchJoin, wallsFrom}
-use Rattle.passes.proofs.PartWords.{start-levels}
+use Rattle.steps.proofs.Faces.{after-in, switch-in}
+use Rattle.passes.specs.Joining.{piecesWith, AfterJoin, WallJoin, WallsJoin, PartJoin, StartJoin, SwitchJoin, wallsFrom}
+use Rattle.passes.proofs.PartWords.{start-inside}
 use Rattle.passes.proofs.Joined.{read-present, read-absent}
-use Rattle.passes.proofs.Locations.{same-joined}
+use Rattle.passes.proofs.Locations.{faces-length, same-joined}
 
 -- k faces joined with nothing stay
 pub none-joined : (n k : ℕ) (words : List ℤ) → AreFaces n k words → words ≡ joinedEach n k words (λ q. absent)
@@ -50,22 +63,99 @@ module _ (n : ℕ) (variable value : ℤ) (d : ℕ) (r : Bool) (after pieces : L
       let b : InInvariant n inv (take (2 * n) after) = subst (FaceAll (InInvariant n inv)) (e ∙ ap (λ (x : Bool). cond x (present (take (2 * n) after)) absent) u) all in
       record { n-small = small; box-length = b .sized; box-ordered = b .is-ordered; cut-words = w; are-pieces = are }
 
-module _ (n : ℕ) (inv rate bounds : List ℤ) (d : ℕ) (b variable value : ℤ) (pieces : List ℤ) (ok : WallJoin n inv rate bounds d b variable value pieces) (out : List ℤ) (room : 2 * n ≤ length out) where
-  abbrev wallJoined : List ℤ
-  wallJoined = joinedEach n (piecesPerFace (cutFrom variable value)) pieces (cutEach n (cutFrom variable value) d (wallStep n inv rate bounds d b))
+-- the box after the delays t, to be joined to the pieces of a face
+module _ (n : ℕ) (inv rate bounds : List ℤ) (d : ℕ) (b : ℤ) (t : Interval) (variable value : ℤ) (pieces : List ℤ) (ok : AfterJoin n inv rate bounds b t)
+    (cut-words : CutVariable n variable) (are : AreFaces n (piecesPerFace (cutFrom variable value)) pieces) (out : List ℤ) (room : 2 * n ≤ length out) where
+  abbrev afterJoined : List ℤ
+  afterJoined = joinedEach n (piecesPerFace (cutFrom variable value)) pieces (cutEach n (cutFrom variable value) d (faceAfter n inv rate bounds d b (Between t)))
 
-  pub wall-ready : WallReady n inv rate bounds b out × (d < n)
-  wall-ready = (record { inv-in = ok .inv-in; rate-in = ok .rate-in; part-in = ok .bounds-in; wall-in = ok .wall-in; room = room }, ok .d-below)
+  pub after-ready : WallReady n inv rate bounds b out × SmallInterval t
+  after-ready = (record { inv-in = ok .inv-in; rate-in = ok .rate-in; part-in = ok .bounds-in; wall-in = ok .wall-in; room = room }, ok .small)
 
-  module _ {r : Bool} {after : List ℤ} (gives : Handed n r after out (wallStep n inv rate bounds d b)) where
-    pub wall-joinable : r ≡ true → PiecesJoinable n variable value (take (2 * n) after) pieces
-    wall-joinable u = joinable n variable value d r after pieces (wallStep n inv rate bounds d b) (gives .is-face) inv u (wall-in n inv rate bounds d b) (ok .n-small) (ok .cut-words) (ok .are-pieces)
+  module _ {r : Bool} {after : List ℤ} (gives : Handed n r after out (faceAfter n inv rate bounds d b (Between t))) where
+    pub after-joinable : r ≡ true → PiecesJoinable n variable value (take (2 * n) after) pieces
+    after-joinable u = joinable n variable value d r after pieces (faceAfter n inv rate bounds d b (Between t)) (gives .is-face) inv u (after-in n inv rate bounds d b (Between t)) (ok .n-small) cut-words are
 
-    pub wall-joins : {exit : List ℤ} → r ≡ true → exit ≡ joinedEach n (piecesPerFace (cutFrom variable value)) pieces (cutEach n (cutFrom variable value) d (present (take (2 * n) after))) → exit ≡ wallJoined
-    wall-joins = joins-it n variable value d r after pieces (wallStep n inv rate bounds d b) (gives .is-face)
+    pub after-joins : {exit : List ℤ} → r ≡ true → exit ≡ joinedEach n (piecesPerFace (cutFrom variable value)) pieces (cutEach n (cutFrom variable value) d (present (take (2 * n) after))) → exit ≡ afterJoined
+    after-joins = joins-it n variable value d r after pieces (faceAfter n inv rate bounds d b (Between t)) (gives .is-face)
 
-    pub wall-joins-nothing : r ≡ false → pieces ≡ wallJoined
-    wall-joins-nothing u = joins-nothing n variable value d r after pieces (wallStep n inv rate bounds d b) (gives .is-face) u (ok .are-pieces)
+    pub after-joins-nothing : r ≡ false → pieces ≡ afterJoined
+    after-joins-nothing u = joins-nothing n variable value d r after pieces (faceAfter n inv rate bounds d b (Between t)) (gives .is-face) u are
+
+some-piece : (c : Cut) → 1 ≤ piecesPerFace c
+unfolding piecesPerFace
+some-piece uncut = omega arith
+some-piece (cutBy v x) = omega arith
+
+-- the wall step from a box whose window ends so
+module _ (n : ℕ) (inv rate bounds : List ℤ) (end : End) (d : ℕ) (b variable value : ℤ) (pieces : List ℤ) (ok : WallJoin n inv rate bounds end d b variable value pieces) where
+  abbrev wallJoined : Face → List ℤ
+  wallJoined g = joinedEach n (piecesPerFace (cutFrom variable value)) pieces (cutEach n (cutFrom variable value) d g)
+
+  abbrev alone : Delays
+  alone = delaysTo (low bounds d) (high bounds d) (low rate d) (high rate d) b
+
+  bounds-levels : Levels n bounds
+  bounds-levels = in-levels (ok .inv-in) (ok .bounds-in)
+
+  wall-level : Level b
+  wall-level = between b (ok .from-low) (ok .to-high) (ok .inv-in d (ok .d-below) .low-in) (ok .inv-in d (ok .d-below) .high-in)
+
+  pub delays-ready : RateAt rate d × LevelAt bounds d × Level b × SmallEnd end
+  delays-ready = (ok .rate-in d (ok .d-below), bounds-levels d (ok .d-below), wall-level, ok .window-end .small)
+
+  -- there is at least one piece
+  pub pieces-there : 0 < length pieces
+  pieces-there = omega (arith, ap length (ok .are-pieces), faces-length n (piecesPerFace (cutFrom variable value)) (faceIn n pieces), mul-le-mul-right (faceSize n) (some-piece (cutFrom variable value)))
+
+  -- its delays, as code has them
+  module _ {ds : Delays} (found : ds ≡ orNever (bothDelays alone (Between (upTo end)))) where
+    are-delays : wallDelays n inv rate bounds d b ≡ ds
+    unfolding wallDelays
+    are-delays = ap (λ (w : Delays). orNever (bothDelays alone w)) (ok .window-end .is-window) ∙ sym found
+
+    step-is : wallStep n inv rate bounds d b ≡ faceAfter n inv rate bounds d b ds
+    unfolding wallStep
+    step-is = ap (faceAfter n inv rate bounds d b) are-delays
+
+    -- none
+    pub wall-nothing : ds ≡ Never → pieces ≡ wallJoined (wallStep n inv rate bounds d b)
+    wall-nothing none = none-joined n (piecesPerFace (cutFrom variable value)) pieces (ok .are-pieces) ∙ ap wallJoined (sym (step-is ∙ ap (faceAfter n inv rate bounds d b) none))
+
+    -- an interval
+    module _ {t : Interval} (some : ds ≡ Between t) where
+      pub after-ok : AfterJoin n inv rate bounds b t
+      after-ok = record {
+        n-small = ok .n-small;
+        inv-in = ok .inv-in;
+        rate-in = ok .rate-in;
+        bounds-in = ok .bounds-in;
+        wall-in = wall-level;
+        small = wall-small alone end t
+            (into-small (low bounds d) (high bounds d) (low rate d) (high rate d) b b (bounds-levels d (ok .d-below) .low-in) (bounds-levels d (ok .d-below) .high-in) (ok .rate-in d (ok .d-below) .low-in) (ok .rate-in d (ok .d-below) .high-in) wall-level wall-level)
+            (ok .window-end .small) (sym found ∙ some);
+      }
+
+      pub wall-after : {exit : List ℤ} → exit ≡ wallJoined (faceAfter n inv rate bounds d b (Between t)) → exit ≡ wallJoined (wallStep n inv rate bounds d b)
+      wall-after e = e ∙ ap wallJoined (sym (step-is ∙ ap (faceAfter n inv rate bounds d b) some))
+
+      -- its box is not empty
+      box-ordered : Ordered n (boxAfter n inv rate bounds d b t)
+      box-ordered = not-empty-after n inv rate bounds d b (inside-ordered (ok .bounds-in .inside) (ok .bounds-in .is-ordered)) (ok .rate-ordered) (ok .bounds-in .is-ordered) (ok .d-below) (ok .from-low) (ok .to-high) t (are-delays ∙ some)
+
+      box-joinable : PiecesJoinable n variable value (boxAfter n inv rate bounds d b t) pieces
+      unfolding boxAfter
+      box-joinable = record { n-small = ok .n-small; box-length = length-boxBy n (lowAfter n inv rate bounds d b t) (highAfter n inv rate bounds d b t); box-ordered = box-ordered; cut-words = ok .cut-words; are-pieces = ok .are-pieces }
+
+      -- a present face in an uncut location
+      module _ (none : eqZ variable (negsuc 0) ≡ true) where
+        pub one-long : length pieces ≡ faceSize n
+        one-long = one-joinable n d variable value (boxAfter n inv rate bounds d b t) pieces box-joinable none .face-length
+
+        pub wall-widened : {exit : List ℤ} → eqZ (word pieces 0) (pos 1) ≡ true → exit ≡ faceWords n (present (hull n (boxAt n pieces 1) (boxAfter n inv rate bounds d b t))) → exit ≡ wallJoined (wallStep n inv rate bounds d b)
+        wall-widened there e = wall-after
+            (one-joined n d variable value (boxAfter n inv rate bounds d b t) pieces box-joinable none (e ∙ join-widened n pieces (boxAfter n inv rate bounds d b t) there)
+            ∙ ap wallJoined (sym (not-empty n (boxAfter n inv rate bounds d b t) box-ordered)))
 
 -- the step to face f is what the location's pieces of that face are given
 pub walls-given : (n : ℕ) (inv rate bounds : List ℤ) (c : Cut) (f : ℕ) (words : List ℤ) → joinedEach n (piecesPerFace c) words (cutEach n c (variableOf f) (wallStep n inv rate bounds (variableOf f) (word inv f))) ≡ joinedEach n (piecesPerFace c) words (λ j. wallsFrom n inv rate c (present bounds) (f * piecesPerFace c + j))
@@ -88,7 +178,8 @@ module _ (n : ℕ) (inv rate part : List ℤ) (variable value : ℤ) (block : Li
       n-small = ok .part-ok .n-small;
       inv-in = ok .inv-in;
       rate-in = ok .rate-in;
-      bounds-in = rw is-box (ok .part-ok .in-range (eqZ-eq (word part 0) (pos 1) (true-is flag)));
+      rate-ordered = ok .rate-ordered;
+      bounds-in = rw is-box (ok .part-ok .has (eqZ-eq (word part 0) (pos 1) (true-is flag)));
       cut-words = ok .cut-words;
       are-pieces = ok .are-pieces;
     }
@@ -115,7 +206,8 @@ module _ (m : List ℤ) (l n : ℕ) (inv rate : List ℤ) (variable value : ℤ)
       n-small = ok .n-small;
       inv-in = ok .inv-in;
       rate-in = ok .rate-in;
-      bounds-in = subst (FaceAll (Levels n)) (start-is u) (rw (ok .n-is) (start-levels m (passed m (ok .passes)) l (ok .below)));
+      rate-ordered = ok .rate-ordered;
+      bounds-in = subst (FaceAll (InInvariant n inv)) (start-is u) (rw (ok .n-is, ok .inv-is) (start-inside m (passed m (ok .passes)) l (ok .below)));
       cut-words = ok .cut-words;
       are-pieces = ok .are-pieces;
     }
@@ -140,7 +232,7 @@ module _ (n mask : ℕ) (guard reset inv from : List ℤ) (d : ℕ) (variable va
       guard-in = ok .guard-in;
       reset-in = ok .reset-in;
       inv-in = ok .inv-in;
-      from-in = rw is-box (ok .from-ok .in-range (eqZ-eq (word from 0) (pos 1) (true-is flag)));
+      from-in = rw is-box (ok .from-ok .has (eqZ-eq (word from 0) (pos 1) (true-is flag)));
       room = room;
     }
 

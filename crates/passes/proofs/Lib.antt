@@ -1,3 +1,4 @@
+pub mod AfterWords
 pub mod PartWords
 pub mod Joined
 pub mod Blocks

@@ -1,5 +1,5 @@
--- The words of a part give the part, and its box, if it is there, is one of levels: a start part and a piece lie inside the
--- invariant.
+-- The words of a part give the part, and its box, if it is there, lies inside the invariant, that of a start part and that of a
+-- piece; so it is one of levels.
 use mathlib.Core.Path.{_≡_, sym, ap, ap₂, _∙_, subst}
 use mathlib.Core.Bool.{Bool, true, false, cond}
 use mathlib.Core.Logic.{⊎-elim}
@@ -9,18 +9,20 @@ use native.Mathlib.Nat.{le-refl}
 use native.Mathlib.Omega.{arith}
 use lib.Dec.{T}
 use lib.IntN.{ℤ, pos}
+use lib.Signed.{_≤ℤ_, ≤ℤ-refl}
 use lib.ListN.{length, take, drop, length-drop}
 use lib.Seq.{getD-take, getD-drop, drop-drop, take-take, length-take-le}
 use Rattle.integers.specs.Words.{word, eqZ}
 use Rattle.integers.proofs.Tests.{by-test, is-true}
 use Rattle.integers.proofs.Counted.{eqZ-intro, split}
-use Rattle.delays.specs.Ranges.{Level, Levels, Rates}
-use Rattle.plant.specs.Box.{low, high, boxAt, cut, Face, absent, present, unlessEmpty}
+use Rattle.delays.specs.Ranges.{Levels, Rates, InInvariant}
+use Rattle.delays.proofs.Small.{in-levels}
+use Rattle.plant.specs.Box.{low, high, Ordered, boxAt, cut, Face, absent, present, unlessEmpty}
 use Rattle.plant.specs.Model.{n#, L#, invariant, rate, startFlag, startBox}
 use Rattle.plant.specs.Questions.{modelQuestions}
 use Rattle.plant.specs.Pieces.{pieces}
 use Rattle.plant.specs.Tables.{faceSize, piecesBefore, tableSize, pieceAt, faceRead, pieceOf, tableOk, startPart, partOf}
-use Rattle.plant.proofs.Boxes.{FaceAll, length-boxAt, length-cut, cut-right}
+use Rattle.plant.proofs.Boxes.{FaceAll, all-map, length-boxAt, length-cut, cut-right}
 use Rattle.plant.proofs.Passed.{InRange, Passed, passed}
 use Rattle.plant.proofs.StartPart.{start-all}
 use Rattle.plant.proofs.Tables.{take-behind, piece-inside, OkBox, ok-valid}
@@ -28,7 +30,7 @@ use Rattle.records.specs.Whole.{Whole}
 use Rattle.records.proofs.Positions.{length-invariant, length-rate, length-startBox}
 use Rattle.model.proofs.Passing.{whole-passed}
 use Rattle.steps.specs.Handing.{Handed}
-use Rattle.steps.proofs.Faces.{nothing-handed, in-levels}
+use Rattle.steps.proofs.Faces.{nothing-handed}
 use Rattle.passes.specs.Parts.{IsPart}
 use Rattle.passes.specs.Joining.{PartOk}
 use Rattle.passes.proofs.Joined.{read-present}
@@ -42,12 +44,12 @@ pub levels-from : (n : ℕ) (b : List ℤ) → length b ≡ 2 * n → InRange (2
 unfolding low high
 levels-from n b e h i l = record { there = omega arith; low-in = h (2 * i) (omega arith); high-in = h (2 * i + 1) (omega arith) }
 
--- a bound of a box of levels is a level
-pub level-at : (n : ℕ) (b : List ℤ) → Levels n b → (f : ℕ) → f < 2 * n → Level (word b f)
+-- a bound of an ordered box lies between the low and the high of its variable
+pub between-ends : (n : ℕ) (b : List ℤ) → Ordered n b → (f : ℕ) → f < 2 * n → (low b (f / 2) ≤ℤ word b f) × (word b f ≤ℤ high b (f / 2))
 unfolding low high
-level-at n b h f u = ⊎-elim
-    (λ v. let e : f ≡ 2 * (f / 2) = omega arith in rw e (h (f / 2) (omega arith) .low-in))
-    (λ v. let e : f ≡ 2 * (f / 2) + 1 = omega arith in rw e (h (f / 2) (omega arith) .high-in))
+between-ends n b h f u = ⊎-elim
+    (λ v. let e : f ≡ 2 * (f / 2) = omega arith in (subst (λ (k : ℕ). low b (f / 2) ≤ℤ word b k) (sym e) (≤ℤ-refl (low b (f / 2))), subst (λ (k : ℕ). word b k ≤ℤ high b (f / 2)) (sym e) (h (f / 2) (omega arith))))
+    (λ v. let e : f ≡ 2 * (f / 2) + 1 = omega arith in (subst (λ (k : ℕ). low b (f / 2) ≤ℤ word b k) (sym e) (h (f / 2) (omega arith)), subst (λ (k : ℕ). word b k ≤ℤ high b (f / 2)) (sym e) (≤ℤ-refl (high b (f / 2)))))
     (split (f % 2) 1 (omega arith))
 
 rates-from : (n : ℕ) (b : List ℤ) → length b ≡ 2 * n → InRange (2 * n) 1000 b → Rates n b
@@ -102,34 +104,35 @@ module _ (m : List ℤ) (l : ℕ) (u : l < L# m) (t : List ℤ) (room : tableSiz
   })
 
 module _ (m : List ℤ) (ok : Passed m) (l : ℕ) (u : l < L# m) where
-  -- the start box, under start flag 1, and the start part have boxes of levels
+  -- the start box, under start flag 1, is one of levels, and the start part lies inside the invariant
   pub start-in : startFlag m l ≡ pos 1 → Levels (n# m) (startBox m l)
   start-in e = levels-from (n# m) (startBox m l) (length-startBox m (whole-passed m ok) l u) (ok .of-location l u .start-levels e)
 
-  pub start-levels : FaceAll (Levels (n# m)) (startPart m l)
-  start-levels = start-all m l (Levels (n# m)) (λ _ o.
-      in-levels {n = n# m} {inv = invariant m l} {b = cut (n# m) (startBox m l) (invariant m l)} (invariant-in m ok l u)
-      (record { sized = length-cut (n# m) (startBox m l) (invariant m l); is-ordered = o; inside = cut-right (n# m) (startBox m l) (invariant m l) }))
+  pub start-inside : FaceAll (InInvariant (n# m) (invariant m l)) (startPart m l)
+  start-inside = start-all m l (InInvariant (n# m) (invariant m l)) (λ _ o.
+      record { sized = length-cut (n# m) (startBox m l) (invariant m l); is-ordered = o; inside = cut-right (n# m) (startBox m l) (invariant m l) })
 
   module _ (t : List ℤ) (room : tableSize m ≤ length t) where
-    -- the box of a part is one of levels
-    piece-levels : T (tableOk m t) → (q : ℕ) → q < pieces m l → FaceAll (Levels (n# m)) (pieceOf m t l q)
+    -- the box of a part lies inside the invariant, and so is one of levels
+    piece-within : T (tableOk m t) → (q : ℕ) → q < pieces m l → FaceAll (InInvariant (n# m) (invariant m l)) (pieceOf m t l q)
     unfolding pieceOf faceRead
-    piece-levels valid q v = by-test (FaceAll (Levels (n# m))) (eqZ (word t (pieceAt m l q)) (pos 1)) flagged (λ _. tt)
+    piece-within valid q v = by-test (FaceAll (InInvariant (n# m) (invariant m l))) (eqZ (word t (pieceAt m l q)) (pos 1)) flagged (λ _. tt)
       where
         there : T (eqZ (word t (pieceAt m l q)) (pos 1)) → pieceOf m t l q ≡ present (boxAt (n# m) t (pieceAt m l q + 1))
         there h = ap (λ (b : Bool). cond b (present (boxAt (n# m) t (pieceAt m l q + 1))) absent) (is-true {b = eqZ (word t (pieceAt m l q)) (pos 1)} h)
 
-        flagged : T (eqZ (word t (pieceAt m l q)) (pos 1)) → Levels (n# m) (boxAt (n# m) t (pieceAt m l q + 1))
+        flagged : T (eqZ (word t (pieceAt m l q)) (pos 1)) → InInvariant (n# m) (invariant m l) (boxAt (n# m) t (pieceAt m l q + 1))
         flagged h =
             let k : OkBox m l q (boxAt (n# m) t (pieceAt m l q + 1)) = subst (FaceAll (OkBox m l q)) (there h) (ok-valid m t valid .valid l q u v) in
-            in-levels {n = n# m} {inv = invariant m l} {b = boxAt (n# m) t (pieceAt m l q + 1)} (invariant-in m ok l u)
-            (record { sized = length-boxAt (n# m) t (pieceAt m l q + 1) (omega (arith, piece-inside m l q u v)); is-ordered = k .wall .ordered; inside = k .wall .inside })
+            record { sized = length-boxAt (n# m) t (pieceAt m l q + 1) (omega (arith, piece-inside m l q u v)); is-ordered = k .wall .ordered; inside = k .wall .inside }
+
+    pub part-within : T (tableOk m t) → (p : ℕ) → p ≤ pieces m l → FaceAll (InInvariant (n# m) (invariant m l)) (partOf m t l p)
+    unfolding partOf
+    part-within valid zero v = start-inside
+    part-within valid (suc q) v = piece-within valid q (omega arith)
 
     pub part-levels : T (tableOk m t) → (p : ℕ) → p ≤ pieces m l → FaceAll (Levels (n# m)) (partOf m t l p)
-    unfolding partOf
-    part-levels valid zero v = start-levels
-    part-levels valid (suc q) v = piece-levels valid q (omega arith)
+    part-levels valid p v = all-map (InInvariant (n# m) (invariant m l)) (Levels (n# m)) (partOf m t l p) (λ b. in-levels {n = n# m} {inv = invariant m l} {b = b} (invariant-in m ok l u)) (part-within valid p v)
 
 -- how code comes to the start part: by the start flag it is the cut, or there is none
 module _ (m : List ℤ) (l : ℕ) {flag : ℤ} (flag-is : flag ≡ startFlag m l) where
@@ -146,10 +149,10 @@ module _ (m : List ℤ) (l : ℕ) {flag : ℤ} (flag-is : flag ≡ startFlag m l
   pub start-none : {out : List ℤ} → eqZ flag (pos 1) ≡ false → 2 * n# m ≤ length out → Handed (n# m) false out out (startPart m l)
   start-none {out} e room = nothing-handed (n# m) out (startPart m l) room (start-by e)
 
--- words that give a part whose box is one of levels
-pub is-part-ok : (n : ℕ) (words : List ℤ) (part : Face) → n ≤ 6 → IsPart n words part → FaceAll (Levels n) part → PartOk n words
-is-part-ok n words part small p h = record {
+-- words that give a part whose box has P
+pub is-part-ok : (n : ℕ) (P : List ℤ → Type 0) (words : List ℤ) (part : Face) → n ≤ 6 → IsPart n words part → FaceAll P part → PartOk n P words
+is-part-ok n P words part small p h = record {
   n-small = small;
   sized = p .sized;
-  in-range = λ e. subst (FaceAll (Levels n)) (sym (p .gives) ∙ read-present n words (is-true (eqZ-intro e))) h;
+  has = λ e. subst (FaceAll P) (sym (p .gives) ∙ read-present n words (is-true (eqZ-intro e))) h;
 }

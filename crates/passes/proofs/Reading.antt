@@ -23,6 +23,7 @@ use Rattle.plant.proofs.Passed.{SwitchPassed, IsUncut, CutPassed, Passed, passe
 use Rattle.plant.proofs.PieceCases.{cut-some, two-per-face, before-more}
 use Rattle.plant.proofs.Pieces.{number-below}
 use Rattle.plant.proofs.Tables.{locationWords, words-before, piece-place, location-length, wordsOf}
+use Rattle.delays.specs.Ranges.{Levels, InInvariant}
 use Rattle.tables.specs.Places.{Places}
 use Rattle.tables.specs.Room.{AreFaces, joinedEach, cutEach, CutVariable}
 use Rattle.tables.proofs.Faces.{table-most}
@@ -34,7 +35,7 @@ use Rattle.model.proofs.Passing.{whole-passed, switch-placed}
 use Rattle.passes.specs.Checked.{Checked}
 use Rattle.passes.specs.Parts.{IsPart}
 use Rattle.passes.specs.Joining.{PartOk, Located, LandsOn, NoCut, piecesWith, PartJoin, StartJoin, SwitchJoin, wallsFrom, locationBy, landedOn}
-use Rattle.passes.proofs.PartWords.{levels-from, invariant-in, rate-in, piece-part, part-levels, is-part-ok}
+use Rattle.passes.proofs.PartWords.{levels-from, invariant-in, rate-in, piece-part, part-within, part-levels, is-part-ok}
 use Rattle.passes.proofs.Joined.{words-kept}
 use Rattle.passes.proofs.Locations.{are-faces, each-joined}
 
@@ -102,8 +103,12 @@ module _ (m t : List ℤ) (ok : Checked m t) where
 
   -- ---- the parts of a location
 
-  pub part-ok : (l p : ℕ) → l < L# m → p ≤ pieces m l → {words : List ℤ} → IsPart (n# m) words (partOf m t l p) → PartOk (n# m) words
-  part-ok l p u v {words} h = is-part-ok (n# m) words (partOf m t l p) (model-passed .n-small) h (part-levels m model-passed l u t (ok .ready .room) (true-is (ok .valid)) p v)
+  module _ (l p : ℕ) (u : l < L# m) (v : p ≤ pieces m l) {words : List ℤ} (h : IsPart (n# m) words (partOf m t l p)) where
+    part-inside : PartOk (n# m) (InInvariant (n# m) (invariant m l)) words
+    part-inside = is-part-ok (n# m) (InInvariant (n# m) (invariant m l)) words (partOf m t l p) (model-passed .n-small) h (part-within m model-passed l u t (ok .ready .room) (true-is (ok .valid)) p v)
+
+    part-ok : PartOk (n# m) (Levels (n# m)) words
+    part-ok = is-part-ok (n# m) (Levels (n# m)) words (partOf m t l p) (model-passed .n-small) h (part-levels m model-passed l u t (ok .ready .room) (true-is (ok .valid)) p v)
 
   -- piece q of location l, whose words code has
   pub piece-is-part : (l q : ℕ) → l < L# m → q < pieces m l → {n at : ℕ} → n ≡ n# m → at ≡ pieceAt m l q → {words : List ℤ} → words ≡ take (faceSize n) (drop at t) → IsPart (n# m) words (partOf m t l (q + 1))
@@ -168,8 +173,10 @@ module _ (m t : List ℤ) (ok : Checked m t) where
           below = u;
           n-is = refl;
           n-small = model-passed .n-small;
+          inv-is = refl;
           inv-in = invariant-in m model-passed l u;
           rate-in = rate-in m model-passed l u;
+          rate-ordered = model-passed .of-location l u .rate-ordered;
           cut-words = cut-words l u;
           are-pieces = are-faces (n# m) (pieces m l) (pieceOf m t l) block-is;
         })
@@ -185,7 +192,8 @@ module _ (m t : List ℤ) (ok : Checked m t) where
         part-join w = rw (r .n-is, r .inv-is, r .rate-is, r .variable-is, r .value-is) (record {
           inv-in = invariant-in m model-passed l u;
           rate-in = rate-in m model-passed l u;
-          part-ok = part-ok l p u w part-is;
+          rate-ordered = model-passed .of-location l u .rate-ordered;
+          part-ok = part-inside l p u w part-is;
           cut-words = cut-words l u;
           are-pieces = are-faces (n# m) (pieces m l) (λ q. joins (n# m) p (wallFrom m t l q) (pieceOf m t l q)) block-is;
         })

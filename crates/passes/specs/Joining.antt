@@ -4,35 +4,51 @@ use mathlib.Core.Path.{_≡_}
 use mathlib.Core.List.{List}
 use Prim.Native.Nat.{ℕ, _*_, _/_, _%_, _<_, _≤_}
 use lib.IntN.{ℤ, pos}
+use lib.Signed.{_≤ℤ_}
 use lib.ListN.{length}
 use Rattle.integers.specs.Words.{word}
-use Rattle.plant.specs.Box.{boxAt, Face, onBox, join}
-use Rattle.plant.specs.Model.{n#, L#, E#, source, target, wallVariable, cutVariable, cutValue, Cut, cutFrom, cutOf, variableOf}
+use Rattle.plant.specs.Box.{low, high, Ordered, boxAt, Face, onBox, join}
+use Rattle.plant.specs.Model.{n#, L#, E#, invariant, source, target, wallVariable, cutVariable, cutValue, Cut, cutFrom, cutOf, variableOf}
 use Rattle.plant.specs.Questions.{modelQuestions}
 use Rattle.plant.specs.Pieces.{piecesPerFace, perFace, pieces}
 use Rattle.plant.specs.Steps.{wallStep}
 use Rattle.plant.specs.Tables.{faceSize, tableBy, pieceOf, sourcePiece, switchStepAt, switchOnto, switchesJoined}
-use Rattle.delays.specs.Ranges.{Level, Levels, Rates}
+use Rattle.plant.specs.declared.End.{End}
+use Rattle.plant.specs.declared.Interval.{Interval}
+use Rattle.delays.specs.Ranges.{Level, Levels, Rates, InInvariant, SmallInterval}
+use Rattle.delays.specs.Windows.{WindowEnd}
 use Rattle.tables.specs.Room.{facesBy, AreFaces, joinedEach, cutEach, CutVariable}
 
--- the words of a part of n variables, its box of levels if it is there
-pub record PartOk (n : ℕ) (part : List ℤ) : Type 0 where
+-- the words of a part of n variables; its box has P if it is there
+pub record PartOk (n : ℕ) (P : List ℤ → Type 0) (part : List ℤ) : Type 0 where
   pub n-small : n ≤ 6
   pub sized : length part ≡ faceSize n
-  pub in-range : word part 0 ≡ pos 1 → Levels n (boxAt n part 1)
+  pub has : word part 0 ≡ pos 1 → P (boxAt n part 1)
 
 -- how many pieces a location of n variables with the cut c has
 abbrev pub piecesWith : ℕ → Cut → ℕ
 piecesWith n c = 2 * n * piecesPerFace c
 
--- a wall step from a box to the value b of variable d, to be joined to the pieces of a face
-pub record WallJoin (n : ℕ) (inv rate bounds : List ℤ) (d : ℕ) (b variable value : ℤ) (pieces : List ℤ) : Type 0 where
+-- the box after the delays t from a box to the value b of a variable
+pub record AfterJoin (n : ℕ) (inv rate bounds : List ℤ) (b : ℤ) (t : Interval) : Type 0 where
   pub n-small : n ≤ 6
   pub inv-in : Levels n inv
   pub rate-in : Rates n rate
-  pub bounds-in : Levels n bounds
-  pub d-below : d < n
+  pub bounds-in : InInvariant n inv bounds
   pub wall-in : Level b
+  pub small : SmallInterval t
+
+-- a wall step from a box, whose window ends at end, to the value b of variable d, to be joined to the pieces of a face
+pub record WallJoin (n : ℕ) (inv rate bounds : List ℤ) (end : End) (d : ℕ) (b variable value : ℤ) (pieces : List ℤ) : Type 0 where
+  pub n-small : n ≤ 6
+  pub inv-in : Levels n inv
+  pub rate-in : Rates n rate
+  pub rate-ordered : Ordered n rate
+  pub bounds-in : InInvariant n inv bounds
+  pub window-end : WindowEnd n inv rate bounds end
+  pub d-below : d < n
+  pub from-low : low inv d ≤ℤ b
+  pub to-high : b ≤ℤ high inv d
   pub cut-words : CutVariable n variable
   pub are-pieces : AreFaces n (piecesPerFace (cutFrom variable value)) pieces
 
@@ -41,7 +57,8 @@ pub record WallsJoin (n : ℕ) (inv rate bounds : List ℤ) (variable value : �
   pub n-small : n ≤ 6
   pub inv-in : Levels n inv
   pub rate-in : Rates n rate
-  pub bounds-in : Levels n bounds
+  pub rate-ordered : Ordered n rate
+  pub bounds-in : InInvariant n inv bounds
   pub cut-words : CutVariable n variable
   pub are-pieces : AreFaces n (piecesWith n (cutFrom variable value)) block
 
@@ -49,7 +66,8 @@ pub record WallsJoin (n : ℕ) (inv rate bounds : List ℤ) (variable value : �
 pub record PartJoin (n : ℕ) (inv rate part : List ℤ) (variable value : ℤ) (block : List ℤ) : Type 0 where
   pub inv-in : Levels n inv
   pub rate-in : Rates n rate
-  pub part-ok : PartOk n part
+  pub rate-ordered : Ordered n rate
+  pub part-ok : PartOk n (InInvariant n inv) part
   pub cut-words : CutVariable n variable
   pub are-pieces : AreFaces n (piecesWith n (cutFrom variable value)) block
 
@@ -59,8 +77,10 @@ pub record StartJoin (m : List ℤ) (l n : ℕ) (inv rate : List ℤ) (variable 
   pub below : l < L# m
   pub n-is : n ≡ n# m
   pub n-small : n ≤ 6
+  pub inv-is : inv ≡ invariant m l
   pub inv-in : Levels n inv
   pub rate-in : Rates n rate
+  pub rate-ordered : Ordered n rate
   pub cut-words : CutVariable n variable
   pub are-pieces : AreFaces n (piecesWith n (cutFrom variable value)) block
 
@@ -69,7 +89,7 @@ pub record SwitchJoin (n : ℕ) (guard reset inv from : List ℤ) (variable valu
   pub guard-in : Levels n guard
   pub reset-in : Levels n reset
   pub inv-in : Levels n inv
-  pub from-ok : PartOk n from
+  pub from-ok : PartOk n (Levels n) from
   pub cut-words : CutVariable n variable
   pub are-pieces : AreFaces n (piecesPerFace (cutFrom variable value)) pieces
 

@@ -2,46 +2,109 @@
 // then given to the pieces of the face.
 ghost use mathlib.Core.Path.{_≡_};
 ghost use Prim.Native.Nat.{_*_, _<_};
+ghost use lib.IntN.{pos};
 ghost use lib.ListN.{length};
-ghost use Rattle.plant.specs.Box.{present};
+ghost use Rattle.integers.specs.Words.{word};
+ghost use Rattle.plant.specs.Box.{boxAt, hull, present, faceWords};
+ghost use Rattle.plant.specs.declared.Delays.the-variants.{Between};
 ghost use Rattle.plant.specs.Model.{L#, cutVariable, cutValue, cutFrom};
 ghost use Rattle.plant.specs.Pieces.{piecesPerFace, pieces};
-ghost use Rattle.plant.specs.Steps.{wallStep};
-ghost use Rattle.plant.specs.Tables.{piecesBefore, tableSize, faceRead, pieceOf, tableBy, startPart, wallsJoined};
+ghost use Rattle.plant.specs.Steps.{boxAfter, faceAfter, wallStep};
+ghost use Rattle.plant.specs.Tables.{faceSize, piecesBefore, tableSize, faceRead, pieceOf, tableBy, startPart, wallsJoined};
 ghost use Rattle.tables.specs.Places.{Places};
-ghost use Rattle.tables.specs.Room.{joinedEach, cutEach};
+ghost use Rattle.tables.specs.Room.{AreFaces, joinedEach, cutEach, CutVariable};
 ghost use Rattle.passes.specs.Checked.{Checked};
-ghost use Rattle.passes.specs.Joining.{Located, piecesWith, WallJoin, WallsJoin, PartJoin, StartJoin, wallsFrom, locationBy};
+ghost use Rattle.passes.specs.Joining.{Located, piecesWith, AfterJoin, WallJoin, WallsJoin, PartJoin, StartJoin, wallsFrom, locationBy};
 use super::parts;
+use plant::Delays;
+use plant::End;
+use plant::Interval;
 
-// Joins to the pieces of a face the wall step from a box to the value b of variable d.
-fn join_wall(
+// Joins to a present face, bound by bound, the box after the delays t to the value b of variable d.
+fn widen_after(
     n: usize,
     inv: &[i32],
     rate: &[i32],
     bounds: &[i32],
     d: usize,
     b: i64,
+    t: Interval,
+    face: &mut [i32],
+)
+    requires { ⌜ AfterJoin n (now inv) (now rate) (now bounds) b t × (length (now face) ≡ faceSize n) × (word (now face) 0 ≡ pos 1) ⌝ }
+    ensures { λ _. ⌜ now (face .exit) ≡ faceWords n (present (hull n (boxAt n (now (face .entry)) 1) (boxAfter n (now (inv .entry)) (now (rate .entry)) (now (bounds .entry)) d b t))) ⌝ }
+{
+    let mut i = 0;
+    while i < n {
+        let lo = steps::low_after(inv, rate, bounds, d, b, t, i);
+        let hi = steps::high_after(inv, rate, bounds, d, b, t, i);
+        let k = 2 * i;
+        let l = k + 1;
+        let h = k + 2;
+        let low = integers::smaller(face[l] as i64, lo);
+        let high = integers::larger(face[h] as i64, hi);
+        face[l] = low as i32;
+        face[h] = high as i32;
+        i = i + 1;
+    }
+}
+
+// Joins to the pieces of a face the box after the delays t to the value b of variable d.
+fn join_after(
+    n: usize,
+    inv: &[i32],
+    rate: &[i32],
+    bounds: &[i32],
+    d: usize,
+    b: i64,
+    t: Interval,
     variable: i32,
     value: i32,
     pieces: &mut [i32],
 )
-    requires { ⌜ WallJoin n (now inv) (now rate) (now bounds) d b variable value (now pieces) ⌝ }
-    ensures { λ _. ⌜ now (pieces .exit) ≡ joinedEach n (piecesPerFace (cutFrom variable value)) (now (pieces .entry)) (cutEach n (cutFrom variable value) d (wallStep n (now (inv .entry)) (now (rate .entry)) (now (bounds .entry)) d b)) ⌝ }
+    requires { ⌜ AfterJoin n (now inv) (now rate) (now bounds) b t × CutVariable n variable × AreFaces n (piecesPerFace (cutFrom variable value)) (now pieces) ⌝ }
+    ensures { λ _. ⌜ now (pieces .exit) ≡ joinedEach n (piecesPerFace (cutFrom variable value)) (now (pieces .entry)) (cutEach n (cutFrom variable value) d (faceAfter n (now (inv .entry)) (now (rate .entry)) (now (bounds .entry)) d b (Between t))) ⌝ }
 {
     let mut after = [0i32; 12];
-    let end = 2 * n;
-    if steps::wall_step(n, inv, rate, bounds, d, b, &mut after) {
+    let size = 2 * n;
+    if steps::box_after(n, inv, rate, bounds, d, b, t, &mut after) {
         if integers::same(variable, -1) {
-            tables::join(n, &after[..end], pieces);
+            tables::join(n, &after[..size], pieces);
         } else {
             let v = integers::natural(variable);
-            tables::join_both(n, d, v, value, &after[..end], pieces);
+            tables::join_both(n, d, v, value, &after[..size], pieces);
         }
     }
 }
 
-// Joins to the pieces of each face of a location the wall step from a box.
+// Joins to the pieces of a face the wall step from a box, whose window ends at `end`, to the value b of variable d. The step's box is
+// never empty: a present face in an uncut location is widened by it without a copy.
+fn join_wall(
+    n: usize,
+    inv: &[i32],
+    rate: &[i32],
+    bounds: &[i32],
+    end: End,
+    d: usize,
+    b: i64,
+    variable: i32,
+    value: i32,
+    pieces: &mut [i32],
+)
+    requires { ⌜ WallJoin n (now inv) (now rate) (now bounds) end d b variable value (now pieces) ⌝ }
+    ensures { λ _. ⌜ now (pieces .exit) ≡ joinedEach n (piecesPerFace (cutFrom variable value)) (now (pieces .entry)) (cutEach n (cutFrom variable value) d (wallStep n (now (inv .entry)) (now (rate .entry)) (now (bounds .entry)) d b)) ⌝ }
+{
+    let Delays::Between(t) = delays::wall_delays(rate, bounds, d, b, end) else {
+        return;
+    };
+    if integers::same(variable, -1) & integers::same(pieces[0], 1) {
+        widen_after(n, inv, rate, bounds, d, b, t, pieces);
+    } else {
+        join_after(n, inv, rate, bounds, d, b, t, variable, value, pieces);
+    }
+}
+
+// Joins to the pieces of each face of a location the wall step from a box. Its window is made once, for all walls.
 fn join_walls(
     n: usize,
     inv: &[i32],
@@ -54,22 +117,24 @@ fn join_walls(
     requires { ⌜ WallsJoin n (now inv) (now rate) (now bounds) variable value (now block) ⌝ }
     ensures { λ _. ⌜ now (block .exit) ≡ joinedEach n (piecesWith n (cutFrom variable value)) (now (block .entry)) (wallsFrom n (now (inv .entry)) (now (rate .entry)) (cutFrom variable value) (present (now (bounds .entry)))) ⌝ }
 {
+    let end = delays::window_end(n, inv, rate, bounds);
     let faces = 2 * n;
     let size = tables::pieces_by(variable) * tables::face_size(n);
     let mut f = 0;
     while f < faces {
         let at = f * size;
-        let end = at + size;
+        let next = at + size;
         join_wall(
             n,
             inv,
             rate,
             bounds,
+            end,
             f / 2,
             integers::word(inv, f),
             variable,
             value,
-            &mut block[at..end],
+            &mut block[at..next],
         );
         f = f + 1;
     }

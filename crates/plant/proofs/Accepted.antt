@@ -20,10 +20,10 @@ use Rattle.plant.specs.Calls.{unchanged, certificateQuestions, tableQues
 use Rattle.plant.specs.Demands.{Accepts, Touches, Repeats}
 use Rattle.plant.proofs.Asks.{ask-yes, ask-intro, ask-le, asked, then-both, then-intro, then-le}
 use Rattle.plant.proofs.Numbers.{model-le}
-use Rattle.plant.proofs.Boxes.{face-eq, face-trans, face-antisym}
+use Rattle.plant.proofs.Boxes.{face-refl, face-eq, face-trans, face-antisym}
 use Rattle.plant.proofs.Passed.{Passed, passed}
-use Rattle.plant.proofs.Tables.{Begins, ends, ends-in, in-ends, long-enough, piece-read, table-ext, Valid, ok-valid, made-valid, made-ok}
-use Rattle.plant.proofs.Growth.{TableIn, narrower-refl, new-mono}
+use Rattle.plant.proofs.Tables.{Begins, ends, ends-in, in-ends, long-enough, piece-read, begins-again, table-ext, Valid, ok-valid, made-valid, made-ok}
+use Rattle.plant.proofs.Growth.{TableIn, grows, narrower-refl, new-mono}
 use Rattle.plant.proofs.Keeps.{piecesAfter, pieces-ok, after-made, after-pass, after-begins, onto-begins, after-valid}
 use Rattle.plant.proofs.Forbidden.{touching-mono}
 use Rattle.plant.proofs.Sound.{Closed}
@@ -58,13 +58,34 @@ pub record Accepted (m t : List ℤ) : Type 0 where
   pub is-closed : Closed m t
   pub is-clear : T (not (touching m t))
 
+-- the words t begin with the pieces g: if those after a pass lie in g, a pass adds nothing to t
+module _ (m t : List ℤ) (g : ℕ → ℕ → Face) (begins : Begins m t g) where
+  pub begins-closed : ((l q : ℕ) → l < L# m → q < pieces m l → FaceIn (n# m) (newPiece m t l q) (g l q)) → Closed m t
+  begins-closed h = record {
+    closed = λ l q u v.
+        face-trans (n# m) (newPiece m t l q) (g l q) (pieceOf m t l q) (h l q u v)
+        (face-trans (n# m) (g l q) (ends (n# m) (g l q)) (pieceOf m t l q) (in-ends (n# m) (g l q)) (face-eq (n# m) (sym (piece-read m t g begins l q u v))));
+  }
+
+  -- and a pass that adds nothing leaves them as they are
+  pub closed-unchanged : Closed m t → T (unchanged m t)
+  unfolding unchanged pass
+  closed-unchanged shut = equal-intro
+      (table-ext m (newPiece m t) (pieceOf m t) (λ l q u v. face-antisym (n# m) (newPiece m t l q) (pieceOf m t l q) (shut .closed l q u v) (grows m t l q))
+      ∙ sym (begins-again m t g begins))
+
 closed-of : (m t : List ℤ) → T (unchanged m t) → Closed m t
 unfolding unchanged pass
-closed-of m t h = record {
-  closed = λ l q u v.
-      face-trans (n# m) (newPiece m t l q) (ends (n# m) (newPiece m t l q)) (pieceOf m t l q) (in-ends (n# m) (newPiece m t l q))
-      (face-eq (n# m) (sym (piece-read m t (newPiece m t) (sym (equal-eq (pass m t) (take (tableSize m) t) h)) l q u v)));
-}
+closed-of m t h = begins-closed m t (newPiece m t) (sym (equal-eq (pass m t) (take (tableSize m) t) h)) (λ l q u v. face-refl (n# m) (newPiece m t l q))
+
+-- the answers that make an acceptance
+pub questions-yes : (m t : List ℤ) → modelQuestions m ≡ 0 → T (leb (tableSize m) (length t)) → T (tableOk m t) → T (unchanged m t) → T (not (touching m t)) → checkerQuestions m t ≡ 0
+unfolding checkerQuestions tableQuestions certificateQuestions
+questions-yes m t model long good same clear =
+    then-intro model
+    (then-intro (ask-intro (leb (tableSize m) (length t)) 20 long)
+    (then-intro (ask-intro (tableOk m t) 32 good)
+    (then-intro (ask-intro (unchanged m t) 33 same) (ask-intro (not (touching m t)) 34 clear))))
 
 pub accepted : (m t : List ℤ) → Accepts m t → Accepted m t
 unfolding checkerQuestions tableQuestions certificateQuestions
@@ -115,12 +136,10 @@ module _ (m : List ℤ) (asks : modelQuestions m ≡ 0) where
 
   -- with any words put behind it
   pub repeats-accepted : (k : ℕ) → (Touches m k → ⊥) → Repeats m k → (s : List ℤ) → Accepts m (onto (tableAfter m k) s)
-  unfolding checkCall checkerQuestions tableQuestions certificateQuestions unchanged
+  unfolding checkCall unchanged
   repeats-accepted k clear repeats s = ap (λ (q : ℕ). checkBy q .code)
-      (then-intro asks
-      (then-intro (ask-intro (leb (tableSize m) (length t)) 20 (le→leb (tableSize m) (length t) (long-enough m t (piecesAfter m k) begins)))
-      (then-intro (ask-intro (tableOk m t) 32 (made-ok m ok t (piecesAfter m k) begins (pieces-ok m ok k)))
-      (then-intro (ask-intro (unchanged m t) 33 (equal-intro same-words)) (ask-intro (not (touching m t)) 34 (not-T (touching m t) clears))))))
+      (questions-yes m t asks (le→leb (tableSize m) (length t) (long-enough m t (piecesAfter m k) begins)) (made-ok m ok t (piecesAfter m k) begins (pieces-ok m ok k))
+      (equal-intro same-words) (not-T (touching m t) clears))
     where
       t : List ℤ
       t = onto (tableAfter m k) s

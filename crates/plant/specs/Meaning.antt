@@ -20,7 +20,7 @@ use Rattle.plant.specs.declared.Delays.the-variants.{Between}
 use Rattle.plant.specs.Box.{low, high, Ordered, Inside, Face, absent, present, FaceIn}
 use Rattle.plant.specs.Model.{n#, E#, invariant, rate, source, target, resetMask, masked, guard, reset, L#, Cut, uncut, cutBy, cutOf, faceNumber, variableOf}
 use Rattle.plant.specs.Delays.{delaysInto, In, Reaches}
-use Rattle.plant.specs.Steps.{touches, Touch, Bound, unbounded, bound, cutLow, cutHigh, wallDelays, wallStep, switchStep}
+use Rattle.plant.specs.Steps.{touches, Touch, Bound, unbounded, bound, cutLow, cutHigh, StillInside, wallDelays, WallDelay, wallStep, switchStep}
 use Rattle.plant.specs.Pieces.{Extent, wholeFace, upToValue, fromValue, noExtent, extentBy, cutToExtent, piecesPerFace, perFace, pieceNumber}
 use Rattle.plant.specs.Tables.{wordsPerLocation, tableSize, longestTableFile, tableBy, pieceOf, tableOk, startPart, widths, ceilingOf}
 use Rattle.plant.specs.Runs.{InBox, IsDelay, IsSwitch, IsInitial}
@@ -47,22 +47,25 @@ module _ (m : List ℤ) (l : ℕ) (part : List ℤ) (d : ℕ) (b : ℤ) where
     pub is-delay : IsDelay m D (record { location = l; levels = x }) t (record { location = l; levels = y })
     pub at-wall : word y d ≡ b *ℤ pos D
 
-  -- the delay t / D brings variable i, of some levels of the part, to a level with P
+  -- the delay t / D, one that all variables can live with (document 02, T-06), brings variable i, of some levels of the part, to a
+  -- level with P
   pub record Reached (i D t : ℕ) (P : ℤ → Type 0) : Type 0 where
     pub before : List ℤ
     pub after : List ℤ
     pub brings : Brings D t before after
+    pub livable : StillInside (n# m) (invariant m l) (rate m l) part D t
     pub level : P (word after i)
 
-  -- some delay brings variable i to a level X over D with P
+  -- some such delay brings variable i to a level X over D with P
   pub record Somewhere (i : ℕ) (P : ℕ → ℤ → Type 0) : Type 0 where
     pub D : ℕ
     pub t : ℕ
     pub reached : Reached i D t (P D)
 
-  -- every level X over D to which a delay brings variable i has P
+  -- every level X over D to which such a delay brings variable i has P
   abbrev pub Everywhere : ℕ → (ℕ → ℤ → Type 0) → Type 0
-  Everywhere i P = (D t : ℕ) (x y : List ℤ) → Brings D t x y → P D (word y i)
+  Everywhere i P =
+      (D t : ℕ) (x y : List ℤ) → Brings D t x y → StillInside (n# m) (invariant m l) (rate m l) part D t → P D (word y i)
 
   -- a low of variable i before the cut is the level that an end of the delays brings it to, down to a whole number, and no level is
   -- below it; where it is unbounded, levels go below every number
@@ -89,16 +92,34 @@ module _ (m : List ℤ) (l : ℕ) (part : List ℤ) (d : ℕ) (b : ℤ) where
     pub high-cut : (i : ℕ) → i < n# m → high box i ≡ cutHigh (highs i) (high (invariant m l) i)
     pub not-empty : Ordered (n# m) box
 
+  -- the delay t / D brings some levels of the part to levels at the wall that lie in the invariant
+  pub record BroughtInside (D t : ℕ) : Type 0 where
+    pub before : List ℤ
+    pub after : List ℤ
+    pub brings : Brings D t before after
+    pub inside : InBox (n# m) D (invariant m l) after
+
   pub record WallMeans : Type 0 where
-    -- its delays are exactly those that bring variable d, of some levels of the part, to b
+    -- its delays are exactly those that bring variable d, of some levels of the part, to b, and that all variables can live with
+    -- (the invariant being ordered, as 11 asks)
     pub delays :
-        (D t : ℕ) → 0 < D
+        Ordered (n# m) (invariant m l) → (D t : ℕ) → 0 < D
         → In D t (wallDelays (n# m) (invariant m l) (rate m l) part d b) ↔ Reached d D t (λ X. X ≡ b *ℤ pos D)
+    -- and, where b lies in the invariant's range of d, as a wall does, exactly those that bring some levels of the part to levels at
+    -- the wall inside the invariant, all variables at once
+    pub delays-inside :
+        Ordered (n# m) (invariant m l) → low (invariant m l) d ≤ℤ b → b ≤ℤ high (invariant m l) d → (D t : ℕ) → 0 < D
+        → In D t (wallDelays (n# m) (invariant m l) (rate m l) part d b) ↔ BroughtInside D t
     -- it holds every level in the invariant that a delay of a run brings to the wall
     pub holds :
         (D t : ℕ) (x y : List ℤ) → Brings D t x y → InBox (n# m) D (invariant m l) y
         → Holds (n# m) D y (wallStep (n# m) (invariant m l) (rate m l) part d b)
-    -- and it is no wider than document 01 says
+    -- and is the smallest face that does: it lies in every other
+    pub smallest :
+        (g : Face)
+        → ((D t : ℕ) (x y : List ℤ) → Brings D t x y → InBox (n# m) D (invariant m l) y → Holds (n# m) D y g)
+        → FaceIn (n# m) (wallStep (n# m) (invariant m l) (rate m l) part d b) g
+    -- its box, bound by bound, is no wider than documents 01 and 02 say
     pub tight : (box : List ℤ) → wallStep (n# m) (invariant m l) (rate m l) part d b ≡ present box → WallBox box
     -- where it gives nothing, there is no such box
     pub nothing : wallStep (n# m) (invariant m l) (rate m l) part d b ≡ absent → (box : List ℤ) → WallBox box → ⊥
@@ -170,6 +191,11 @@ pub record Meaning : Type 0 where
   pub touching :
       (n : ℕ) (inv rate part box : List ℤ) → Ordered n rate → Ordered n part
       → T (touches n inv rate part box) ↔ Touch n inv rate part box
+  -- the delays to the value b of variable d: t / D is one of them exactly if it is one of variable d's own and, for every variable,
+  -- p + a × t / D ≤ high and q + c × t / D ≥ low of the invariant (document 02, T-06)
+  pub wall-delays :
+      (n : ℕ) (inv rate part : List ℤ) (d : ℕ) (b : ℤ) (D t : ℕ) → Ordered n inv → Ordered n rate → Ordered n part → d < n → 0 < D
+      → In D t (wallDelays n inv rate part d b) ↔ WallDelay n inv rate part d b D t
   -- down is to the greatest whole number that is at most z / d, up to the least that is at least z / d
   pub down : (v z : ℤ) (d : ℕ) → 0 < d → (v ≤ℤ floorZ z d) ↔ ((v *ℤ pos d) ≤ℤ z)
   pub up : (v z : ℤ) (d : ℕ) → 0 < d → (ceilZ z d ≤ℤ v) ↔ (z ≤ℤ (v *ℤ pos d))

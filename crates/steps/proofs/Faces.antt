@@ -1,28 +1,25 @@
 -- What the steps hand over is the face of the definition: by the answer it is absent, or present with the box at the front of the lent words.
--- That box is ordered and inside the invariant, so its words are levels.
+-- That box is ordered and inside the invariant.
 use mathlib.Core.Path.{_≡_, refl, sym, ap, _∙_, subst}
 use mathlib.Core.Bool.{Bool, true, false, cond, _&&_}
 use mathlib.Core.List.{List, [], _++_}
 use Prim.Native.Nat.{ℕ, _+_, _*_, _-_, _≤_, _<_}
 use native.Mathlib.Omega.{arith}
-use lib.Dec.{eqb}
 use lib.IntN.{ℤ}
-use lib.Signed.{leZ, _≤ℤ_, ≤ℤ-refl}
+use lib.Signed.{leZ}
 use lib.ListN.{length, take, drop, take-append-drop}
 use lib.Seq.{length-take-le, drop-append-add, drop-drop}
 use Rattle.integers.specs.Words.{onto}
 use Rattle.integers.specs.Counted.{allBelow}
-use Rattle.integers.proofs.Signed.{between}
-use Rattle.integers.proofs.Order.{trans}
-use Rattle.integers.proofs.Extremes.{max-right, min-right}
 use Rattle.integers.proofs.Buffers.{take-onto, length-onto, onto-none}
 use Rattle.plant.specs.declared.Interval.{Interval}
 use Rattle.plant.specs.declared.Delays.{Delays}
 use Rattle.plant.specs.declared.Delays.the-variants.{Between, Never}
-use Rattle.plant.specs.Box.{low, high, boxBy, ordered, Ordered, Inside, cut, Face, absent, present, unlessEmpty, onBox}
-use Rattle.plant.specs.Steps.{Bound, unbounded, bound, lowBound, highBound, cutLow, cutHigh, lowAfter, highAfter, boxAfter, faceAfter, wallDelays, wallStep, setMasked, guarded, landed, switchStep}
-use Rattle.plant.proofs.Boxes.{low-boxBy, high-boxBy, length-boxBy, length-cut, cut-right, FaceAll, unless-all, onBox-all}
-use Rattle.delays.specs.Ranges.{Levels}
+use Rattle.plant.specs.Box.{boxBy, ordered, Inside, cut, Face, absent, present, unlessEmpty, onBox}
+use Rattle.plant.specs.Steps.{lowAfter, highAfter, boxAfter, faceAfter, setMasked, guarded, landed, switchStep}
+use Rattle.plant.proofs.Boxes.{length-boxBy, length-cut, cut-right, FaceAll, unless-all, onBox-all}
+use Rattle.plant.proofs.WallStep.{box-after-inside}
+use Rattle.delays.specs.Ranges.{InInvariant}
 use Rattle.steps.specs.Handing.{Handed}
 use Rattle.steps.proofs.Written.{not-all, ordered-by}
 use Rattle.steps.proofs.Landing.{landedBox}
@@ -98,14 +95,6 @@ module _ (n : ℕ) (inv rate part : List ℤ) (d : ℕ) (b : ℤ) where
     unfolding boxAfter
     after-left = ends-left n lo hi
 
-  -- the delays decide
-  pub wall-by : {t : Delays} {r : Bool} {exit out : List ℤ} → wallDelays n inv rate part d b ≡ t → Handed n r exit out (faceAfter n inv rate part d b t) → Handed n r exit out (wallStep n inv rate part d b)
-  unfolding wallStep
-  wall-by {t} {r} {exit} {out} e h = subst (λ (x : Delays). Handed n r exit out (faceAfter n inv rate part d b x)) (sym e) h
-
-  pub wall-never : {out : List ℤ} → wallDelays n inv rate part d b ≡ Never → 2 * n ≤ length out → Handed n false out out (wallStep n inv rate part d b)
-  wall-never {out} e room = wall-by e (nothing-handed n out absent room refl)
-
 module _ (n mask : ℕ) (guard reset inv from : List ℤ) where
   length-landed : length (landedBox n mask guard reset inv from) ≡ 2 * n
   unfolding landedBox
@@ -128,40 +117,13 @@ module _ (n mask : ℕ) (guard reset inv from : List ℤ) where
 
 -- ---- its range
 
--- a box of n variables, ordered and inside the invariant
-pub record InInvariant (n : ℕ) (inv b : List ℤ) : Type 0 where
-  pub sized : length b ≡ 2 * n
-  pub is-ordered : Ordered n b
-  pub inside : Inside n b inv
-
 in-unless : (n : ℕ) (inv b : List ℤ) → length b ≡ 2 * n → Inside n b inv → FaceAll (InInvariant n inv) (unlessEmpty n b)
 in-unless n inv b l i = unless-all n b (InInvariant n inv) (λ o. record { sized = l; is-ordered = o; inside = i })
 
-cut-low-in : (m : Bound) (v : ℤ) → v ≤ℤ cutLow m v
-cut-low-in unbounded v = ≤ℤ-refl v
-cut-low-in (bound x) v = max-right x v
-
-cut-high-in : (m : Bound) (v : ℤ) → cutHigh m v ≤ℤ v
-cut-high-in unbounded v = ≤ℤ-refl v
-cut-high-in (bound x) v = min-right x v
-
 module _ (n : ℕ) (inv rate part : List ℤ) (d : ℕ) (b : ℤ) where
-  after-inside : (t : Interval) → Inside n (boxAfter n inv rate part d b t) inv
-  unfolding boxAfter lowAfter highAfter
-  after-inside t = record {
-    lower = λ i l. rw (low-boxBy n (lowAfter n inv rate part d b t) (highAfter n inv rate part d b t) i l)
-        (cut-low-in (cond (eqb i d) (bound b) (lowBound (low part i) (low rate i) t)) (low inv i));
-    higher = λ i l. rw (high-boxBy n (lowAfter n inv rate part d b t) (highAfter n inv rate part d b t) i l)
-        (cut-high-in (cond (eqb i d) (bound b) (highBound (high part i) (high rate i) t)) (high inv i));
-  }
-
-  after-in : (t : Delays) → FaceAll (InInvariant n inv) (faceAfter n inv rate part d b t)
+  pub after-in : (t : Delays) → FaceAll (InInvariant n inv) (faceAfter n inv rate part d b t)
   after-in Never = tt
-  after-in (Between t) = in-unless n inv (boxAfter n inv rate part d b t) (length-after n inv rate part d b t) (after-inside t)
-
-  pub wall-in : FaceAll (InInvariant n inv) (wallStep n inv rate part d b)
-  unfolding wallStep
-  wall-in = after-in (wallDelays n inv rate part d b)
+  after-in (Between t) = in-unless n inv (boxAfter n inv rate part d b t) (length-after n inv rate part d b t) (box-after-inside n inv rate part d b t)
 
 pub switch-in : (n mask : ℕ) (guard reset inv : List ℤ) (g : Face) → FaceAll (InInvariant n inv) (switchStep n mask guard reset inv g)
 unfolding switchStep landed
@@ -169,11 +131,3 @@ switch-in n mask guard reset inv g =
     onBox-all (InInvariant n inv) (landed n mask reset inv)
     (λ b. let a = cut n (setMasked n mask reset b) reset in in-unless n inv (cut n a inv) (length-cut n a inv) (cut-right n a inv))
     (onBox g (guarded n guard))
-
--- its words are levels
-pub in-levels : {n : ℕ} {inv b : List ℤ} → Levels n inv → InInvariant n inv b → Levels n b
-in-levels {n} {inv} {b} v h i l = record {
-  there = omega (arith, h .sized);
-  low-in = between (low b i) (h .inside .lower i l) (trans (h .is-ordered i l) (h .inside .higher i l)) (v i l .low-in) (v i l .high-in);
-  high-in = between (high b i) (trans (h .inside .lower i l) (h .is-ordered i l)) (h .inside .higher i l) (v i l .low-in) (v i l .high-in);
-}

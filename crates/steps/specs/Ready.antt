@@ -3,7 +3,7 @@ use mathlib.Core.List.{List}
 use Prim.Native.Nat.{ℕ, _*_, _≤_}
 use lib.IntN.{ℤ}
 use lib.ListN.{length}
-use Rattle.delays.specs.Ranges.{Level, Levels, Rates}
+use Rattle.delays.specs.Ranges.{Level, Levels, Rates, InInvariant}
 
 -- the box a, to be cut to the box b
 pub record CutReady (n : ℕ) (a b out : List ℤ) : Type 0 where
@@ -11,11 +11,11 @@ pub record CutReady (n : ℕ) (a b out : List ℤ) : Type 0 where
   pub b-in : Levels n b
   pub room : 2 * n ≤ length out
 
--- to a wall value b
+-- from a part inside the invariant to a wall value b
 pub record WallReady (n : ℕ) (inv rate part : List ℤ) (b : ℤ) (out : List ℤ) : Type 0 where
   pub inv-in : Levels n inv
   pub rate-in : Rates n rate
-  pub part-in : Levels n part
+  pub part-in : InInvariant n inv part
   pub wall-in : Level b
   pub room : 2 * n ≤ length out
 

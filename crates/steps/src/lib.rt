@@ -1,16 +1,16 @@
-// The wall step and the switch step on boxes of n variables (document 01, "Wall step and switch step"), and the cut of a box.
+// The box of a wall step and the switch step, of n variables (document 01, "Wall step and switch step"), and the cut of a box.
 // Each writes the box of the face that it gives to the front of a lent list, and answers whether it gives one.
 ghost use mathlib.Core.Path.{_≡_};
 ghost use mathlib.Core.Bool.{cond};
-ghost use Prim.Native.Nat.{ℕ, _<_};
+ghost use Prim.Native.Nat.{ℕ};
+ghost use lib.Signed.{_≤ℤ_};
 ghost use Rattle.integers.specs.Rounding.{maxZ, minZ};
 ghost use Rattle.plant.specs.Box.{low, high, cut, present, unlessEmpty};
 ghost use Rattle.plant.specs.declared.Delays.the-variants.{Between};
-ghost use Rattle.plant.specs.Steps.{lowAt, highAt, lowBound, highBound, cutLow, cutHigh, lowAfter, highAfter, faceAfter, wallStep, switchStep};
+ghost use Rattle.plant.specs.Steps.{lowAt, highAt, lowBound, highBound, cutLow, cutHigh, lowAfter, highAfter, faceAfter, switchStep};
 ghost use Rattle.delays.specs.Ranges.{Level, Rate, LevelAt, RateAt, Small, SmallInterval};
 ghost use Rattle.steps.specs.Ready.{CutReady, WallReady, SwitchReady};
 ghost use Rattle.steps.specs.Handing.{Handed};
-use plant::Delays;
 use plant::End;
 use plant::Fraction;
 use plant::Interval;
@@ -56,7 +56,7 @@ fn high_at(q: i64, c: i64, t: Fraction) -> i64
     q + integers::ceil_div(c * (num as i64), den)
 }
 
-// The low p at rate a after the delay t, cut to the invariant's low lo: without a division where it is not above lo.
+// The low p at rate a after the delay t, cut to the invariant's low lo: lo itself, without a division, where it is not above it.
 fn low_within(p: i64, a: i64, t: Fraction, lo: i64) -> i64
     requires { ⌜ Level p × Rate a × Small t × Level lo ⌝ }
     ensures { λ r. ⌜ r ≡ maxZ (lowAt p a t) lo ⌝ }
@@ -65,14 +65,10 @@ fn low_within(p: i64, a: i64, t: Fraction, lo: i64) -> i64
     let den = t.den;
     let way = a * (num as i64);
     let room = (lo - p) * (den as i64);
-    if way <= room {
-        lo
-    } else {
-        integers::larger(low_at(p, a, t), lo)
-    }
+    if way <= room { lo } else { low_at(p, a, t) }
 }
 
-// The high q at rate c after the delay t, cut to the invariant's high hi: without a division where it is not below hi.
+// The high q at rate c after the delay t, cut to the invariant's high hi: hi itself, without a division, where it is not below it.
 fn high_within(q: i64, c: i64, t: Fraction, hi: i64) -> i64
     requires { ⌜ Level q × Rate c × Small t × Level hi ⌝ }
     ensures { λ r. ⌜ r ≡ minZ (highAt q c t) hi ⌝ }
@@ -81,16 +77,12 @@ fn high_within(q: i64, c: i64, t: Fraction, hi: i64) -> i64
     let den = t.den;
     let way = c * (num as i64);
     let room = (hi - q) * (den as i64);
-    if room <= way {
-        hi
-    } else {
-        integers::smaller(high_at(q, c, t), hi)
-    }
+    if room <= way { hi } else { high_at(q, c, t) }
 }
 
-// The low p at rate a after the delays t, cut to the invariant's low lo.
+// The low p, not below the invariant's low lo, at rate a after the delays t, cut to lo: one that does not fall stays above it.
 fn low_cut(p: i64, a: i64, t: Interval, lo: i64) -> i64
-    requires { ⌜ Level p × Rate a × SmallInterval t × Level lo ⌝ }
+    requires { ⌜ Level p × Rate a × SmallInterval t × Level lo × (lo ≤ℤ p) ⌝ }
     ensures { λ r. ⌜ r ≡ cutLow (lowBound p a t) lo ⌝ }
 {
     if a < 0 {
@@ -101,13 +93,13 @@ fn low_cut(p: i64, a: i64, t: Interval, lo: i64) -> i64
         }
     } else {
         let f = t.earliest;
-        integers::larger(low_at(p, a, f), lo)
+        low_at(p, a, f)
     }
 }
 
-// The high q at rate c after the delays t, cut to the invariant's high hi.
+// The high q, not above the invariant's high hi, at rate c after the delays t, cut to hi: one that does not rise stays below it.
 fn high_cut(q: i64, c: i64, t: Interval, hi: i64) -> i64
-    requires { ⌜ Level q × Rate c × SmallInterval t × Level hi ⌝ }
+    requires { ⌜ Level q × Rate c × SmallInterval t × Level hi × (q ≤ℤ hi) ⌝ }
     ensures { λ r. ⌜ r ≡ cutHigh (highBound q c t) hi ⌝ }
 {
     if 0 < c {
@@ -118,12 +110,12 @@ fn high_cut(q: i64, c: i64, t: Interval, hi: i64) -> i64
         }
     } else {
         let f = t.earliest;
-        integers::smaller(high_at(q, c, f), hi)
+        high_at(q, c, f)
     }
 }
 
 // The low of variable i after the delays t to the value b of variable d.
-fn low_after(
+pub fn low_after(
     inv: &[i32],
     rate: &[i32],
     part: &[i32],
@@ -132,7 +124,7 @@ fn low_after(
     t: Interval,
     i: usize,
 ) -> i64
-    requires { ⌜ LevelAt (now inv) i × RateAt (now rate) i × LevelAt (now part) i × SmallInterval t ⌝ }
+    requires { ⌜ LevelAt (now inv) i × RateAt (now rate) i × LevelAt (now part) i × SmallInterval t × (low (now inv) i ≤ℤ low (now part) i) ⌝ }
     ensures { λ r. ⌜ ((n : ℕ) → r ≡ lowAfter n (now (inv .entry)) (now (rate .entry)) (now (part .entry)) d b t i) ⌝ }
 {
     let k = 2 * i;
@@ -147,7 +139,7 @@ fn low_after(
 }
 
 // The high of variable i after the delays t to the value b of variable d.
-fn high_after(
+pub fn high_after(
     inv: &[i32],
     rate: &[i32],
     part: &[i32],
@@ -156,7 +148,7 @@ fn high_after(
     t: Interval,
     i: usize,
 ) -> i64
-    requires { ⌜ LevelAt (now inv) i × RateAt (now rate) i × LevelAt (now part) i × SmallInterval t ⌝ }
+    requires { ⌜ LevelAt (now inv) i × RateAt (now rate) i × LevelAt (now part) i × SmallInterval t × (high (now part) i ≤ℤ high (now inv) i) ⌝ }
     ensures { λ r. ⌜ ((n : ℕ) → r ≡ highAfter n (now (inv .entry)) (now (rate .entry)) (now (part .entry)) d b t i) ⌝ }
 {
     let j = 2 * i + 1;
@@ -198,25 +190,6 @@ pub fn box_after(
         i += 1;
     }
     true
-}
-
-// The wall step to the value b of variable d.
-pub fn wall_step(
-    n: usize,
-    inv: &[i32],
-    rate: &[i32],
-    part: &[i32],
-    d: usize,
-    b: i64,
-    out: &mut [i32],
-) -> bool
-    requires { ⌜ WallReady n (now inv) (now rate) (now part) b (now out) × (d < n) ⌝ }
-    ensures { λ r. ⌜ Handed n r (now (out .exit)) (now (out .entry)) (wallStep n (now (inv .entry)) (now (rate .entry)) (now (part .entry)) d b) ⌝ }
-{
-    let Delays::Between(t) = delays::wall_delays(rate, part, d, b) else {
-        return false;
-    };
-    box_after(n, inv, rate, part, d, b, t, out)
 }
 
 // What a switch leaves of a level: the reset's if the variable is masked.

@@ -7,7 +7,7 @@ use mir.Val.{toZ, ofZ}
 use lib.Dec.{T}
 use Rattle.integers.proofs.Signed.{got64}
 use Rattle.plant.specs.Box.{low, high}
-use Rattle.delays.proofs.Window.{lowest, highest, ruled-out}
+use Rattle.delays.proofs.Touching.{lowest, highest, ruled-out}
 use borrow.Author.Needs.{needs}
 use Rattle.delays.proofs.ruled_out.Statement.{statement}
 use Rattle.delays.proofs.ruled_out.Tie as tie

@@ -1,4 +1,4 @@
--- The loop keeps a Window: no cut so far is empty, and the window is what the delays so far share. A variable whose cut is
+-- The loop keeps a SharedSoFar: no cut so far is empty, and the shared is what the delays so far share. A variable whose cut is
 -- empty, or that has no delay, settles the answer, and the comparisons before the loop find most of these.
 use mathlib.Core.Path.{_≡_, sym, _∙_}
 use Prim.Native.Nat.{_-_, _<_}
@@ -8,16 +8,16 @@ use mir.Val.{toZ, ofZ}
 use Rattle.integers.proofs.Signed.{got64}
 use Rattle.plant.specs.declared.Delays.the-variants.{Between}
 use Rattle.delays.specs.Ranges.{SmallInterval}
-use Rattle.delays.proofs.Window.{Window, lowest, highest, delaysAt, lowest-in, highest-in, found-small, window-start, window-more, window-end, empty-cut, no-delay}
+use Rattle.delays.proofs.Touching.{SharedSoFar, lowest, highest, delaysAt, lowest-in, highest-in, found-small, shared-start, shared-more, shared-end, empty-cut, no-delay}
 use borrow.Author.Needs.{needs}
 use Rattle.delays.proofs.touches.Statement.{statement}
 use Rattle.delays.proofs.touches.Tie as tie
 
 abbrev Inv-loop : tie.InvT-loop
-Inv-loop n inv rate part forbidden window₀ i₀ window i = Window n inv rate part forbidden window i
+Inv-loop n inv rate part forbidden shared₀ i₀ shared i = SharedSoFar n inv rate part forbidden shared i
 
 abbrev μ-loop : tie.MeasureT-loop
-μ-loop n inv rate part forbidden window₀ i₀ window i = n - i
+μ-loop n inv rate part forbidden shared₀ i₀ shared i = n - i
 
 -- the range of the variable's cut
 low-is : (c : tie.After-cut-high Inv-loop μ-loop) → let a = c .before .before .before .before .before .before .args in toZ w64 (ofZ w64 (c .before .cut-low .result)) ≡ lowest (a .inv .now) (a .forbidden .now) (c .before .before .before .loop .i)
@@ -51,7 +51,7 @@ returns c = sym (c .before .ruled-out .ensures (c .if1 .taken))
 loop-holds : tie.Need-loop-holds Inv-loop μ-loop
 loop-holds c =
     let a = c .before .before .args in
-    window-start (a .n) (a .inv .now) (a .rate .now) (a .part .now) (a .forbidden .now)
+    shared-start (a .n) (a .inv .now) (a .rate .now) (a .part .now) (a .forbidden .now)
 
 cut-low-requires : tie.Need-cut-low-requires Inv-loop μ-loop
 cut-low-requires c κs =
@@ -121,7 +121,7 @@ loop-again c =
     let i = d .before .before .before .before .before .loop in
     let a = s .args in
     rw (c .both .ensures)
-    (window-more (a .n) (a .inv .now) (a .rate .now) (a .part .now) (a .forbidden .now) (i .inv) (omega arith)
+    (shared-more (a .n) (a .inv .now) (a .rate .now) (a .part .now) (a .forbidden .now) (i .inv) (omega arith)
     (simp (low-is (d .before .before), high-is (d .before .before)) at (d .before .if2 .left)) (found k) (small k))
 
 has-delay-requires : tie.Need-has-delay-requires Inv-loop μ-loop
@@ -131,7 +131,7 @@ returns-4 : tie.Need-returns-4 Inv-loop μ-loop
 returns-4 c =
     let l = c .before .before .loop in
     let a = c .before .before .before .before .before .args in
-    c .has-delay .ensures ∙ window-end (a .n) (a .inv .now) (a .rate .now) (a .part .now) (a .forbidden .now) (l .inv) (omega arith)
+    c .has-delay .ensures ∙ shared-end (a .n) (a .inv .now) (a .rate .now) (a .part .now) (a .forbidden .now) (l .inv) (omega arith)
 
 pub touches-spec : {M : Type 1} → statement M
 touches-spec =

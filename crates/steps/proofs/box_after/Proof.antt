@@ -1,9 +1,8 @@
 -- The loop has written the ends of the first i variables, and each of them is ordered.
 use mathlib.Core.Path.{_≡_, refl, sym, ap₂}
-use mathlib.Core.Bool.{Bool, true, false, not, _&&_}
+use mathlib.Core.Bool.{Bool, true, not, _&&_}
 use Prim.Native.Nat.{_+_, _*_, _-_, _≤_, _<_}
 use native.Mathlib.Omega.{arith}
-use lib.IntN.{ℤ}
 use lib.Signed.{ltZ, leZ}
 use lib.ListN.{length, length-set}
 use mir.Syntax.{w64}
@@ -15,6 +14,7 @@ use Rattle.integers.specs.Counted.{allBelow}
 use Rattle.integers.proofs.Signed.{got64, back32, fits32}
 use Rattle.plant.specs.Box.{boxBy}
 use Rattle.plant.specs.Steps.{lowAfter, highAfter}
+use Rattle.delays.proofs.Small.{in-levels}
 use Rattle.steps.proofs.Bounds.{Word, low-after-word, high-after-word}
 use Rattle.steps.proofs.Written.{none-written, next-written, none-tested, next-tested, le-by}
 use Rattle.steps.proofs.Faces.{after-all, after-left}
@@ -39,7 +39,7 @@ module _ (c : tie.After-high-after Inv-loop μ-loop) where
       let i = c .before .before .before .loop .i in
       rw (c .before .low-after .ensures (a .n))
       (low-after-word (a .n) (a .inv .now) (a .rate .now) (a .part .now) (a .d) (toZ w64 (ofZ w64 (a .b))) (a .t) i
-      (s .pre .0 .inv-in i (omega arith)) (s .pre .0 .rate-in i (omega arith)) (s .pre .0 .part-in i (omega arith)) (simp (toZ-ofZ (s .fits .b)) (s .pre .0 .wall-in)) (s .pre .1))
+      (s .pre .0 .inv-in i (omega arith)) (s .pre .0 .rate-in i (omega arith)) (in-levels (s .pre .0 .inv-in) (s .pre .0 .part-in) i (omega arith)) (simp (toZ-ofZ (s .fits .b)) (s .pre .0 .wall-in)) (s .pre .1))
 
   high-word : Word (c .high-after .result)
   high-word =
@@ -48,7 +48,7 @@ module _ (c : tie.After-high-after Inv-loop μ-loop) where
       let i = c .before .before .before .loop .i in
       rw (c .high-after .ensures (a .n))
       (high-after-word (a .n) (a .inv .now) (a .rate .now) (a .part .now) (a .d) (toZ w64 (ofZ w64 (a .b))) (a .t) i
-      (s .pre .0 .inv-in i (omega arith)) (s .pre .0 .rate-in i (omega arith)) (s .pre .0 .part-in i (omega arith)) (simp (toZ-ofZ (s .fits .b)) (s .pre .0 .wall-in)) (s .pre .1))
+      (s .pre .0 .inv-in i (omega arith)) (s .pre .0 .rate-in i (omega arith)) (in-levels (s .pre .0 .inv-in) (s .pre .0 .part-in) i (omega arith)) (simp (toZ-ofZ (s .fits .b)) (s .pre .0 .wall-in)) (s .pre .1))
 
 loop-holds : tie.Need-loop-holds Inv-loop μ-loop
 loop-holds c = (search needs, refl, none-written _ _ _, none-tested _)
@@ -57,13 +57,13 @@ low-after-requires : tie.Need-low-after-requires Inv-loop μ-loop
 low-after-requires c κs =
     let s = c .before .before in
     let i = c .before .loop .i in
-    (s .pre .0 .inv-in i (omega arith), s .pre .0 .rate-in i (omega arith), s .pre .0 .part-in i (omega arith), s .pre .1)
+    (s .pre .0 .inv-in i (omega arith), s .pre .0 .rate-in i (omega arith), in-levels (s .pre .0 .inv-in) (s .pre .0 .part-in) i (omega arith), s .pre .1, s .pre .0 .part-in .inside .lower i (omega arith))
 
 high-after-requires : tie.Need-high-after-requires Inv-loop μ-loop
 high-after-requires c κs =
     let s = c .before .before .before in
     let i = c .before .before .loop .i in
-    (s .pre .0 .inv-in i (omega arith), s .pre .0 .rate-in i (omega arith), s .pre .0 .part-in i (omega arith), s .pre .1)
+    (s .pre .0 .inv-in i (omega arith), s .pre .0 .rate-in i (omega arith), in-levels (s .pre .0 .inv-in) (s .pre .0 .part-in) i (omega arith), s .pre .1, s .pre .0 .part-in .inside .higher i (omega arith))
 
 -- the ends of a turn, as the test has them
 ordered-is : (c : tie.After-high-after Inv-loop μ-loop) {t : Bool} → ltZ (toZ w64 (ofZ w64 (c .high-after .result))) (toZ w64 (ofZ w64 (c .before .low-after .result))) ≡ t

@@ -34,7 +34,7 @@ high-cut-requires c κs =
     let p = c .before .word2 in
     let a = c .word3 in
     simp (got64 (v .result) (v .ok), got64 (p .result) (p .ok), got64 (a .result) (a .ok))
-    (rw (p .ensures) (s .pre .2 .high-in), rw (a .ensures) (s .pre .1 .high-in), s .pre .3, rw (v .ensures) (s .pre .0 .high-in))
+    (rw (p .ensures) (s .pre .2 .high-in), rw (a .ensures) (s .pre .1 .high-in), s .pre .3, rw (v .ensures) (s .pre .0 .high-in), rw (v .ensures, p .ensures) (s .pre .4))
 
 returns : tie.Need-returns
 unfolding high highAfter

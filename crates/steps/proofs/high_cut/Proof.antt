@@ -1,8 +1,9 @@
 -- Each branch is a case of the bound: unbounded, at the latest delay, at the earliest.
-use mathlib.Core.Path.{subst, _∙_}
+use mathlib.Core.Path.{sym, subst, _∙_}
 use mir.Facts.{toZ-ofZ}
 use Rattle.integers.proofs.Signed.{got64}
 use Rattle.delays.specs.Ranges.{SmallEnd}
+use Rattle.steps.proofs.Cuts.{high-kept}
 use borrow.Author.Needs.{needs}
 use Rattle.steps.proofs.high_cut.Statement.{statement}
 use Rattle.steps.proofs.high_cut.Tie as tie
@@ -22,9 +23,6 @@ high-within-requires c κs =
 high-at-requires : tie.Need-high-at-requires
 high-at-requires c κs = search needs
 
-smaller-requires : tie.Need-smaller-requires
-smaller-requires c κs = search needs
-
 returns : tie.Need-returns
 returns c =
     let f = c .before .before .before .fits in
@@ -38,11 +36,11 @@ returns-2 c =
 
 returns-3 : tie.Need-returns-3
 returns-3 c =
-    let f = c .before .before .before .before .fits in
-    let t = simp (toZ-ofZ (f .c)) at (c .before .before .before .if1 .left) in
-    let r = got64 (c .before .high-at .result) (c .before .high-at .ok) in
-    let g = simp (r, toZ-ofZ (f .hi)) at (c .smaller .ensures) in
-    got64 (c .smaller .result) (c .smaller .ok) ∙ g ∙ simp (c .before .high-at .ensures, toZ-ofZ (f .q), toZ-ofZ (f .c), t)
+    let s = c .before .before .before in
+    let f = s .fits in
+    let a = s .args in
+    let t = simp (toZ-ofZ (f .c)) at (c .before .before .if1 .left) in
+    rw t (got64 (c .high-at .result) (c .high-at .ok) ∙ simp (toZ-ofZ (f .q), toZ-ofZ (f .c)) at (c .high-at .ensures) ∙ sym (high-kept (a .q) (a .c) (a .hi) (a .t .earliest) (s .pre .2 .earliest-small .den-positive) (s .pre .4) t))
 
 pub high-cut-spec : {M : Type 1} → statement M
 high-cut-spec =
@@ -52,7 +50,6 @@ high-cut-spec =
     enum-known-latest
     high-within-requires
     high-at-requires
-    smaller-requires
     returns
     returns-2
     returns-3)

@@ -1,10 +1,10 @@
--- Not below the invariant's high, as the products show: the high is that one. Else the bound is computed and cut.
+-- Not below the invariant's high, as the products show: the high is that one. Else the bound is computed, and not cut.
 use mathlib.Core.Path.{sym, _∙_}
 use native.Mathlib.Omega.{arith}
 use lib.IntN.{pos, _-ℤ_, _*ℤ_}
 use mir.Facts.{toZ-ofZ}
 use Rattle.integers.proofs.Signed.{as-signed, fits64, back64, got64, abs-minus, scaled}
-use Rattle.steps.proofs.Cuts.{room-small, high-past}
+use Rattle.steps.proofs.Cuts.{room-small, high-past, high-before}
 use borrow.Author.Needs.{needs}
 use Rattle.steps.proofs.high_within.Statement.{statement}
 use Rattle.steps.proofs.high_within.Tie as tie
@@ -36,9 +36,6 @@ mul-room c =
 high-at-requires : tie.Need-high-at-requires
 high-at-requires c κs = search needs
 
-smaller-requires : tie.Need-smaller-requires
-smaller-requires c κs = search needs
-
 returns : tie.Need-returns
 returns c =
     let s = c .before in
@@ -53,10 +50,15 @@ returns c =
 
 returns-2 : tie.Need-returns-2
 returns-2 c =
-    let f = c .before .before .before .fits in
-    let r = got64 (c .before .high-at .result) (c .before .high-at .ok) in
-    let g = simp (r, toZ-ofZ (f .hi)) at (c .smaller .ensures) in
-    got64 (c .smaller .result) (c .smaller .ok) ∙ g ∙ simp (c .before .high-at .ensures, toZ-ofZ (f .q), toZ-ofZ (f .c))
+    let s = c .before .before in
+    let p = s .args .q in
+    let a = s .args .c in
+    let f = s .args .t in
+    let v = s .args .hi in
+    let way = a *ℤ pos (f .num) in
+    let room = (v -ℤ p) *ℤ pos (f .den) in
+    let t = simp (toZ-ofZ (s .fits .q), toZ-ofZ (s .fits .c), toZ-ofZ (s .fits .hi), as-signed (f .num) (omega (arith, s .pre)), as-signed (f .den) (omega (arith, s .pre)), back64 (v -ℤ p) (omega (arith, abs-minus v p, s .pre)), back64 way (omega (arith, scaled a (f .num) (s .pre .1) (s .pre .2 .num-small))), back64 room (omega (arith, room-small v p (f .den) (s .pre .3) (s .pre .0) (s .pre .2 .den-small)))) at (c .before .if1 .left) in
+    got64 (c .high-at .result) (c .high-at .ok) ∙ simp (toZ-ofZ (s .fits .q), toZ-ofZ (s .fits .c)) at (c .high-at .ensures) ∙ sym (high-before p a v f (s .pre .2 .den-positive) t)
 
 pub high-within-spec : {M : Type 1} → statement M
 high-within-spec =
@@ -68,6 +70,5 @@ high-within-spec =
     cast-room
     mul-room
     high-at-requires
-    smaller-requires
     returns
     returns-2)

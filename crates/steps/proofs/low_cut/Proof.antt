@@ -1,8 +1,9 @@
 -- Each branch is a case of the bound: unbounded, at the latest delay, at the earliest.
-use mathlib.Core.Path.{subst, _∙_}
+use mathlib.Core.Path.{sym, subst, _∙_}
 use mir.Facts.{toZ-ofZ}
 use Rattle.integers.proofs.Signed.{got64}
 use Rattle.delays.specs.Ranges.{SmallEnd}
+use Rattle.steps.proofs.Cuts.{low-kept}
 use borrow.Author.Needs.{needs}
 use Rattle.steps.proofs.low_cut.Statement.{statement}
 use Rattle.steps.proofs.low_cut.Tie as tie
@@ -22,9 +23,6 @@ low-within-requires c κs =
 low-at-requires : tie.Need-low-at-requires
 low-at-requires c κs = search needs
 
-larger-requires : tie.Need-larger-requires
-larger-requires c κs = search needs
-
 returns : tie.Need-returns
 returns c =
     let f = c .before .before .before .fits in
@@ -38,11 +36,11 @@ returns-2 c =
 
 returns-3 : tie.Need-returns-3
 returns-3 c =
-    let f = c .before .before .before .before .fits in
-    let t = simp (toZ-ofZ (f .a)) at (c .before .before .before .if1 .left) in
-    let r = got64 (c .before .low-at .result) (c .before .low-at .ok) in
-    let g = simp (r, toZ-ofZ (f .lo)) at (c .larger .ensures) in
-    got64 (c .larger .result) (c .larger .ok) ∙ g ∙ simp (c .before .low-at .ensures, toZ-ofZ (f .p), toZ-ofZ (f .a), t)
+    let s = c .before .before .before in
+    let f = s .fits in
+    let a = s .args in
+    let t = simp (toZ-ofZ (f .a)) at (c .before .before .if1 .left) in
+    rw t (got64 (c .low-at .result) (c .low-at .ok) ∙ simp (toZ-ofZ (f .p), toZ-ofZ (f .a)) at (c .low-at .ensures) ∙ sym (low-kept (a .p) (a .a) (a .lo) (a .t .earliest) (s .pre .2 .earliest-small .den-positive) (s .pre .4) t))
 
 pub low-cut-spec : {M : Type 1} → statement M
 low-cut-spec =
@@ -52,7 +50,6 @@ low-cut-spec =
     enum-known-latest
     low-within-requires
     low-at-requires
-    larger-requires
     returns
     returns-2
     returns-3)

@@ -1,10 +1,10 @@
--- Not above the invariant's low, as the products show: the low is that one. Else the bound is computed and cut.
+-- Not above the invariant's low, as the products show: the low is that one. Else the bound is computed, and not cut.
 use mathlib.Core.Path.{sym, _∙_}
 use native.Mathlib.Omega.{arith}
 use lib.IntN.{pos, _-ℤ_, _*ℤ_}
 use mir.Facts.{toZ-ofZ}
 use Rattle.integers.proofs.Signed.{as-signed, fits64, back64, got64, abs-minus, scaled}
-use Rattle.steps.proofs.Cuts.{room-small, low-past}
+use Rattle.steps.proofs.Cuts.{room-small, low-past, low-before}
 use borrow.Author.Needs.{needs}
 use Rattle.steps.proofs.low_within.Statement.{statement}
 use Rattle.steps.proofs.low_within.Tie as tie
@@ -36,9 +36,6 @@ mul-room c =
 low-at-requires : tie.Need-low-at-requires
 low-at-requires c κs = search needs
 
-larger-requires : tie.Need-larger-requires
-larger-requires c κs = search needs
-
 returns : tie.Need-returns
 returns c =
     let s = c .before in
@@ -53,10 +50,15 @@ returns c =
 
 returns-2 : tie.Need-returns-2
 returns-2 c =
-    let f = c .before .before .before .fits in
-    let r = got64 (c .before .low-at .result) (c .before .low-at .ok) in
-    let g = simp (r, toZ-ofZ (f .lo)) at (c .larger .ensures) in
-    got64 (c .larger .result) (c .larger .ok) ∙ g ∙ simp (c .before .low-at .ensures, toZ-ofZ (f .p), toZ-ofZ (f .a))
+    let s = c .before .before in
+    let p = s .args .p in
+    let a = s .args .a in
+    let f = s .args .t in
+    let v = s .args .lo in
+    let way = a *ℤ pos (f .num) in
+    let room = (v -ℤ p) *ℤ pos (f .den) in
+    let t = simp (toZ-ofZ (s .fits .p), toZ-ofZ (s .fits .a), toZ-ofZ (s .fits .lo), as-signed (f .num) (omega (arith, s .pre)), as-signed (f .den) (omega (arith, s .pre)), back64 (v -ℤ p) (omega (arith, abs-minus v p, s .pre)), back64 way (omega (arith, scaled a (f .num) (s .pre .1) (s .pre .2 .num-small))), back64 room (omega (arith, room-small v p (f .den) (s .pre .3) (s .pre .0) (s .pre .2 .den-small)))) at (c .before .if1 .left) in
+    got64 (c .low-at .result) (c .low-at .ok) ∙ simp (toZ-ofZ (s .fits .p), toZ-ofZ (s .fits .a)) at (c .low-at .ensures) ∙ sym (low-before p a v f (s .pre .2 .den-positive) t)
 
 pub low-within-spec : {M : Type 1} → statement M
 low-within-spec =
@@ -68,6 +70,5 @@ low-within-spec =
     cast-room
     mul-room
     low-at-requires
-    larger-requires
     returns
     returns-2)

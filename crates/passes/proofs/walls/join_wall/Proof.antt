@@ -1,127 +1,137 @@
--- A step that gives nothing leaves the pieces; any other is joined to the face, or to its two pieces, cut to each.
+-- Without a delay the pieces stay. A present face in an uncut location is widened by the box, which is not empty; else the box is
+-- joined to the pieces.
 use mathlib.Core.Path.{_≡_, sym, _∙_}
-use mathlib.Core.List.{List}
-use Prim.Native.Nat.{_*_}
-use native.Mathlib.Omega.{arith}
-use lib.IntN.{ℤ, negsuc, natAbs}
-use lib.ListN.{take}
+use mathlib.Core.Bool.{true}
+use lib.Dec.{T}
+use lib.IntN.{pos, negsuc}
 use mir.Facts.{toZ-ofZ}
-use Rattle.integers.specs.Words.{eqZ}
-use Rattle.tables.specs.Room.{PiecesJoinable}
-use Rattle.tables.proofs.Cutting.{one-joinable, one-joined, not-negative, both-cuttable, are-both, two-joined}
 use borrow.Author.Needs.{needs}
-use Rattle.passes.proofs.Handing.{wall-ready, wall-joinable, wall-joins, wall-joins-nothing}
+use Rattle.integers.specs.Words.{word, eqZ}
+use Rattle.integers.proofs.Signed.{got32}
+use Rattle.integers.proofs.Tests.{true-is, and-yes, is-true}
+use Rattle.integers.proofs.Counted.{eqZ-eq}
+use Rattle.plant.specs.declared.Interval.{Interval}
+use Rattle.plant.specs.declared.Delays.the-variants.{Between}
+use Rattle.plant.specs.Box.{low, high}
+use Rattle.plant.specs.Delays.{delaysTo, bothDelays, orNever}
+use Rattle.delays.specs.Windows.{upTo}
+use Rattle.passes.specs.Joining.{AfterJoin}
+use Rattle.passes.proofs.Handing.{delays-ready, pieces-there, wall-nothing, after-ok, wall-after, one-long, wall-widened}
 use Rattle.passes.proofs.walls.join_wall.Statement.{statement}
 use Rattle.passes.proofs.walls.join_wall.Tie as tie
 
-mul-end : tie.Need-mul-end
-mul-end c = search needs
+wall-delays-requires : tie.Need-wall-delays-requires
+wall-delays-requires c κs =
+    let a = c .args in
+    simp (toZ-ofZ (c .fits .b)) (delays-ready (a .n) (a .inv .now) (a .rate .now) (a .bounds .now) (a .end) (a .d) (a .b) (a .variable) (a .value) (a .pieces .now) (c .pre))
 
-slice-aggregate-wall-step : tie.Need-slice-aggregate-wall-step
-slice-aggregate-wall-step c = search needs
+enum-known-t : tie.Need-enum-known-t
+enum-known-t c = search needs
 
-wall-step-requires : tie.Need-wall-step-requires
-wall-step-requires c κs = let s = c .before in let a = s .args in simp (toZ-ofZ (s .fits .b)) (wall-ready (a .n) (a .inv .now) (a .rate .now) (a .bounds .now) (a .d) (a .b) (a .variable) (a .value) (a .pieces .now) (s .pre) _ (omega (arith, s .pre .n-small)))
+enum-told : tie.Need-enum-told
+enum-told c = search needs
 
--- where the step gives a box
-module _ (c : tie.Then1) where
+returns : tie.Need-returns
+returns c =
+    let s = c .before .before .before in
+    let a = s .args in
+    wall-nothing (a .n) (a .inv .now) (a .rate .now) (a .bounds .now) (a .end) (a .d) (a .b) (a .variable) (a .value) (a .pieces .now) (s .pre) (simp (toZ-ofZ (s .fits .b)) at (c .before .before .wall-delays .ensures)) (c .enum-told .given .1)
+
+-- the delays that were found
+module _ (k : tie.After-known-told) where
   abbrev start : tie.Start
-  start = c .before .before .before .before
+  start = k .before .before .before .before
 
-  abbrev box : List ℤ
-  box = take (2 * start .args .n) (c .before .before .wall-step .last .1 .1 .1 .1 .1 .1 .0)
+  abbrev t : Interval
+  t = k .before .t .given .0 .0
 
-  joinable : PiecesJoinable (start .args .n) (start .args .variable) (start .args .value) box (start .args .pieces .now)
-  joinable = let s = start in let a = s .args in wall-joinable (a .n) (a .inv .now) (a .rate .now) (a .bounds .now) (a .d) (a .b) (a .variable) (a .value) (a .pieces .now) (s .pre) _ (omega (arith, s .pre .n-small)) (simp (toZ-ofZ (s .fits .b)) at (c .before .before .wall-step .ensures)) (c .if1 .taken)
+  delays-are : let a = start .args in k .before .before .before .wall-delays .result ≡ orNever (bothDelays (delaysTo (low (a .bounds .now) (a .d)) (high (a .bounds .now) (a .d)) (low (a .rate .now) (a .d)) (high (a .rate .now) (a .d)) (a .b)) (Between (upTo (a .end))))
+  delays-are = simp (toZ-ofZ (start .fits .b)) at (k .before .before .before .wall-delays .ensures)
 
--- what the test of the cut tells
-told : (c : tie.After-same) → c .same .result ≡ eqZ (start (c .before) .args .variable) (negsuc 0)
-told c = simp (toZ-ofZ (start (c .before) .fits .variable)) at (c .same .ensures)
+  is-ok : AfterJoin (start .args .n) (start .args .inv .now) (start .args .rate .now) (start .args .bounds .now) (start .args .b) t
+  is-ok = let a = start .args in after-ok (a .n) (a .inv .now) (a .rate .now) (a .bounds .now) (a .end) (a .d) (a .b) (a .variable) (a .value) (a .pieces .now) (start .pre) delays-are (k .before .t .given .1)
 
-variable-is : (c : tie.After-natural) → c .natural .result ≡ natAbs (start (c .before .before .before) .args .variable)
-variable-is c = simp (toZ-ofZ (start (c .before .before .before) .fits .variable)) at (c .natural .ensures)
+-- what the two tests tell
+uncut-told : (c : tie.After-same) → c .same .result ≡ eqZ (start (c .before) .args .variable) (negsuc 0)
+uncut-told c = simp (toZ-ofZ (start (c .before) .fits .variable)) at (c .same .ensures)
+
+there-told : (c : tie.After-same2) → c .same2 .result ≡ eqZ (word (start (c .before .before .before) .args .pieces .now) 0) (pos 1)
+there-told c = simp (got32 (word (start (c .before .before .before) .args .pieces .now) 0) (c .before .same-arg .given)) at (c .same2 .ensures)
+
+module _ (c : tie.Then1) where
+  both : T (c .before .before .before .same .result) × T (c .before .same2 .result)
+  both = and-yes (c .before .before .before .same .result) (c .before .same2 .result) (true-is (c .if1 .taken))
+
+  is-uncut : eqZ (start (c .before .before .before .before) .args .variable) (negsuc 0) ≡ true
+  is-uncut = sym (uncut-told (c .before .before .before)) ∙ is-true (both .0)
+
+  is-there : eqZ (word (start (c .before .before .before .before) .args .pieces .now) 0) (pos 1) ≡ true
+  is-there = sym (there-told (c .before)) ∙ is-true (both .1)
 
 same-requires : tie.Need-same-requires
 same-requires c κs = search needs
 
-array-share-prefix-after : tie.Need-array-share-prefix-after
-array-share-prefix-after c = search needs
-
-slice-aggregate-join : tie.Need-slice-aggregate-join
-slice-aggregate-join c = search needs
-
-join-requires : tie.Need-join-requires
-join-requires c κs =
-    let w = c .before .before .before in
-    let a = start (w .before) .args in
-    one-joinable (a .n) (a .d) (a .variable) (a .value) (box (w .before)) (a .pieces .now) (joinable (w .before)) (sym (told w) ∙ c .before .before .if2 .taken)
-
-natural-requires : tie.Need-natural-requires
-natural-requires c κs =
-    let w = c .before in
-    let s = start (w .before) in
+slice-copy-out-same : tie.Need-slice-copy-out-same
+slice-copy-out-same c =
+    let s = start (c .before) in
     let a = s .args in
-    simp (toZ-ofZ (s .fits .variable)) (not-negative (a .n) (a .d) (a .variable) (a .value) (box (w .before)) (a .pieces .now) (joinable (w .before)) (sym (told w) ∙ c .if2 .left))
+    let u = pieces-there (a .n) (a .inv .now) (a .rate .now) (a .bounds .now) (a .end) (a .d) (a .b) (a .variable) (a .value) (a .pieces .now) (s .pre) in
+    search needs
 
-array-share-prefix-after-2 : tie.Need-array-share-prefix-after-2
-array-share-prefix-after-2 c = search needs
+same-requires-2 : tie.Need-same-requires-2
+same-requires-2 c κs = search needs
 
-slice-aggregate-join-both : tie.Need-slice-aggregate-join-both
-slice-aggregate-join-both c = search needs
+widen-after-requires : tie.Need-widen-after-requires
+widen-after-requires c κs =
+    let k = c .before .before .before .before .before in
+    let s = start k in
+    let a = s .args in
+    simp (toZ-ofZ (s .fits .b)) (
+      is-ok k,
+      one-long (a .n) (a .inv .now) (a .rate .now) (a .bounds .now) (a .end) (a .d) (a .b) (a .variable) (a .value) (a .pieces .now) (s .pre) (delays-are k) (k .before .t .given .1) (is-uncut (c .before)),
+      eqZ-eq (word (a .pieces .now) 0) (pos 1) (true-is (is-there (c .before))),
+    )
 
-join-both-requires : tie.Need-join-both-requires
-join-both-requires c κs =
-    let w = c .before .before .before .before in
-    let a = start (w .before) .args in
-    let e = sym (told w) ∙ c .before .before .before .if2 .left in
-    let v = variable-is (c .before .before) in
-    (both-cuttable (a .n) (a .d) (a .variable) (a .value) (box (w .before)) (a .pieces .now) (joinable (w .before)) e v, are-both (a .n) (a .d) (a .variable) (a .value) (box (w .before)) (a .pieces .now) (joinable (w .before)) e v)
+join-after-requires : tie.Need-join-after-requires
+join-after-requires c κs =
+    let k = c .before .before .before .before .before in
+    let s = start k in
+    simp (toZ-ofZ (s .fits .b), toZ-ofZ (s .fits .variable), toZ-ofZ (s .fits .value)) (is-ok k, s .pre .cut-words, s .pre .are-pieces)
 
 same-length : tie.Need-same-length
 same-length c = search needs
 
-returns : tie.Need-returns
-returns c =
-    let w = c .before .before .before .before .before in
-    let s = start (w .before) in
+returns-2 : tie.Need-returns-2
+returns-2 c =
+    let k = c .before .before .before .before .before .before .before in
+    let s = start k in
     let a = s .args in
-    wall-joins (a .n) (a .inv .now) (a .rate .now) (a .bounds .now) (a .d) (a .b) (a .variable) (a .value) (a .pieces .now) (s .pre) _ (omega (arith, s .pre .n-small)) (simp (toZ-ofZ (s .fits .b)) at (w .before .before .before .wall-step .ensures)) (w .before .if1 .taken)
-    (one-joined (a .n) (a .d) (a .variable) (a .value) (box (w .before)) (a .pieces .now) (joinable (w .before)) (sym (told w) ∙ c .before .before .before .before .if2 .taken) (c .before .join .ensures))
+    wall-widened (a .n) (a .inv .now) (a .rate .now) (a .bounds .now) (a .end) (a .d) (a .b) (a .variable) (a .value) (a .pieces .now) (s .pre) (delays-are k) (k .before .t .given .1) (is-uncut (c .before .before .before)) (is-there (c .before .before .before)) (simp (toZ-ofZ (s .fits .b)) at (c .before .widen-after .ensures))
 
 same-length-2 : tie.Need-same-length-2
 same-length-2 c = search needs
 
-returns-2 : tie.Need-returns-2
-returns-2 c =
-    let w = c .before .before .before .before .before .before in
-    let s = start (w .before) in
-    let a = s .args in
-    wall-joins (a .n) (a .inv .now) (a .rate .now) (a .bounds .now) (a .d) (a .b) (a .variable) (a .value) (a .pieces .now) (s .pre) _ (omega (arith, s .pre .n-small)) (simp (toZ-ofZ (s .fits .b)) at (w .before .before .before .wall-step .ensures)) (w .before .if1 .taken)
-    (two-joined (a .n) (a .d) (a .variable) (a .value) (box (w .before)) (a .pieces .now) (joinable (w .before)) (sym (told w) ∙ c .before .before .before .before .before .if2 .left) (variable-is (c .before .before .before .before)) (simp (toZ-ofZ (s .fits .value)) at (c .before .join-both .ensures)))
-
 returns-3 : tie.Need-returns-3
 returns-3 c =
-    let s = c .before .before .before .before in
+    let k = c .before .before .before .before .before .before .before in
+    let s = start k in
     let a = s .args in
-    wall-joins-nothing (a .n) (a .inv .now) (a .rate .now) (a .bounds .now) (a .d) (a .b) (a .variable) (a .value) (a .pieces .now) (s .pre) _ (omega (arith, s .pre .n-small)) (simp (toZ-ofZ (s .fits .b)) at (c .before .before .wall-step .ensures)) (c .if1 .left)
+    wall-after (a .n) (a .inv .now) (a .rate .now) (a .bounds .now) (a .end) (a .d) (a .b) (a .variable) (a .value) (a .pieces .now) (s .pre) (delays-are k) (k .before .t .given .1) (simp (toZ-ofZ (s .fits .b), toZ-ofZ (s .fits .variable), toZ-ofZ (s .fits .value)) at (c .before .join-after .ensures))
 
 pub join-wall-spec : {M : Type 1} → statement M
 join-wall-spec =
     tie.close
     (tie.spec
-    mul-end
-    slice-aggregate-wall-step
-    wall-step-requires
-    same-requires
-    array-share-prefix-after
-    slice-aggregate-join
-    join-requires
-    natural-requires
-    array-share-prefix-after-2
-    slice-aggregate-join-both
-    join-both-requires
-    same-length
+    wall-delays-requires
+    enum-known-t
+    enum-told
     returns
-    same-length-2
+    same-requires
+    slice-copy-out-same
+    same-requires-2
+    widen-after-requires
+    join-after-requires
+    same-length
     returns-2
+    same-length-2
     returns-3)

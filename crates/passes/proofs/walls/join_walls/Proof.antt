@@ -15,27 +15,28 @@ use Rattle.integers.specs.Words.{word, onto}
 use Rattle.integers.specs.Counted.{cat}
 use Rattle.integers.proofs.Signed.{got64}
 use Rattle.integers.proofs.Counted.{sum-same}
-use Rattle.plant.specs.Box.{Face, present}
+use Rattle.plant.specs.Box.{Ordered, Face, present}
 use Rattle.plant.specs.Model.{Cut, cutFrom}
 use Rattle.plant.specs.Pieces.{piecesPerFace}
 use Rattle.plant.specs.Steps.{wallStep}
 use Rattle.plant.specs.Tables.{faceSize}
+use Rattle.plant.proofs.Boxes.{inside-ordered}
 use Rattle.tables.specs.Room.{joinedEach, cutEach}
 use Rattle.passes.specs.Joining.{piecesWith, WallsJoin, wallsFrom}
 use Rattle.passes.proofs.Blocks.{none-put, put-length, one-put, all-put}
-use Rattle.passes.proofs.PartWords.{level-at}
+use Rattle.passes.proofs.PartWords.{between-ends}
 use Rattle.passes.proofs.Handing.{walls-given}
 use Rattle.passes.proofs.Locations.{groupSize, joinedGroup, joined-sized, groups-joined, group-few, block-length, block-few, block-sum, next-inside, next-are-pieces, next-joined}
 use Rattle.passes.proofs.walls.join_walls.Statement.{statement}
 use Rattle.passes.proofs.walls.join_walls.Tie as tie
 
 abbrev Inv-loop : tie.InvT-loop
-Inv-loop n inv rate bounds variable value block₀ faces size f₀ block f =
+Inv-loop n inv rate bounds variable value block₀ end faces size f₀ block f =
     let c = cutFrom (toZ w32 variable) (toZ w32 value) in
     (f ≤ 2 * n) × (block ≡ onto (cat f (joinedGroup n c block₀ (wallsFrom n inv rate c (present bounds)))) block₀)
 
 abbrev μ-loop : tie.MeasureT-loop
-μ-loop n inv rate bounds variable value block₀ faces size f₀ block f = faces - f
+μ-loop n inv rate bounds variable value block₀ end faces size f₀ block f = faces - f
 
 -- the words of the cut, the cut, and what the pieces are given
 abbrev first-word : tie.Start Inv-loop μ-loop → ℤ
@@ -53,32 +54,35 @@ given s = wallsFrom (s .args .n) (s .args .inv .now) (s .args .rate .now) (cut s
 ready : (s : tie.Start Inv-loop μ-loop) → WallsJoin (s .args .n) (s .args .inv .now) (s .args .rate .now) (s .args .bounds .now) (first-word s) (second-word s) (s .args .block .now)
 ready s = rw (toZ-ofZ (s .fits .variable), toZ-ofZ (s .fits .value)) (s .pre)
 
+window-end-requires : tie.Need-window-end-requires Inv-loop μ-loop
+window-end-requires c κs = (c .pre .inv-in, c .pre .rate-in, c .pre .bounds-in)
+
 mul-faces : tie.Need-mul-faces Inv-loop μ-loop
-mul-faces c = omega (arith, c .pre .n-small)
+mul-faces c = omega (arith, c .before .pre .n-small)
 
 pieces-by-requires : tie.Need-pieces-by-requires Inv-loop μ-loop
 pieces-by-requires c κs = tt
 
 face-size-requires : tie.Need-face-size-requires Inv-loop μ-loop
-face-size-requires c κs = omega (arith, c .before .pre .n-small)
+face-size-requires c κs = omega (arith, c .before .before .pre .n-small)
 
 -- the words of a face's pieces
-size-is : (c : tie.After-face-size Inv-loop μ-loop) → c .before .pieces-by .result * c .face-size .result ≡ piecesPerFace (cut (c .before .before)) * faceSize (c .before .before .args .n)
-size-is c = ap₂ (λ (p w : ℕ). p * w) (c .before .pieces-by .ensures (second-word (c .before .before))) (c .face-size .ensures)
+size-is : (c : tie.After-face-size Inv-loop μ-loop) → c .before .pieces-by .result * c .face-size .result ≡ piecesPerFace (cut (c .before .before .before)) * faceSize (c .before .before .before .args .n)
+size-is c = ap₂ (λ (p w : ℕ). p * w) (c .before .pieces-by .ensures (second-word (c .before .before .before))) (c .face-size .ensures)
 
 mul-size : tie.Need-mul-size Inv-loop μ-loop
-mul-size c = let s = c .before .before in record { fits = omega (arith, size-is c, group-few (s .args .n) (cut s) (s .pre .n-small)) }
+mul-size c = let s = c .before .before .before in record { fits = omega (arith, size-is c, group-few (s .args .n) (cut s) (s .pre .n-small)) }
 
 loop-holds : tie.Need-loop-holds Inv-loop μ-loop
 loop-holds c =
-    let s = c .before .before in
+    let s = c .before .before .before in
     let a = s .args in
     (omega arith, none-put (λ f. groupSize (a .n) (cut s) (a .block .now) (given s)) (joinedGroup (a .n) (cut s) (a .block .now) (given s)) (joined-sized (a .n) (cut s) (a .block .now) (given s)) (a .block .now))
 
 -- face f's place
 module _ (c : tie.In-loop Inv-loop μ-loop) where
   abbrev start : tie.Start Inv-loop μ-loop
-  start = c .before .before .before .before
+  start = c .before .before .before .before .before
 
   abbrev size : ℕ
   size = c .before .before .before .pieces-by .result * c .before .before .face-size .result
@@ -107,8 +111,8 @@ module _ (c : tie.In-loop Inv-loop μ-loop) where
 mul-at : tie.Need-mul-at Inv-loop μ-loop
 mul-at c = record { fits = omega (arith, small c) }
 
-add-end : tie.Need-add-end Inv-loop μ-loop
-add-end c = omega (arith, small c)
+add-next : tie.Need-add-next Inv-loop μ-loop
+add-next c = omega (arith, small c)
 
 word-requires : tie.Need-word-requires Inv-loop μ-loop
 word-requires c κs =
@@ -127,6 +131,9 @@ part-join-wall-start c = search needs
 part-join-wall-end : tie.Need-part-join-wall-end Inv-loop μ-loop
 part-join-wall-end c = omega (arith, inside (c .before), turn-long (c .before))
 
+invariant-ordered : (s : tie.Start Inv-loop μ-loop) → Ordered (s .args .n) (s .args .inv .now)
+invariant-ordered s = inside-ordered (s .pre .bounds-in .inside) (s .pre .bounds-in .is-ordered)
+
 -- the wall of face f
 wall-is : (c : tie.After-word Inv-loop μ-loop) → toZ w64 (ofZ w64 (c .word .result)) ≡ word (start (c .before) .args .inv .now) (c .before .before .loop .f)
 wall-is c = got64 (c .word .result) (c .word .ok) ∙ c .word .ensures
@@ -141,9 +148,12 @@ join-wall-requires c κs =
       n-small = s .pre .n-small;
       inv-in = s .pre .inv-in;
       rate-in = s .pre .rate-in;
+      rate-ordered = s .pre .rate-ordered;
       bounds-in = s .pre .bounds-in;
+      window-end = w .before .before .before .before .window-end .ensures;
       d-below = omega (arith, is-face w);
-      wall-in = rw (wall-is (c .before)) (level-at (a .n) (a .inv .now) (s .pre .inv-in) (i .f) (is-face w));
+      from-low = rw (wall-is (c .before)) (between-ends (a .n) (a .inv .now) (invariant-ordered s) (i .f) (is-face w) .0);
+      to-high = rw (wall-is (c .before)) (between-ends (a .n) (a .inv .now) (invariant-ordered s) (i .f) (is-face w) .1);
       cut-words = ready s .cut-words;
       are-pieces = next-are-pieces (a .n) (cut s) (a .block .now) (given s) (ready s .are-pieces) (i .f) (is-face w) (i .inv .1) (at-is w) (end-is w);
     }
@@ -172,7 +182,7 @@ loop-again c =
 
 same-length : tie.Need-same-length Inv-loop μ-loop
 same-length c =
-    let s = c .before .before .before .before in
+    let s = c .before .before .before .before .before in
     let a = s .args in
     let i = c .before .loop in
     put-length (λ f. groupSize (a .n) (cut s) (a .block .now) (given s)) (joinedGroup (a .n) (cut s) (a .block .now) (given s)) (joined-sized (a .n) (cut s) (a .block .now) (given s)) (a .block .now) (i .f) (i .inv .1)
@@ -180,7 +190,7 @@ same-length c =
 
 returns : tie.Need-returns Inv-loop μ-loop
 returns c =
-    let s = c .before .before .before .before in
+    let s = c .before .before .before .before .before in
     let a = s .args in
     let i = c .before .loop in
     let e : i .f ≡ 2 * a .n = omega (arith, i .inv .0, c .loop-test .left) in
@@ -194,13 +204,14 @@ join-walls-spec =
     (tie.spec
     Inv-loop
     μ-loop
+    window-end-requires
     mul-faces
     pieces-by-requires
     face-size-requires
     mul-size
     loop-holds
     mul-at
-    add-end
+    add-next
     word-requires
     mul-join-wall
     sub-join-wall

@@ -1,4 +1,4 @@
--- The touch test goes through the variables and keeps the window of delays that serve all so far. One variable whose cut
+-- The touch test goes through the variables and keeps the interval of delays that serve all so far. One variable whose cut
 -- is empty, or that no delay brings into its range, settles the test.
 use mathlib.Core.Path.{_≡_, refl, sym, ap, ap₂, _∙_, subst}
 use mathlib.Core.Logic.{⊎-elim}
@@ -30,14 +30,14 @@ unfolding bothDelays
 both-never Never t e = refl
 both-never (Between s) t e = ap (bothDelays (Between s)) e
 
-both-between : {s t : Delays} {w v : Interval} → s ≡ Between w → t ≡ Between v → bothDelays s t ≡ Between (both w v)
+pub both-between : {s t : Delays} {w v : Interval} → s ≡ Between w → t ≡ Between v → bothDelays s t ≡ Between (both w v)
 unfolding bothDelays
 both-between e f = ap₂ bothDelays e f
 
 not-less : (a b : ℤ) → ltZ a b ≡ false → b ≤ℤ a
 not-less a b e = let t : T (not (ltZ a b)) = subst (λ (x : Bool). T (not x)) (sym e) tt in omega arithZ
 
-and-false : (s t : Bool) → t ≡ false → s && t ≡ false
+pub and-false : (s t : Bool) → t ≡ false → s && t ≡ false
 and-false true t e = e
 and-false false t e = refl
 
@@ -79,16 +79,16 @@ module _ (n : ℕ) (inv rate part box : List ℤ) where
   abbrev region : List ℤ
   region = cut n box inv
 
-  -- before variable i: no cut so far is empty, and the window is what the delays so far share
-  pub record Window (w : Interval) (i : ℕ) : Type 0 where
+  -- before variable i: no cut so far is empty, and the shared is what the delays so far share
+  pub record SharedSoFar (w : Interval) (i : ℕ) : Type 0 where
     pub seen : i ≤ n
     pub cuts : (j : ℕ) → j < i → low region j ≤ℤ high region j
     pub shares : delaysIntoBox rate part region i ≡ Between w
     pub small : SmallInterval w
 
-  pub window-start : Window anyDelay 0
+  pub shared-start : SharedSoFar anyDelay 0
   unfolding delaysIntoBox
-  window-start =
+  shared-start =
       record {
         seen = omega arith;
         cuts = λ j l. absurd (omega arith);
@@ -105,8 +105,8 @@ module _ (n : ℕ) (inv rate part box : List ℤ) where
   cut-holds : (i : ℕ) → i < n → ltZ (highest inv box i) (lowest inv box i) ≡ false → low region i ≤ℤ high region i
   cut-holds i l u = rw (low-cut n box inv i l, high-cut n box inv i l) (not-less (highest inv box i) (lowest inv box i) u)
 
-  pub window-more : {w t : Interval} {i : ℕ} → Window w i → i < n → ltZ (highest inv box i) (lowest inv box i) ≡ false → delaysAt inv rate part box i ≡ Between t → SmallInterval t → Window (both w t) (i + 1)
-  window-more {w} {t} {i} h l u e k =
+  pub shared-more : {w t : Interval} {i : ℕ} → SharedSoFar w i → i < n → ltZ (highest inv box i) (lowest inv box i) ≡ false → delaysAt inv rate part box i ≡ Between t → SmallInterval t → SharedSoFar (both w t) (i + 1)
+  shared-more {w} {t} {i} h l u e k =
       record {
         seen = omega arith;
         cuts = λ j m. ⊎-elim (h .cuts j) (λ q. subst (λ (x : ℕ). low region x ≤ℤ high region x) (sym q) (cut-holds i l u)) (split j i (omega arith));
@@ -114,9 +114,9 @@ module _ (n : ℕ) (inv rate part box : List ℤ) where
         small = shared-small (h .small) k;
       }
 
-  pub window-end : {w : Interval} {i : ℕ} → Window w i → i ≡ n → reachesEnd (w .earliest) (w .latest) ≡ touches n inv rate part box
+  pub shared-end : {w : Interval} {i : ℕ} → SharedSoFar w i → i ≡ n → reachesEnd (w .earliest) (w .latest) ≡ touches n inv rate part box
   unfolding touches hasDelay
-  window-end {w} {i} h e =
+  shared-end {w} {i} h e =
       let o : ordered n region ≡ true = is-true (ordered-intro n region (λ j l. h .cuts j (omega arith))) in
       let d : delaysIntoBox rate part region n ≡ Between w = subst (λ (x : ℕ). delaysIntoBox rate part region x ≡ Between w) e (h .shares) in
       simp (o, d)
