@@ -1,11 +1,13 @@
 //! The plants that are timed. All are grids of cells as source 000 makes them, with forbidden
 //! boxes inside the invariants that no part of the table at rest touches, so that the search
-//! for a touch goes through all of them after every pass.
+//! for a touch goes through all of them after every pass. It is the table at rest of before
+//! request T-06, in which today's lies: a library of before answers safe too.
 
+use second::before;
 use second::delays::touches;
 use second::draft::{grid, Draft, SwitchDraft};
 use second::files::model_file;
-use second::generate::close;
+use second::generate::close_by;
 use second::model::Plant;
 use second::random::Random;
 
@@ -113,7 +115,7 @@ fn with_forbidden(mut draft: Draft) -> Draft {
     let words = draft.words();
     let plant = Plant::from_words(&words).expect("a timed plant passes its questions");
     let mut table = vec![0; plant.table_words()];
-    assert!(close(&plant, &mut table, 1_000_000));
+    assert!(close_by(&plant, &mut table, 1_000_000, before::pass));
     let mut random = Random::new(7);
     let count = plant.sizes.locations.max(FEWEST_BOXES);
     for l in (0..plant.sizes.locations).cycle().take(count * plant.sizes.locations) {

@@ -1,7 +1,7 @@
 //! The analysis: passes from table 0 until unknown, safe or unfinished.
 
 use crate::model::Plant;
-use crate::tables::{forbidden_touched, forbidden_touched_quick, pass};
+use crate::tables::{forbidden_touched, forbidden_touched_quick, pass, Pass};
 use crate::Refusal;
 
 #[derive(Clone, Copy, Debug, PartialEq, Eq)]
@@ -51,20 +51,21 @@ pub fn ask_buffers(plant: &Plant, table: &[i32], work: &[i32]) -> Result<(), Ref
 
 /// The passes, with the touching that tries every delay.
 pub fn run(plant: &Plant, limit: u32, table: &mut [i32], work: &mut [i32]) -> (Answer, u32) {
-    search(plant, limit, table, work, forbidden_touched)
+    search(plant, limit, table, work, forbidden_touched, pass)
 }
 
 /// The passes, with the quick touching: the speed baseline.
 pub fn run_quick(plant: &Plant, limit: u32, table: &mut [i32], work: &mut [i32]) -> (Answer, u32) {
-    search(plant, limit, table, work, forbidden_touched_quick)
+    search(plant, limit, table, work, forbidden_touched_quick, pass)
 }
 
-fn search(
+pub(crate) fn search(
     plant: &Plant,
     limit: u32,
     table: &mut [i32],
     work: &mut [i32],
     touched: fn(&Plant, &[i32]) -> bool,
+    pass: Pass,
 ) -> (Answer, u32) {
     let size = plant.table_words();
     let mut k = 0u32;

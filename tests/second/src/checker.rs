@@ -1,7 +1,7 @@
 //! The checker: accepts exactly if the model's questions, 20 and 32 to 34 are all yes.
 
 use crate::model::Plant;
-use crate::tables::{forbidden_touched, forbidden_touched_quick, pass, well_formed};
+use crate::tables::{forbidden_touched, forbidden_touched_quick, pass, well_formed, Pass};
 use crate::Refusal;
 
 pub fn checker(model: &[i32], list: &[i32]) -> Result<(), Refusal> {
@@ -22,15 +22,20 @@ pub fn ask_table(plant: &Plant, table: &[i32]) -> Result<(), Refusal> {
 
 /// Questions 33 and 34 of a table that has passed 32.
 pub fn ask_fixpoint(plant: &Plant, table: &[i32]) -> Result<(), Refusal> {
-    ask(plant, table, forbidden_touched)
+    ask(plant, table, forbidden_touched, pass)
 }
 
 /// The same, with the quick touching: the speed baseline.
 pub fn ask_fixpoint_quick(plant: &Plant, table: &[i32]) -> Result<(), Refusal> {
-    ask(plant, table, forbidden_touched_quick)
+    ask(plant, table, forbidden_touched_quick, pass)
 }
 
-fn ask(plant: &Plant, table: &[i32], touched: fn(&Plant, &[i32]) -> bool) -> Result<(), Refusal> {
+pub(crate) fn ask(
+    plant: &Plant,
+    table: &[i32],
+    touched: fn(&Plant, &[i32]) -> bool,
+    pass: Pass,
+) -> Result<(), Refusal> {
     let mut next = vec![0; table.len()];
     if pass(plant, table, &mut next) {
         return Err(33);

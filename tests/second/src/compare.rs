@@ -18,6 +18,7 @@ use crate::generate::{
 };
 use crate::host;
 use crate::model::Plant;
+use crate::pumps::pump_model;
 use crate::random::Random;
 use crate::simulate::travel;
 use crate::starts::{any_crosses, table_of_whole_boxes, touched_by_whole_boxes};
@@ -37,6 +38,8 @@ const EXTREME_ONE_IN: u64 = 20;
 const HELPED_ONE_IN: u64 = 10;
 /// One model in so many is made to be safe by what its walls cut off its start boxes.
 const CROSSING_ONE_IN: u64 = 10;
+/// One model in so many is a pump plant, made to be safe by the cut of its delays.
+const PUMP_ONE_IN: u64 = 8;
 /// One model in so many takes thousands of passes; none where the comparison is tight.
 const LONG_ONE_IN: u64 = 150;
 
@@ -229,6 +232,8 @@ impl Comparison {
             helped_model(&mut self.random).words()
         } else if self.random.chance(1, CROSSING_ONE_IN) {
             crossing_model(&mut self.random).words()
+        } else if self.random.chance(1, PUMP_ONE_IN) {
+            pump_model(&mut self.random).words()
         } else {
             random_model(&mut self.random).words()
         };
@@ -273,11 +278,13 @@ impl Comparison {
         for (label, table) in [("the table at rest", &rest), ("a random table", &other)] {
             let checked = self.check(label, &model, &table_file(plant, table))?;
             self.hold_unknown(code, checked)?;
+            self.hold_accepted(plant, table, checked == 100)?;
         }
         self.calls_case(plant, limit, &rest, &other)?;
         if any_crosses(plant) {
             self.trimmed_case(plant, limit, [&rest, &other])?;
         }
+        self.changes_case(plant, limit)?;
         for _ in 0..damaged {
             self.damaged_case(plant, &model, &rest, &other)?;
             self.damaged_call(plant, &rest, &other)?;
@@ -299,6 +306,7 @@ impl Comparison {
                 self.counts.accepted += 1;
                 self.counts.extreme("safe by its cuts, unknown without them", unknown_without_cuts(plant));
                 self.note_whole_boxes(plant, &table);
+                self.hold_accepted(plant, &table, checked == 100)?;
                 if checked != 100 || travelled.forbidden > 0 || travelled.unreached > 0 {
                     return Err(Difference {
                         text: format!("safe, but check gives {checked} and {travelled:?}\nmodel {}", hex(model)),

@@ -4,6 +4,7 @@
 use std::collections::BTreeMap;
 
 use crate::ceiling;
+use crate::changes::{Changes, STEP_KINDS};
 use crate::damage::{BYTE_DAMAGE, CUT_DAMAGE, FACES_DAMAGE, FIELD_DAMAGE, START_DAMAGE, TABLE_DAMAGE};
 use crate::exports::Call;
 use crate::lending::{DESK_CALLS, DESK_STARTS, LENGTH_KINDS};
@@ -80,8 +81,24 @@ pub const EXTREMES: [(&str, u64); 17] = [
     ("a face with both its pieces", 1_000),
 ];
 
+/// What T-06 changes, and how often each must come up under the full counts.
+type Change = (&'static str, u64, fn(&Changes) -> u64);
+const CHANGES: [Change; 8] = [
+    ("another answer than before T-06", 300, |changes| changes.answer),
+    ("unknown before T-06, and safe", 300, |changes| changes.answers.get("unknown to safe").copied().unwrap_or(0)),
+    ("fewer passes than before T-06", 300, |changes| changes.fewer_passes),
+    ("more passes than before T-06", 300, |changes| changes.more_passes),
+    ("another table than before T-06", 1_000, |changes| changes.table),
+    ("a table accepted before T-06 and still", 5_000, |changes| changes.still_accepted),
+    ("such a table that is wider than the answer's", 1_000, |changes| changes.wider),
+    ("a table refused by 33 before T-06 and accepted", 1_000, |changes| changes.newly_accepted),
+];
+
 /// How often each kind of start box must come up under the full counts.
 const EACH_START: u64 = 300;
+
+/// How often each kind of wall step must come up under the full counts.
+const EACH_STEP: u64 = 1_000;
 
 /// Counts by kind.
 pub type Tally = BTreeMap<String, u64>;
@@ -120,6 +137,8 @@ pub struct Counts {
     pub accepted: u64,
     /// Tables that were refused for models answered unknown.
     pub refused: u64,
+    /// What the cut of delays changed.
+    pub changes: Changes,
     /// Runs of models answered safe, and of models answered unknown.
     pub safe_runs: Travelled,
     pub unknown_runs: Travelled,
@@ -182,12 +201,16 @@ impl Counts {
         self.extreme("a face with both its pieces", seen[2]);
     }
 
-    /// Extremes and kinds of start boxes that did not come up as often as they must under the full counts.
+    /// Extremes, kinds of start boxes, kinds of wall steps and changes by T-06 that did not come up as often as
+    /// they must under the full counts.
     pub fn too_seldom(&self) -> Vec<String> {
-        let extremes = EXTREMES.map(|(kind, least)| (kind, least, self.extremes.get(kind)));
-        let starts = START_KINDS.map(|kind| (kind, EACH_START, self.start_kinds.get(kind)));
-        let counted = extremes.into_iter().chain(starts).map(|(kind, least, count)| (kind, least, count.unwrap_or(&0)));
-        let seldom = counted.filter(|(_, least, count)| *count < least);
+        let tallied = |tally: &Tally, kind: &str| tally.get(kind).copied().unwrap_or(0);
+        let extremes = EXTREMES.map(|(kind, least)| (kind, least, tallied(&self.extremes, kind)));
+        let starts = START_KINDS.map(|kind| (kind, EACH_START, tallied(&self.start_kinds, kind)));
+        let steps = STEP_KINDS.iter().zip(self.changes.steps).map(|(kind, count)| (*kind, EACH_STEP, count));
+        let changes = CHANGES.map(|(kind, least, count)| (kind, least, count(&self.changes)));
+        let counted = extremes.into_iter().chain(starts).chain(steps).chain(changes);
+        let seldom = counted.filter(|(_, least, count)| count < least);
         seldom.map(|(kind, least, count)| format!("{kind} ({count} of {least} times)")).collect()
     }
 
@@ -222,6 +245,11 @@ impl Counts {
             .iter()
             .for_each(|kind| expect(&format!("a start box: {kind}"), self.start_kinds.contains_key(*kind)));
         expect("a model with its start boxes trimmed", self.trimmed > 0);
+        STEP_KINDS
+            .iter()
+            .zip(self.changes.steps)
+            .for_each(|(kind, count)| expect(&format!("delays {kind}"), count > 0));
+        CHANGES.iter().for_each(|(kind, _, count)| expect(kind, count(&self.changes) > 0));
         LIMIT_KINDS.iter().for_each(|kind| expect(&format!("limit {kind}"), self.limits.contains_key(*kind)));
         all_damage().iter().for_each(|kind| expect(kind, self.damage.contains_key(kind)));
         expect("a safe answer's table accepted", self.accepted > 0);

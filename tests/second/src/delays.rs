@@ -1,4 +1,5 @@
-//! Delays to a wall by document 01's rule, and touching a box.
+//! Delays to a wall by document 01's rule, the delays that all variables can live with (document 02, T-06),
+//! and touching a box.
 //!
 //! Touching is here twice. `touches` collects every delay at which a condition
 //! can turn from false to true or back, and tries each of them; it is the one
@@ -23,6 +24,41 @@ pub struct Delays {
     pub latest: End,
 }
 
+impl Delays {
+    /// All delays there are.
+    pub const ALL: Delays = Delays { earliest: Fraction::ZERO, latest: End::Endless };
+
+    fn from(&mut self, earliest: Fraction) {
+        if self.earliest.below(earliest) {
+            self.earliest = earliest;
+        }
+    }
+
+    fn until(&mut self, latest: Fraction) {
+        match self.latest {
+            End::At(held) if !latest.below(held) => {}
+            _ => self.latest = End::At(latest),
+        }
+    }
+
+    fn not_empty(self) -> Option<Delays> {
+        match self.latest {
+            End::At(latest) if latest.below(self.earliest) => None,
+            _ => Some(self),
+        }
+    }
+
+    /// The delays that are in both; None if there is none.
+    #[inline]
+    pub fn cut_to(mut self, other: Delays) -> Option<Delays> {
+        self.from(other.earliest);
+        if let End::At(latest) = other.latest {
+            self.until(latest);
+        }
+        self.not_empty()
+    }
+}
+
 /// The delays from part [p, q] with rate [a, c] to wall value b; None if there is none.
 #[inline]
 pub fn delays(p: i64, q: i64, a: i64, c: i64, b: i64) -> Option<Delays> {
@@ -45,6 +81,29 @@ pub fn delays(p: i64, q: i64, a: i64, c: i64, b: i64) -> Option<Delays> {
         End::At(Fraction::new(b - p, a))
     };
     Some(Delays { earliest, latest })
+}
+
+/// The delays after which every variable can be inside the invariant: p + a·t ≤ high and q + c·t ≥ low for
+/// each of them. None if there is none.
+#[inline]
+pub fn delays_inside(part: &[i32], rates: &[i32], invariant: &[i32]) -> Option<Delays> {
+    let mut inside = Delays::ALL;
+    for i in (0..invariant.len()).step_by(2) {
+        // room + slope·t ≥ 0 for both conditions
+        let high = (invariant[i + 1] as i64 - part[i] as i64, -(rates[i] as i64));
+        let low = (part[i + 1] as i64 - invariant[i] as i64, rates[i + 1] as i64);
+        for (room, slope) in [high, low] {
+            if room < 0 && slope <= 0 {
+                return None;
+            }
+            if slope < 0 {
+                inside.until(Fraction::new(room, -slope));
+            } else if room < 0 {
+                inside.from(Fraction::new(-room, slope));
+            }
+        }
+    }
+    inside.not_empty()
 }
 
 /// A box cut to the invariant; None if the cut is empty.

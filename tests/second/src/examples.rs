@@ -69,16 +69,15 @@ pub fn plant_p_behind(wall: i32) -> Draft {
     draft
 }
 
-/// A start part on both sides of its location's cut, of a start box that crosses walls. On x = 20 t is 0..20
-/// from the part x 0..20; 0..10 from its half above the cut at 10 alone (from the half below it y leaves its
-/// range before); and 0..25 from the whole start box, x -5..25.
+/// A start part on both sides of its location's cut, of a start box that crosses walls. x = 20 is met after 5
+/// to 20, and y can rise for 8: after 5 to 8, with z 27..35. From the whole start box z would be 27..40.
 pub fn start_part_across_a_cut() -> Draft {
     Draft {
         n: 3,
         locations: vec![LocationDraft {
             invariant: vec![0, 20, 0, 10, 0, 40],
-            rates: vec![1; 6],
-            start: Some(vec![-5, 25, 6, 6, -3, 0]),
+            rates: vec![1, 1, 1, 1, -1, -1],
+            start: Some(vec![-5, 15, 2, 2, 35, 50]),
         }],
         cuts: vec![(0, 0, 10)],
         ..Draft::default()
@@ -283,8 +282,7 @@ pub fn three_tanks(cut: bool) -> Draft {
 /// A water-level monitor (Alur and others, source 000's reference 1). The level rises by 1
 /// while the pump is on and falls by 2 while it is off. At level 10 the monitor calls for
 /// off, at 5 for on, and the pump follows when a clock has run for `lag`. The level is to
-/// stay within 1 and 12. Levels and times are in tenths: in whole units the rounding at the
-/// walls would already touch a level that no run meets.
+/// stay within 1 and 12. Levels and times are in tenths.
 ///
 /// Variable 0 is the level, variable 1 the clock. Locations: 0 on, 1 off called for, 2 off,
 /// 3 on called for. The clock stands still at 0 in locations 0 and 2.
@@ -374,6 +372,57 @@ pub fn heated_vat(rim: i32) -> Draft {
         locations: vec![location([-2, -1, 1, 2], Some(vec![80, 130, 20, 25])), location([4, 5, 0, 0], None)],
         switches: vec![switch(0, 0, 0b10, [20, 20]), switch(1, rim, 0, [0, 300])],
         forbidden: vec![(0, vec![0, rim, 230, 300])],
+        cuts: vec![],
+    }
+}
+
+/// The case of document 02's T-06 as a plant: a pump that may stand still (variable 0), a vat that fills (1) and
+/// one that drains (2), all 0..10.
+pub fn standing_pump() -> Draft {
+    Draft {
+        n: 3,
+        locations: vec![LocationDraft {
+            invariant: [0, 10].repeat(3),
+            rates: vec![0, 1, 1, 1, -1, -1],
+            start: Some(vec![0, 0, 5, 5, 10, 10]),
+        }],
+        ..Draft::default()
+    }
+}
+
+/// What a worn pump is to keep clear of in its store: that it runs dry, or that it runs over.
+pub const RUNS_DRY: [i32; 2] = [0, 35];
+pub const RUNS_OVER: [i32; 2] = [115, 120];
+
+/// A worn pump. Variable 0 is the measuring vessel, 0..100, which the pump fills by 1 to 4; variable 1 the vat,
+/// 0..100, which the main fills by 1; variable 2 the store, 0..120, which is drawn on by 1. When the vessel is
+/// full, or the float closes the full vat, all stops, and in location 1 the vessel runs out. Forbidden in both
+/// are some levels of the store.
+///
+/// By itself the vessel is full after 35/2 to 80, with down to 20 in the store. But the vat is full after 60 at
+/// most: at least 40 is left in the store.
+pub fn worn_pump(forbidden: [i32; 2]) -> Draft {
+    let walls = vec![0, 100, 0, 100, 0, 120];
+    let location = |rates: [i32; 6], start: Option<[i32; 6]>| LocationDraft {
+        invariant: walls.clone(),
+        rates: rates.to_vec(),
+        start: start.map(|start| start.to_vec()),
+    };
+    let stop = |d: usize| {
+        let mut full = walls.clone();
+        full[2 * d] = 100;
+        let (guard, reset) = (full.clone(), full);
+        SwitchDraft { source: 0, target: 1, d, source_side: 1, target_side: 1, mask: 0, guard, reset }
+    };
+    let in_store = |l: usize| (l, vec![0, 100, 0, 100, forbidden[0], forbidden[1]]);
+    Draft {
+        n: 3,
+        locations: vec![
+            location([1, 4, 1, 1, -1, -1], Some([20, 30, 40, 45, 100, 110])),
+            location([-5, -4, 0, 0, 0, 0], None),
+        ],
+        switches: vec![stop(0), stop(1)],
+        forbidden: vec![in_store(0), in_store(1)],
         cuts: vec![],
     }
 }

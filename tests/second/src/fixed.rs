@@ -1,7 +1,7 @@
 //! The comparison's fixed cases: the documents', source 000's examples, the sample models, and
 //! sweeps over every length, every bit and every word of small files. Those of the calls beside decide
 //! and check stand in `fixed_calls`, those of start boxes that cross the wall in `fixed_starts`, those of
-//! locations that are cut in `fixed_cuts`.
+//! delays that all variables can live with in `fixed_delays`, those of locations that are cut in `fixed_cuts`.
 
 use crate::compare::{hex, written_table, Comparison, Difference, MOST_ROOM};
 use crate::draft::{grid, Draft};
@@ -157,6 +157,7 @@ impl Comparison {
         self.words_of_a_table()?;
         self.fixed_calls()?;
         self.fixed_starts()?;
+        self.fixed_delays()?;
         self.fixed_cuts()
     }
 

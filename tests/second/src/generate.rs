@@ -10,7 +10,7 @@ use crate::draft::{grid, Draft, LocationDraft, SwitchDraft};
 use crate::model::{Piece, Plant, LEVEL, MAX_FORBIDDEN, MAX_LOCATIONS, MAX_SWITCHES, RATE};
 use crate::random::Random;
 use crate::starts::{table_of_whole_boxes, whole_box_touches};
-use crate::tables::pass;
+use crate::tables::{pass, Pass};
 
 // ---------------------------------------------------------------- models
 
@@ -23,8 +23,9 @@ pub fn random_model(random: &mut Random) -> Draft {
     draft
 }
 
-/// Passes that are made at most to find out whether a random model's cuts or start parts help it.
-const HELP_PASSES: u32 = 60;
+/// Passes that are made at most to find out what helps a random model: its cuts, its start parts or the cut of its
+/// delays.
+pub(crate) const HELP_PASSES: u32 = 60;
 /// Locations that such a model has at most.
 const MOST_HELPED: usize = 12;
 
@@ -99,7 +100,11 @@ fn helped_box(random: &mut Random, draft: &Draft) -> Option<(usize, Vec<i32>)> {
 }
 
 /// A random location and box in its invariant that is as wanted, if one is found soon.
-fn find_box(random: &mut Random, draft: &Draft, wanted: impl Fn(usize, &[i32]) -> bool) -> Option<(usize, Vec<i32>)> {
+pub(crate) fn find_box(
+    random: &mut Random,
+    draft: &Draft,
+    wanted: impl Fn(usize, &[i32]) -> bool,
+) -> Option<(usize, Vec<i32>)> {
     (0..40).find_map(|_| {
         let l = random.below(draft.locations.len());
         let bounds: Vec<i32> = draft.locations[l]
@@ -112,7 +117,7 @@ fn find_box(random: &mut Random, draft: &Draft, wanted: impl Fn(usize, &[i32]) -
 }
 
 /// A part of location l touches the box.
-fn touched_in(plant: &Plant, table: &[i32], l: usize, bounds: &[i32]) -> bool {
+pub(crate) fn touched_in(plant: &Plant, table: &[i32], l: usize, bounds: &[i32]) -> bool {
     let location = plant.location(l);
     let hit = |part: &[i32]| touches(plant.sizes.n, part, location.rates, location.invariant, bounds);
     let mut pieces = table[plant.location_places(l)].chunks_exact(plant.sizes.face_words());
@@ -328,7 +333,7 @@ fn random_free(random: &mut Random) -> Draft {
 }
 
 /// A switch that passes its questions.
-fn random_switch(random: &mut Random, draft: &Draft) -> SwitchDraft {
+pub(crate) fn random_switch(random: &mut Random, draft: &Draft) -> SwitchDraft {
     let n = draft.n;
     let count = draft.locations.len();
     // Look for a pair of walls that agree; if none is found, d is reset to the target's wall.
@@ -392,7 +397,7 @@ fn random_starts(random: &mut Random, draft: &mut Draft) {
 }
 
 /// Start boxes, of which that part crosses a wall.
-fn place_starts(random: &mut Random, draft: &mut Draft, (part, whole): (u64, u64)) {
+pub(crate) fn place_starts(random: &mut Random, draft: &mut Draft, (part, whole): (u64, u64)) {
     let sure = random.below(draft.locations.len());
     for (l, location) in draft.locations.iter_mut().enumerate() {
         if l != sure && !random.chance(1, 8) {
@@ -457,7 +462,7 @@ fn place_behind(random: &mut Random, invariant: &[i32], start: &mut [i32], i: us
     start[2 * i..2 * i + 2].copy_from_slice(&[x.min(y), x.max(y)]);
 }
 
-fn random_forbidden(random: &mut Random, draft: &mut Draft) {
+pub(crate) fn random_forbidden(random: &mut Random, draft: &mut Draft) {
     let boxes = match random.below(20) {
         0 => random.below(MAX_FORBIDDEN + 1),
         1 => MAX_FORBIDDEN,
@@ -490,7 +495,7 @@ fn random_forbidden(random: &mut Random, draft: &mut Draft) {
 }
 
 /// Cuts in no location, in one, in some or in all of those that can be cut.
-fn random_cuts(random: &mut Random, draft: &mut Draft) {
+pub(crate) fn random_cuts(random: &mut Random, draft: &mut Draft) {
     match random.below(8) {
         0..=2 => {}
         3 => {
@@ -616,6 +621,11 @@ pub(crate) fn put_random_piece(random: &mut Random, plant: &Plant, table: &mut [
 
 /// Passes until nothing changes, at most `most` of them; true if nothing changes any more.
 pub fn close(plant: &Plant, table: &mut [i32], most: u32) -> bool {
+    close_by(plant, table, most, pass)
+}
+
+/// The same with another pass.
+pub fn close_by(plant: &Plant, table: &mut [i32], most: u32, pass: Pass) -> bool {
     let mut next = table.to_vec();
     for _ in 0..most {
         if !pass(plant, table, &mut next) {

@@ -5,26 +5,31 @@
 //!
 //! * `model`     – sizes and places, model words, questions 2 to 5, 11 to 19 and 46; start parts, pieces of faces
 //! * `fraction`  – exact fractions
-//! * `delays`    – delays to a wall; touching by one delay for all variables
+//! * `delays`    – delays to a wall, those that all variables can live with; touching by one delay for all variables
 //! * `steps`     – wall step, switch step, join
 //! * `tables`    – question 32, the pass
 //! * `ceiling`, `checker`, `analysis`, `desk`, `files`, `host`, `listing`
+//! * `before`    – the wall step without the cut of T-06, with its pass, analysis and checker, to count and to test
 //! * `calls`     – every public call as a function from values to values
 //! * `draft`     – a model in the making, and grids of cells
 //! * `plain`     – a slow, literal pass and touching, to check the quick ones
 //! * `simulate`  – random runs, from the section "Runs" alone
-//! * `generate`  – random models and tables, `damage` damaged inputs; `random` is their number source
+//! * `generate`  – random models and tables, `pumps` random pump plants, `damage` damaged inputs; `random` is
+//!   their number source
 //! * `starts`    – start boxes that cross the wall: their kinds, trimmed to their start parts, taken whole
 //! * `examples`  – document 01's plant P, source 000's examples and more; `samples` names those in `models`
 //! * `exports`   – the C calls beside decide and check: number, value, lent memory
 //! * `compare`   – compares two implementations of the C calls, `lending` those of `exports`;
-//!   `trimming` a model and the same one with its start boxes trimmed; `fixed`, `fixed_calls`, `fixed_starts`
-//!   and `fixed_cuts` have the fixed cases, `coverage` counts what came up
+//!   `trimming` a model and the same one with its start boxes trimmed; `changes` counts what T-06 changes, and holds
+//!   what it must not; `fixed`, `fixed_calls`, `fixed_starts`,
+//!   `fixed_delays` and `fixed_cuts` have the fixed cases, `coverage` counts what came up
 //! * `host_ffi`  – the C calls of libhost.a (feature `host`), or a stand-in
 
 pub mod analysis;
+pub mod before;
 pub mod calls;
 pub mod ceiling;
+pub mod changes;
 pub mod checker;
 pub mod compare;
 pub mod coverage;
@@ -38,6 +43,7 @@ pub mod files;
 pub mod fixed;
 pub mod fixed_calls;
 pub mod fixed_cuts;
+pub mod fixed_delays;
 pub mod fixed_starts;
 pub mod fraction;
 pub mod generate;
@@ -47,6 +53,7 @@ pub mod lending;
 pub mod listing;
 pub mod model;
 pub mod plain;
+pub mod pumps;
 pub mod random;
 pub mod samples;
 pub mod simulate;

@@ -1,8 +1,9 @@
 //! A slow, literal pass and touching over lists of ranges, to check the quick ones.
 //!
-//! The delays to a wall are found here from their meaning, not from document 01's cases:
-//! t is a delay to wall b exactly if p + a·t ≤ b ≤ q + c·t. The ends of the set of such
-//! t ≥ 0 are 0 or a t with equality, or the set has no last member.
+//! The delays of a wall step are found here from their meaning, not from document 01's cases:
+//! t is a delay to wall b exactly if p + a·t ≤ b ≤ q + c·t for the wall's variable, and
+//! p + a·t ≤ high and q + c·t ≥ low of the invariant for every variable. The ends of the set
+//! of such t ≥ 0 are 0 or a t with equality, or the set has no last member.
 
 use crate::model::Plant;
 
@@ -12,7 +13,7 @@ pub type Ranges = Vec<(i64, i64)>;
 pub type Faces = Vec<Vec<Option<Ranges>>>;
 
 /// num/den with den > 0.
-type Ratio = (i128, i128);
+pub type Ratio = (i128, i128);
 
 pub fn ranges(bounds: &[i32]) -> Ranges {
     bounds.chunks_exact(2).map(|r| (r[0] as i64, r[1] as i64)).collect()
@@ -93,12 +94,22 @@ fn equality(p: i64, rate: i64, value: i64) -> Option<Ratio> {
     (rate != 0 && t.0 >= 0).then_some(t)
 }
 
-/// First and last delay to the wall; the last is None if there is no last. None if no delay.
-pub fn delays((p, q): (i64, i64), (a, c): (i64, i64), b: i64) -> Option<(Ratio, Option<Ratio>)> {
-    let good = |t: Ratio| at_most(after(p, a, t), b) && at_least(after(q, c, t), b);
+/// First and last delay to wall b of variable d that all variables can live with; the last is None if there
+/// is no last. None if no delay.
+pub fn delays(part: &Ranges, rates: &Ranges, invariant: &Ranges, d: usize, b: i64) -> Option<(Ratio, Option<Ratio>)> {
+    // Each variable's range after the delay is to meet these.
+    let mut goals = vec![(d, (b, b))];
+    goals.extend(invariant.iter().copied().enumerate());
+    let good = |t: Ratio| {
+        goals.iter().all(|&(i, (low, high))| {
+            at_most(after(part[i].0, rates[i].0, t), high) && at_least(after(part[i].1, rates[i].1, t), low)
+        })
+    };
     let mut trials: Vec<Ratio> = vec![(0, 1)];
-    trials.extend(equality(p, a, b));
-    trials.extend(equality(q, c, b));
+    for &(i, (low, high)) in &goals {
+        trials.extend(equality(part[i].0, rates[i].0, high));
+        trials.extend(equality(part[i].1, rates[i].1, low));
+    }
     trials.retain(|&t| good(t));
     let first = trials.iter().copied().reduce(|x, y| if less(y, x) { y } else { x })?;
     // All equalities lie below 10^7, so a good t beyond that means that there is no last.
@@ -111,7 +122,7 @@ pub fn delays((p, q): (i64, i64), (a, c): (i64, i64), b: i64) -> Option<(Ratio, 
 
 /// The wall step by its meaning: least and greatest values over the delays.
 pub fn wall_step(part: &Ranges, rates: &Ranges, invariant: &Ranges, d: usize, b: i64) -> Option<Ranges> {
-    let (first, last) = delays(part[d], rates[d], b)?;
+    let (first, last) = delays(part, rates, invariant, d, b)?;
     let mut out = Vec::new();
     for i in 0..part.len() {
         let (least, most) = invariant[i];

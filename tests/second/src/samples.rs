@@ -1,10 +1,12 @@
 //! The sample model files and table files of the folder `models`.
 
-use crate::analysis::run;
+use crate::analysis::{run, Answer};
+use crate::before;
 use crate::draft::Draft;
 use crate::examples::{
     all_cut, box_ends, dosing, figure_1, guarded_box, heated_vat, large_grid, plant_p, plant_p_behind, plant_p_cut,
-    plant_p_cut_table, plant_p_from, plant_p_table, plant_p_unknown, plant_p_wider, three_tanks, two_tank, water_level,
+    plant_p_cut_table, plant_p_from, plant_p_table, plant_p_unknown, plant_p_wider, standing_pump, three_tanks,
+    two_tank, water_level, worn_pump, RUNS_DRY, RUNS_OVER,
 };
 use crate::files::{field, model_file, table_file, FACE, TABLE_HEAD};
 use crate::model::Plant;
@@ -42,6 +44,9 @@ fn answered() -> Vec<(&'static str, Draft)> {
         ("three-tanks", three_tanks(false)),
         ("three-tanks-cut", three_tanks(true)),
         ("largest-cut", all_cut(large_grid(6, 3))),
+        ("standing-pump", standing_pump()),
+        ("worn-pump", worn_pump(RUNS_DRY)),
+        ("worn-pump-over", worn_pump(RUNS_OVER)),
     ]
 }
 
@@ -92,6 +97,11 @@ pub fn tables() -> Vec<(&'static str, Vec<u8>, u64)> {
         ("three-tanks-cut.own-wall", three_tanks_file(|pieces| pieces.push(vec![2, 2, 1, 5, 5, 0, 0, 3, 3])), 32),
         ("three-tanks-cut.no-pieces", three_tanks_file(leave_out), 36),
         ("three-tanks-cut.not-cut", three_tanks_file(|pieces| pieces[1][2] = 1), 37),
+        ("standing-pump", answers_table(&standing_pump()), 100),
+        ("worn-pump", answers_table(&worn_pump(RUNS_DRY)), 100),
+        ("worn-pump.wider", table_of_before(&worn_pump(RUNS_OVER)), 34),
+        ("worn-pump-over", answers_table(&worn_pump(RUNS_OVER)), 100),
+        ("worn-pump-over.wider", table_of_before(&worn_pump(RUNS_OVER)), 100),
     ]
 }
 
@@ -140,6 +150,15 @@ fn leave_out(pieces: &mut Records) {
 
 /// The file of a plant's table after all its passes.
 fn answers_table(draft: &Draft) -> Vec<u8> {
+    table_by(draft, run)
+}
+
+/// The same with the wall steps of before T-06.
+fn table_of_before(draft: &Draft) -> Vec<u8> {
+    table_by(draft, before::run)
+}
+
+fn table_by(draft: &Draft, run: fn(&Plant, u32, &mut [i32], &mut [i32]) -> (Answer, u32)) -> Vec<u8> {
     let words = draft.words();
     let plant = Plant::from_words(&words).expect("a sample passes its questions");
     let mut table = vec![0; plant.table_words()];

@@ -4,7 +4,7 @@
 use crate::delays::touches;
 use crate::generate::close;
 use crate::model::{ordered_inside, Location, Plant, LEVEL};
-use crate::tables::{forbidden_touched, wall_steps_from};
+use crate::tables::{forbidden_touched, inside, wall_steps_from};
 
 /// How the start boxes of a model lie; each must come up in a comparison.
 pub const START_KINDS: [&str; 13] = [
@@ -121,7 +121,7 @@ pub fn table_of_whole_boxes(plant: &Plant, most: u32) -> (Vec<i32>, bool) {
         let location = plant.location(l);
         if location.started {
             let pieces = &mut table[plant.location_places(l)];
-            wall_steps_from(plant.sizes.n, location.start, &location, pieces);
+            wall_steps_from(plant.sizes.n, location.start, &location, inside, pieces);
         }
     }
     let at_rest = close(plant, &mut table, most);

@@ -1,8 +1,8 @@
 //! Tables: question 32, one pass, the search for a touched forbidden box.
 
-use crate::delays::{touches, touches_quick};
+use crate::delays::{delays_inside, touches, touches_quick, Delays};
 use crate::model::{ordered_inside, Cut, Location, Piece, Plant, MAX_BOX};
-use crate::steps::{join, switch_step, wall_step};
+use crate::steps::{join, switch_step, wall_step_within};
 
 /// Question 32: flags 0 or 1, absent pieces zero, present ones ordered, inside the invariant, on their
 /// wall and on their side; the second piece absent on the cut variable's own walls. `table` has exactly
@@ -54,15 +54,30 @@ fn join_cut(n: usize, d: usize, cut: Cut, reached: &[i32; MAX_BOX], pieces: &mut
     changed
 }
 
-/// Joins to the location's new pieces every wall step from one part.
+/// The delays that all variables of a part can live with.
 #[inline]
-pub(crate) fn wall_steps_from(n: usize, part: &[i32], location: &Location, pieces: &mut [i32]) -> bool {
+pub(crate) fn inside(part: &[i32], location: &Location) -> Option<Delays> {
+    delays_inside(part, location.rates, location.invariant)
+}
+
+/// Joins to the location's new pieces every wall step from one part, of those delays that `allowed` gives.
+#[inline]
+pub(crate) fn wall_steps_from(
+    n: usize,
+    part: &[i32],
+    location: &Location,
+    allowed: impl Fn(&[i32], &Location) -> Option<Delays>,
+    pieces: &mut [i32],
+) -> bool {
+    let Some(allowed) = allowed(part, location) else {
+        return false;
+    };
     let words = (1 + 2 * n) * if location.cut.is_some() { 2 } else { 1 };
     let mut changed = false;
     let mut reached = [0i32; MAX_BOX];
     for face in 0..2 * n {
-        let b = location.invariant[face];
-        if wall_step(n, part, location.rates, location.invariant, face / 2, b, &mut reached) {
+        let wall = (face / 2, location.invariant[face]);
+        if wall_step_within(n, part, location.rates, location.invariant, wall, allowed, &mut reached) {
             let pieces = &mut pieces[face * words..][..words];
             changed |= join_to_pieces(n, face / 2, location.cut, &reached, pieces);
         }
@@ -70,9 +85,23 @@ pub(crate) fn wall_steps_from(n: usize, part: &[i32], location: &Location, piece
     changed
 }
 
+/// A pass: the plant, a table, what it becomes, and whether that is another one.
+pub type Pass = fn(&Plant, &[i32], &mut [i32]) -> bool;
+
 /// One pass: `new` becomes the table after `old`; true if they differ.
 /// Every step is taken from the table before the pass. Both have the table's words.
 pub fn pass(plant: &Plant, old: &[i32], new: &mut [i32]) -> bool {
+    pass_by(plant, old, new, inside)
+}
+
+/// The pass with the wall steps of those delays that `allowed` gives.
+#[inline(always)]
+pub(crate) fn pass_by(
+    plant: &Plant,
+    old: &[i32],
+    new: &mut [i32],
+    allowed: impl Fn(&[i32], &Location) -> Option<Delays> + Copy,
+) -> bool {
     let sizes = plant.sizes;
     let n = sizes.n;
     let face_words = sizes.face_words();
@@ -83,16 +112,23 @@ pub fn pass(plant: &Plant, old: &[i32], new: &mut [i32]) -> bool {
         let places = plant.location_places(l);
         let pieces = &mut new[places.clone()];
         if let Some(start) = location.start_part() {
-            changed |= wall_steps_from(n, &start, &location, pieces);
+            changed |= wall_steps_from(n, &start, &location, allowed, pieces);
         }
         for words in old[places].chunks_exact(face_words) {
             if words[0] == 1 {
-                changed |= wall_steps_from(n, &words[1..], &location, pieces);
+                changed |= wall_steps_from(n, &words[1..], &location, allowed, pieces);
             }
         }
     }
+    changed | switch_steps(plant, old, new)
+}
+
+/// Joins every switch step from the table before the pass; true if a piece changed.
+fn switch_steps(plant: &Plant, old: &[i32], new: &mut [i32]) -> bool {
+    let (n, face_words) = (plant.sizes.n, plant.sizes.face_words());
+    let mut changed = false;
     let mut landed = [0i32; MAX_BOX];
-    for s in 0..sizes.switches {
+    for s in 0..plant.sizes.switches {
         let switch = plant.switch(s);
         let from = plant.face_places(switch.source, 2 * switch.d + switch.source_side);
         for words in old[from].chunks_exact(face_words) {

@@ -1,18 +1,23 @@
 //! Cross checks on random and on very small models.
 
 use second::analysis::{run, run_quick, Answer};
+use second::before::{self, lies_inside};
 use second::ceiling;
 use second::checker::ask_table;
 use second::damage::damage_table;
-use second::delays::{delays, touches, touches_quick, End};
-use second::draft::Draft;
+use second::delays::{delays, delays_inside, touches, touches_quick, Delays, End};
+use second::draft::{Draft, LocationDraft};
 use second::fraction::Fraction;
-use second::generate::{close, crossing_model, helped_model, pass_budget, random_model, random_table};
-use second::model::{ordered_inside, Piece, Plant};
+use second::generate::{close, close_by, crossing_model, helped_model, pass_budget, random_model, random_table};
+use second::model::{ordered_inside, Piece, Plant, MAX_BOX};
 use second::plain;
+use second::pumps::pump_model;
 use second::random::Random;
-use second::simulate::{is_forbidden, is_reached, is_run, may_start, random_run, travel, Configuration};
+use second::simulate::{
+    is_forbidden, is_reached, is_run, may_move, may_start, random_run, travel, Configuration, Move,
+};
 use second::starts::{any_crosses, table_of_whole_boxes, touched_by_whole_boxes, trimmed};
+use second::steps::wall_step;
 use second::tables::{forbidden_touched, pass, well_formed};
 
 /// The delay rule against its meaning: t is a delay exactly if p + a·t ≤ b ≤ q + c·t.
@@ -29,13 +34,7 @@ fn delays_are_the_times_at_which_the_wall_is_met() {
                         let rule = delays(p, q, a, c, b);
                         for &t in &times {
                             let met = p * t.den + a * t.num <= b * t.den && b * t.den <= q * t.den + c * t.num;
-                            let inside = rule.is_some_and(|r| {
-                                !t.below(r.earliest)
-                                    && match r.latest {
-                                        End::At(last) => !last.below(t),
-                                        End::Endless => true,
-                                    }
-                            });
+                            let inside = rule.is_some_and(|rule| holds(rule, t));
                             assert_eq!(met, inside, "{p} {q} {a} {c} {b} {t:?} {rule:?}");
                         }
                     }
@@ -43,6 +42,215 @@ fn delays_are_the_times_at_which_the_wall_is_met() {
             }
         }
     }
+}
+
+/// A part of two variables, each inside 0..3, with its rates.
+struct Small {
+    part: [i32; 4],
+    rates: [i32; 4],
+}
+
+const WALLS: [i32; 4] = [0, 3, 0, 3];
+
+/// Every part of two variables with levels 0..3, with rates of these.
+fn all_small() -> Vec<Small> {
+    let ordered = |list: &'static [i32]| {
+        list.iter().flat_map(move |&low| list.iter().filter(move |&&high| low <= high).map(move |&high| [low, high]))
+    };
+    let of_one =
+        || ordered(&[0, 1, 2, 3]).flat_map(move |part| ordered(&[-2, -1, 0, 1, 3]).map(move |rate| (part, rate)));
+    let small = |(x, a): ([i32; 2], [i32; 2]), (y, c): ([i32; 2], [i32; 2])| Small {
+        part: [x[0], x[1], y[0], y[1]],
+        rates: [a[0], a[1], c[0], c[1]],
+    };
+    of_one().flat_map(|x| of_one().map(move |y| small(x, y))).collect()
+}
+
+/// Delays of sixths, up to 8: all ends of the intervals above are among them.
+const SIXTHS: std::ops::RangeInclusive<i64> = 0..=48;
+
+impl Small {
+    /// After t sixths variable i can lie in low..high.
+    fn can_be(&self, i: usize, (low, high): (i32, i32), t: i64) -> bool {
+        let after = |level: i32, rate: i32| 6 * level as i64 + rate as i64 * t;
+        after(self.part[2 * i], self.rates[2 * i]) <= 6 * high as i64
+            && after(self.part[2 * i + 1], self.rates[2 * i + 1]) >= 6 * low as i64
+    }
+
+    /// By its meaning: t sixths are a delay to the wall of d that all variables can live with.
+    fn is_delay(&self, d: usize, b: i32, t: i64) -> bool {
+        self.can_be(d, (b, b), t) && (0..2).all(|i| self.can_be(i, (0, 3), t))
+    }
+
+    /// The wall step's delays by the rule.
+    fn delays(&self, d: usize, b: i32) -> Option<Delays> {
+        let [p, q, a, c] = [self.part[2 * d], self.part[2 * d + 1], self.rates[2 * d], self.rates[2 * d + 1]];
+        let inside = delays_inside(&self.part, &self.rates, &WALLS).expect("a part lies inside its invariant");
+        delays(p as i64, q as i64, a as i64, c as i64, b as i64)?.cut_to(inside)
+    }
+
+    fn step(&self, d: usize, b: i32) -> Option<[i32; 4]> {
+        let mut out = [0; MAX_BOX];
+        wall_step(2, &self.part, &self.rates, &WALLS, d, b, &mut out).then(|| [out[0], out[1], out[2], out[3]])
+    }
+}
+
+fn holds(interval: Delays, t: Fraction) -> bool {
+    let in_time = match interval.latest {
+        End::At(last) => !last.below(t),
+        End::Endless => true,
+    };
+    in_time && !t.below(interval.earliest)
+}
+
+/// T-06: the delays of a wall step are those after which the wall can be met and every variable can be inside,
+/// by the rule and by the plain restatement.
+#[test]
+fn delays_are_those_that_all_can_live_with() {
+    let (mut cut, mut emptied) = (0, 0);
+    for small in all_small() {
+        let [part, rates, walls] = [&small.part, &small.rates, &WALLS].map(|list| plain::ranges(list));
+        for face in 0..4 {
+            let (d, b) = (face / 2, WALLS[face]);
+            let rule = small.delays(d, b);
+            let plain = plain::delays(&part, &rates, &walls, d, b as i64);
+            let mut on_wall_alone = 0;
+            for t in SIXTHS {
+                let meant = small.is_delay(d, b, t);
+                let in_plain = plain.is_some_and(|(first, last)| {
+                    first.0 * 6 <= t as i128 * first.1 && last.is_none_or(|last| t as i128 * last.1 <= last.0 * 6)
+                });
+                assert_eq!(meant, rule.is_some_and(|rule| holds(rule, Fraction::new(t, 6))));
+                assert_eq!(meant, in_plain);
+                on_wall_alone += (small.can_be(d, (b, b), t) && !meant) as u32;
+            }
+            cut += (on_wall_alone > 0 && rule.is_some()) as u32;
+            emptied += (on_wall_alone > 0 && rule.is_none()) as u32;
+        }
+    }
+    assert!(cut > 10_000 && emptied > 1_000, "{cut} cut, {emptied} emptied");
+}
+
+/// T-06: a wall step's box is the smallest of whole numbers that holds what its delays lead to inside the
+/// invariant, variable by variable; it is absent exactly if there is no such delay.
+#[test]
+fn wall_steps_are_as_narrow_as_their_delays() {
+    let floor = |sixths: i64| sixths.div_euclid(6) as i32;
+    for small in all_small() {
+        for face in 0..4 {
+            let (d, b) = (face / 2, WALLS[face]);
+            let i = 1 - d;
+            let after = |end: usize, t: i64| 6 * small.part[end] as i64 + small.rates[end] as i64 * t;
+            let times: Vec<i64> = SIXTHS.filter(|&t| small.is_delay(d, b, t)).collect();
+            let low = times.iter().map(|&t| floor(after(2 * i, t).max(0))).min();
+            let high = times.iter().map(|&t| -floor(-after(2 * i + 1, t).min(18))).max();
+            let mut wanted = [b; 4];
+            (wanted[2 * i], wanted[2 * i + 1]) = (low.unwrap_or(0), high.unwrap_or(0));
+            assert_eq!(small.step(d, b), (!times.is_empty()).then_some(wanted));
+        }
+    }
+}
+
+/// T-06: what a delay of a run leads to on a wall lies in the wall step's box. Levels and delays are halves.
+#[test]
+fn runs_to_a_wall_end_in_its_box() {
+    let all = all_small();
+    let mut random = Random::new(31);
+    let levels = |low: i32, high: i32| 2 * low as i64..=2 * high as i64;
+    let mut arrivals = 0;
+    for _ in 0..1_500 {
+        let small = &all[random.below(all.len())];
+        let location =
+            LocationDraft { invariant: WALLS.to_vec(), rates: small.rates.to_vec(), start: Some(small.part.to_vec()) };
+        let words = Draft { n: 2, locations: vec![location], ..Draft::default() }.words();
+        let plant = Plant::from_words(&words).unwrap();
+        let at = |x: i64, y: i64| Configuration { location: 0, levels: vec![x, y] };
+        for (x, y) in
+            levels(small.part[0], small.part[1]).flat_map(|x| levels(small.part[2], small.part[3]).map(move |y| (x, y)))
+        {
+            for (face, level, t) in
+                (0..4).flat_map(|face| (0..=6).flat_map(move |l| (0..=12).map(move |t| (face, l, t))))
+            {
+                let (d, wall) = (face / 2, 2 * WALLS[face] as i64);
+                let to = if d == 0 { at(wall, level) } else { at(level, wall) };
+                if may_move(&plant, 2, &at(x, y), Move::Delay(t), &to) {
+                    let reached = small.step(d, WALLS[face]).expect("a run gets there");
+                    let inside = (0..2).all(|i| {
+                        2 * reached[2 * i] as i64 <= to.levels[i] && to.levels[i] <= 2 * reached[2 * i + 1] as i64
+                    });
+                    assert!(inside, "{:?} {:?} to {to:?}: {reached:?}", small.part, small.rates);
+                    arrivals += 1;
+                }
+            }
+        }
+    }
+    assert!(arrivals > 50_000, "{arrivals}");
+}
+
+/// T-06: what a part reaches is what its two halves reach, so start parts may be cut to pieces or left whole.
+/// Without the cut of the delays the whole reached more now and then.
+#[test]
+fn halves_reach_what_the_whole_reaches() {
+    type Step = fn(usize, &[i32], &[i32], &[i32], usize, i32, &mut [i32; MAX_BOX]) -> bool;
+    const ROOM: [i32; 6] = [0, 8, 0, 8, 0, 8];
+    let mut random = Random::new(33);
+    let (mut reached, mut more_before) = (0, 0);
+    for _ in 0..40_000 {
+        let mut range = |low: i64, high: i64, width: i64| {
+            let from = random.range(low, high);
+            [from as i32, random.range(from, high.min(from + width)) as i32]
+        };
+        let whole = [range(0, 8, 8), range(0, 8, 1), range(0, 8, 1)].concat();
+        let rates = [range(-3, 3, 1), range(-3, 3, 1), range(-3, 3, 1)].concat();
+        let value = random.range(whole[0] as i64, whole[1] as i64) as i32;
+        let (mut below, mut above) = (whole.clone(), whole.clone());
+        (below[1], above[0]) = (value, value);
+        let face = random.below(6);
+        let from = |step: Step, part: &[i32]| {
+            let mut out = [0; MAX_BOX];
+            step(3, part, &rates, &ROOM, face / 2, ROOM[face], &mut out).then(|| plain::ranges(&out[..6]))
+        };
+        let halves = |step: Step| match (from(step, &below), from(step, &above)) {
+            (below, Some(above)) => plain::hull(&below, &above),
+            (below, None) => below,
+        };
+        assert_eq!(halves(wall_step), from(wall_step, &whole), "{whole:?} at {value}, {rates:?}, face {face}");
+        reached += from(wall_step, &whole).is_some() as u32;
+        more_before += (halves(before::wall_step) != from(before::wall_step, &whole)) as u32;
+    }
+    assert!(reached > 10_000 && more_before > 100, "{reached} reached, {more_before} more before");
+}
+
+/// T-06: pass by pass, each table lies inside the one with the steps of before; a model is not unknown if it was
+/// not before, and some are safe by the cut of their delays.
+#[test]
+fn delays_inside_only_narrow() {
+    let mut random = Random::new(32);
+    let (mut narrower, mut helped, mut longer) = (0, 0, 0);
+    for number in 0..1_200 {
+        let draft = if number % 3 == 0 { pump_model(&mut random) } else { random_model(&mut random) };
+        let words = draft.words();
+        let plant = Plant::from_words(&words).unwrap();
+        let (mut inner, mut outer) = (vec![0; plant.table_words()], vec![0; plant.table_words()]);
+        for _ in 0..12 {
+            close(&plant, &mut inner, 1);
+            close_by(&plant, &mut outer, 1, before::pass);
+            assert!(lies_inside(&plant, &inner, &outer), "{words:?}");
+        }
+        narrower += (inner != outer) as u32;
+        let answer = |run: fn(&Plant, u32, &mut [i32], &mut [i32]) -> (Answer, u32)| {
+            let (mut table, mut work) = (vec![0; plant.table_words()], vec![0; plant.table_words()]);
+            run(&plant, pass_budget(&plant).min(100), &mut table, &mut work)
+        };
+        let ((now, k), (then, k_then)) = (answer(run_quick), answer(before::run));
+        match (now, then) {
+            (Answer::Safe, Answer::Unknown) => helped += 1,
+            (Answer::Unknown, then) => assert!(then == Answer::Unknown && k_then <= k, "{words:?}"),
+            _ => {}
+        }
+        longer += (now == Answer::Safe && then == Answer::Safe && k_then < k) as u32;
+    }
+    assert!(narrower > 200 && helped > 100 && longer > 10, "{narrower} narrower, {helped} helped, {longer} longer");
 }
 
 /// Three ways to ask for touching.
@@ -325,17 +533,17 @@ fn all_boxes(plant: &Plant, piece: Piece) -> Vec<Option<Vec<i32>>> {
     std::iter::once(None).chain(boxes.into_iter().map(Some)).collect()
 }
 
-/// How many well-formed tables there are, how many of them the checker accepts, and how many random runs were
-/// held to some of those: they meet nothing forbidden and stay where the table reaches. None if there are too
-/// many tables to try.
-fn accepted_tables(plant: &Plant, random: &mut Random, most: u64) -> Option<(u64, u64, u64)> {
+/// How many well-formed tables there are, how many of them the checker accepts, how many it accepted before T-06,
+/// each of which it must accept, and how many random runs were held to some of those that it accepts: they meet
+/// nothing forbidden and stay where the table reaches. None if there are too many tables to try.
+fn accepted_tables(plant: &Plant, random: &mut Random, most: u64) -> Option<[u64; 4]> {
     let sizes = plant.sizes;
     let choices: Vec<Vec<Option<Vec<i32>>>> = plant.all_pieces().map(|piece| all_boxes(plant, piece)).collect();
     let total = choices.iter().try_fold(1u64, |product, list| product.checked_mul(list.len() as u64))?;
     if total > most {
         return None;
     }
-    let (mut accepted, mut runs) = (0, 0);
+    let (mut accepted, mut before, mut runs) = (0, 0, 0);
     let mut table = vec![0; plant.table_words()];
     let mut next = table.clone();
     for number in 0..total {
@@ -351,7 +559,11 @@ fn accepted_tables(plant: &Plant, random: &mut Random, most: u64) -> Option<(u64
             }
             rest /= list.len() as u64;
         }
-        if !pass(plant, &table, &mut next) && !forbidden_touched(plant, &table) {
+        let was_accepted = before::ask_table(plant, &table).is_ok();
+        before += was_accepted as u64;
+        let is_accepted = !pass(plant, &table, &mut next) && !forbidden_touched(plant, &table);
+        assert!(is_accepted || !was_accepted, "{:?} {table:?}", plant.words());
+        if is_accepted {
             accepted += 1;
             if accepted <= 40 {
                 let travelled = travel(plant, &table, random, 10);
@@ -360,7 +572,7 @@ fn accepted_tables(plant: &Plant, random: &mut Random, most: u64) -> Option<(u64
             }
         }
     }
-    Some((total, accepted, runs))
+    Some([total, accepted, before, runs])
 }
 
 /// On very small models, under a limit of the ceiling: safe exactly if some table at all is
@@ -369,8 +581,9 @@ fn accepted_tables(plant: &Plant, random: &mut Random, most: u64) -> Option<(u64
 fn every_table_of_very_small_models() {
     let mut random = Random::new(5);
     let (mut models, mut cut, mut crossing, mut tables, mut runs, mut safe, mut unknown) = (0, 0, 0, 0, 0, 0, 0);
+    let (mut still, mut newly) = (0, 0);
     while models < 400 || cut < 150 || crossing < 150 {
-        let draft: Draft = random_model(&mut random);
+        let draft = if random.chance(1, 3) { pump_model(&mut random) } else { random_model(&mut random) };
         if draft.n > 3 || draft.locations.len() > 3 || draft.forbidden.is_empty() {
             continue;
         }
@@ -380,9 +593,11 @@ fn every_table_of_very_small_models() {
         if !small {
             continue;
         }
-        let Some((tried, accepted, travelled)) = accepted_tables(&plant, &mut random, 30_000) else {
+        let Some([tried, accepted, before, travelled]) = accepted_tables(&plant, &mut random, 30_000) else {
             continue;
         };
+        still += before;
+        newly += accepted - before;
         let size = plant.table_words();
         let (mut table, mut work) = (vec![0; size], vec![0; size]);
         let limit = ceiling::of_plant(&plant) as u32;
@@ -400,8 +615,9 @@ fn every_table_of_very_small_models() {
     }
     let counts =
         format!("{models} models, {crossing} crossing, {safe} safe, {unknown} unknown, {tables} tables, {runs} runs");
-    println!("{counts}");
+    println!("{counts}, {still} tables accepted before and still, {newly} newly");
     assert!(safe > 50 && unknown > 50 && runs > 1_000, "{counts}");
+    assert!(still > 150 && newly > 40, "{still} tables accepted before and still, {newly} newly");
 }
 
 /// Each piece of the table of a plant with cuts lies inside the face of the same plant without them, pass by
@@ -443,5 +659,5 @@ fn cuts_only_narrow() {
             _ => {}
         }
     }
-    assert!(helped > 40 && narrower >= helped, "{helped} safe by their cuts, {narrower} narrower");
+    assert!(helped > 40 && narrower > 40, "{helped} safe by their cuts, {narrower} narrower");
 }

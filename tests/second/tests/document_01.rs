@@ -1,6 +1,7 @@
 //! All cases of document 01's section "Plant P and other cases", and the order of questions.
 
 use second::analysis::Answer;
+use second::before;
 use second::calls::{self, Buffers};
 use second::delays::{delays, touches, touches_quick, End};
 use second::desk::Desk;
@@ -53,10 +54,13 @@ fn rounding_is_outward() {
     assert_eq!((down(-5, 2), up(-5, 2)), (-3, -2));
     assert_eq!((down(5, 2), up(5, 2)), (2, 3));
     assert_eq!((down(-4, 2), up(-4, 2), down(6, 3), up(0, 5)), (-2, -2, 2, 0));
-    // Round first, then cut: an exact low of 10.5 on an invariant's high of 10 gives [10, 10].
+    // Round first, then cut: an exact low of 10.5 on an invariant's high of 10 gave [10, 10]. Document 02's T-06
+    // has no delay there: y is past 10.
+    let (part, rates, invariant) = ([0, 0, 10, 10], [2, 2, 1, 1], [0, 1, 0, 10]);
     let mut out = [0; MAX_BOX];
-    assert!(wall_step(2, &[0, 0, 10, 10], &[2, 2, 1, 1], &[0, 1, 0, 10], 0, 1, &mut out));
+    assert!(before::wall_step(2, &part, &rates, &invariant, 0, 1, &mut out));
     assert_eq!(out[..4], [1, 1, 10, 10]);
+    assert!(!wall_step(2, &part, &rates, &invariant, 0, 1, &mut out));
 }
 
 #[test]

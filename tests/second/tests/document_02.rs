@@ -1,6 +1,7 @@
 //! Cases of document 02's requests.
 
 use second::analysis::Answer;
+use second::before;
 use second::calls::{self, Buffers};
 use second::damage::{damaged_starts, START_DAMAGE};
 use second::draft::{Draft, LocationDraft};
@@ -9,9 +10,11 @@ use second::files::{field, model_file};
 use second::fixed_starts::STARTS_OF_P;
 use second::generate::random_model;
 use second::listing::listing;
-use second::model::{words_per_location, Plant};
+use second::model::{words_per_location, Plant, MAX_BOX};
+use second::plain;
 use second::random::Random;
 use second::simulate::{may_start, Configuration};
+use second::steps::wall_step;
 
 fn buffers(words: usize) -> Buffers {
     Buffers { table: vec![-7; words], work: vec![-9; words] }
@@ -147,14 +150,14 @@ fn runs_start_in_both() {
     assert!(!may(1, 0, 1) && !may(1, 0, 11) && !may(3, 0, 31) && !may(1, -1, 5) && !may(2, -1, 5) && !may(1, 1, 5));
 }
 
-/// T-02 and T-12: the start part of a start box that crosses the wall is not cut to pieces.
+/// T-02 and T-12: the start part of a start box that crosses the wall, on both sides of its location's cut.
 #[test]
-fn crossing_start_parts_are_not_cut_to_pieces() {
+fn a_crossing_start_part_across_a_cut() {
     let words = start_part_across_a_cut().words();
     let plant = Plant::from_words(&words).unwrap();
     let (outcome, after) = calls::analysis(&words, 1, buffers(plant.table_words()));
     assert!(outcome.is_ok());
-    assert_eq!(after.table[plant.face_places(0, 1)][..7], [1, 20, 20, 6, 10, 0, 20]);
+    assert_eq!(after.table[plant.face_places(0, 1)][..7], [1, 20, 20, 7, 10, 27, 35]);
 }
 
 /// T-04: the six sizes of document 01, and the one for seven variables.
@@ -170,6 +173,129 @@ fn seven_variables_are_refused() {
     let seven = at_rest(7).words();
     assert_eq!(calls::ceiling(&seven), Err(2));
     assert_eq!(calls::checker(&seven, &[0; 210]), Err(2));
+}
+
+/// A part with its rates, in an invariant of 0 to a level for every variable.
+struct Step {
+    part: Vec<i32>,
+    rates: Vec<i32>,
+    invariant: Vec<i32>,
+}
+
+impl Step {
+    fn new(part: &[[i32; 2]], rates: &[[i32; 2]], high: i32) -> Step {
+        Step { part: part.concat(), rates: rates.concat(), invariant: [0, high].repeat(part.len()) }
+    }
+
+    /// The wall step, which the plain restatement must give too.
+    fn now(&self, d: usize, b: i32) -> Option<Vec<i32>> {
+        let (n, mut out) = (self.part.len() / 2, [0; MAX_BOX]);
+        let found = wall_step(n, &self.part, &self.rates, &self.invariant, d, b, &mut out);
+        let found = found.then(|| out[..2 * n].to_vec());
+        let [part, rates, invariant] = [&self.part, &self.rates, &self.invariant].map(|list| plain::ranges(list));
+        let plain = plain::wall_step(&part, &rates, &invariant, d, b as i64);
+        assert_eq!(found.as_deref().map(plain::ranges), plain);
+        found
+    }
+
+    /// The wall step without the cut of T-06.
+    fn before(&self, d: usize, b: i32) -> Option<Vec<i32>> {
+        let (n, mut out) = (self.part.len() / 2, [0; MAX_BOX]);
+        let found = before::wall_step(n, &self.part, &self.rates, &self.invariant, d, b, &mut out);
+        found.then(|| out[..2 * n].to_vec())
+    }
+}
+
+/// T-06: the request's case, as a step and as a plant after one pass. Later passes widen it, and it takes more
+/// of them than before.
+#[test]
+fn the_case_of_the_request() {
+    let step = Step::new(&[[0, 0], [5, 5], [10, 10]], &[[0, 1], [1, 1], [-1, -1]], 10);
+    assert_eq!(step.now(0, 0), Some(vec![0, 0, 5, 10, 5, 10]));
+    assert_eq!(step.before(0, 0), Some(vec![0, 0, 5, 10, 0, 10]));
+    let words = standing_pump().words();
+    let plant = Plant::from_words(&words).unwrap();
+    let (outcome, after) = calls::analysis(&words, 1, buffers(42));
+    assert_eq!((outcome, &after.table[..7]), (Ok((Answer::Unfinished, 1)), &[1, 0, 0, 5, 10, 5, 10][..]));
+    let (outcome, after) = calls::analysis(&words, 1_000, buffers(42));
+    assert_eq!((outcome, &after.table[..7]), (Ok((Answer::Safe, 6)), &[1, 0, 0, 5, 10, 0, 10][..]));
+    let (mut table, mut work) = (vec![0; 42], vec![0; 42]);
+    assert_eq!(before::run(&plant, 1, &mut table, &mut work), (Answer::Unfinished, 1));
+    assert_eq!(table[..7], [1, 0, 0, 5, 10, 0, 10]);
+    assert_eq!(before::run(&plant, 1_000, &mut table, &mut work), (Answer::Safe, 4));
+    assert_eq!(table, after.table);
+}
+
+/// T-06: an empty interval gives nothing, though rounding and cutting gave a face.
+#[test]
+fn no_delay_that_all_can_live_with() {
+    // x = 11 after 11/2; y, which rises or falls by 1 from 5, is then past its wall by 1/2.
+    for (rate, face) in [(1, 10), (-1, 0)] {
+        let mut step = Step::new(&[[0, 0], [5, 5]], &[[2, 2], [rate, rate]], 10);
+        step.invariant[1] = 11;
+        assert_eq!(step.now(0, 11), None);
+        assert_eq!(step.before(0, 11), Some(vec![11, 11, face, face]));
+    }
+    // x = 10 after 5 or more; y until 6, z until 9/2: nothing, as before; with z until 5, one delay.
+    let step = Step::new(&[[0, 0], [4, 4], [9, 9]], &[[0, 2], [1, 1], [-2, -2]], 10);
+    assert_eq!(step.now(0, 10), None);
+    assert_eq!(step.before(0, 10), None);
+    let step = Step { part: vec![0, 0, 4, 4, 10, 10], ..step };
+    assert_eq!(step.now(0, 10), Some(vec![10, 10, 9, 9, 0, 0]));
+}
+
+/// T-06: intervals that share exactly one delay with those that the others can live with.
+#[test]
+fn one_delay_that_all_can_live_with() {
+    // x = 10 after 5 or more; y until 5.
+    let step = Step::new(&[[0, 0], [5, 5], [10, 10]], &[[0, 2], [1, 1], [-1, -1]], 10);
+    assert_eq!(step.now(0, 10), Some(vec![10, 10, 10, 10, 5, 5]));
+    assert_eq!(step.before(0, 10), Some(vec![10, 10, 10, 10, 0, 5]));
+    // x = 11 after 11/2 or more; y, falling, until 11/2.
+    let step = Step::new(&[[0, 0], [11, 11], [0, 0]], &[[0, 2], [-2, -2], [1, 1]], 11);
+    assert_eq!(step.now(0, 11), Some(vec![11, 11, 0, 0, 5, 6]));
+    assert_eq!(step.before(0, 11), Some(vec![11, 11, 0, 0, 5, 11]));
+    // Delay 0 alone: x is on the wall that it runs against.
+    let step = Step::new(&[[10, 10], [0, 10]], &[[1, 1], [-1, 1]], 10);
+    assert_eq!([step.now(0, 10), step.now(1, 0)], [Some(vec![10, 10, 0, 10]), Some(vec![10, 10, 0, 0])]);
+    assert_eq!(step.before(1, 0), Some(vec![10, 10, 0, 0]));
+}
+
+/// T-06: an endless latest delay ends with the first variable that leaves; it stays endless where all can stay.
+#[test]
+fn endless_delays_that_end() {
+    let first_to_leave = |rates: [[i32; 2]; 3]| Step::new(&[[3, 3], [4, 6], [5, 5]], &rates, 10).now(0, 3);
+    // By the low end of a part that rises, after 3; by the high end of one that falls, after 3.
+    assert_eq!(first_to_leave([[-1, 1], [2, 2], [0, 1]]), Some(vec![3, 3, 4, 10, 5, 8]));
+    assert_eq!(first_to_leave([[-1, 1], [-3, -2], [-1, 0]]), Some(vec![3, 3, 0, 6, 2, 5]));
+    // All can stay.
+    assert_eq!(first_to_leave([[0, 0], [-9, 7], [-1, 1]]), Some(vec![3, 3, 0, 10, 0, 10]));
+    assert_eq!(first_to_leave([[0, 0], [0, 1], [-1, 0]]), Some(vec![3, 3, 4, 10, 0, 5]));
+    // The last of three leaves first, after 5/4: y 4 to 6 + 5/2.
+    assert_eq!(first_to_leave([[-1, 1], [1, 2], [4, 4]]), Some(vec![3, 3, 4, 9, 5, 10]));
+    // x leaves its wall at once.
+    assert_eq!(first_to_leave([[1, 1], [1, 2], [4, 4]]), Some(vec![3, 3, 4, 6, 5, 5]));
+}
+
+/// T-06: a variable with rates of both signs, or with a rate of 0, can always stay. Of the others the part's low
+/// end binds where it rises, its high end where it falls.
+#[test]
+fn the_end_that_binds() {
+    let fall = |part: [i32; 2], rate: [i32; 2]| {
+        // z falls by 1 from 30 and shows the latest delay to x = 0.
+        let step = Step::new(&[[0, 0], part, [30, 30]], &[[0, 0], rate, [-1, -1]], 30);
+        30 - step.now(0, 0).unwrap()[4]
+    };
+    assert_eq!(fall([10, 20], [1, 1]), 20);
+    assert_eq!(fall([10, 20], [2, 5]), 10);
+    assert_eq!(fall([10, 20], [-1, -1]), 20);
+    assert_eq!(fall([10, 20], [-5, -2]), 10);
+    assert_eq!(fall([10, 20], [-1_000, 1_000]), 30);
+    assert_eq!(fall([10, 20], [0, 1_000]), 30);
+    assert_eq!(fall([10, 20], [-1_000, 0]), 30);
+    // 20/3 rounds to 7.
+    assert_eq!(fall([10, 20], [3, 3]), 7);
+    assert_eq!(fall([10, 20], [-3, -3]), 7);
 }
 
 /// T-12: P without a cut is what it was, in its file, its table, its table file and its listing.
@@ -225,25 +351,23 @@ fn p_cut() {
     assert_eq!(listing(&file), "safe 1 3\n0 0 0 0 0 2 5\n0 3 0 2 5 10 10\n0 3 1 5 8 10 10\n");
 }
 
-/// T-12: a start part is not cut to pieces. From its half x 5..10 alone t would come to 5 on x = 10, and from its
-/// half x 0..5 nothing would arrive, as y leaves its range before.
+/// T-12: a start part is not cut to pieces. With T-06 its two halves would lead to the same box; without it t
+/// came to 10 on x = 10 from the whole part, and to 5 from its half x 5..10, the only one that arrived.
 #[test]
-fn start_parts_are_not_cut_to_pieces() {
-    let words = Draft {
-        n: 3,
-        locations: vec![LocationDraft {
-            invariant: [0, 10].repeat(3),
-            rates: vec![1; 6],
-            start: Some(vec![0, 10, 6, 6, 0, 0]),
-        }],
-        cuts: vec![(0, 0, 5)],
-        ..Draft::default()
-    }
-    .words();
+fn a_start_part_and_its_halves() {
+    let location =
+        LocationDraft { invariant: [0, 10].repeat(3), rates: vec![1; 6], start: Some(vec![0, 10, 6, 6, 0, 0]) };
+    let draft = Draft { n: 3, locations: vec![location], cuts: vec![(0, 0, 5)], ..Draft::default() };
+    let words = draft.words();
     let plant = Plant::from_words(&words).unwrap();
     let (outcome, after) = calls::analysis(&words, 1, buffers(plant.table_words()));
     assert!(outcome.is_ok());
-    assert_eq!(after.table[plant.face_places(0, 1)][..7], [1, 10, 10, 6, 10, 0, 10]);
+    assert_eq!(after.table[plant.face_places(0, 1)][..7], [1, 10, 10, 6, 10, 0, 4]);
+    let [whole, below, above] = [[0, 10], [0, 5], [5, 10]].map(|x| Step::new(&[x, [6, 6], [0, 0]], &[[1, 1]; 3], 10));
+    assert_eq!([whole.now(0, 10), below.now(0, 10)], [Some(vec![10, 10, 6, 10, 0, 4]), None]);
+    assert_eq!(above.now(0, 10), whole.now(0, 10));
+    assert_eq!([whole.before(0, 10), below.before(0, 10)], [Some(vec![10, 10, 6, 10, 0, 10]), None]);
+    assert_eq!(above.before(0, 10), Some(vec![10, 10, 6, 10, 0, 5]));
 }
 
 /// T-12: question 46 of words, after all of 19, location by location.

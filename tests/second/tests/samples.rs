@@ -1,14 +1,18 @@
 //! The sample models, and what random runs say of one of them.
 
-use second::analysis::run;
-use second::examples::{heated_vat, three_tanks, water_level};
-use second::files::model_file;
-use second::listing::listing;
+use second::analysis::{run, Answer};
+use second::before;
+use second::draft::Draft;
+use second::examples::{heated_vat, three_tanks, water_level, worn_pump, RUNS_DRY, RUNS_OVER};
+use second::files::{model_file, model_of_file, parse_table};
+use second::listing::{listing, LIMIT};
 use second::model::Plant;
 use second::random::Random;
 use second::samples;
 use second::simulate::{travel, Travelled};
 use second::starts::{table_of_whole_boxes, touched_by_whole_boxes};
+
+type Run = fn(&Plant, u32, &mut [i32], &mut [i32]) -> (Answer, u32);
 
 /// The first line of each listing.
 #[test]
@@ -18,7 +22,7 @@ fn first_lines() {
         ("plant-p-unknown", "unknown 0 0"),
         ("plant-p-no-start", "safe 0 0"),
         ("figure-1", "safe 1 2"),
-        ("box-whole", "safe 6 6"),
+        ("box-whole", "safe 2 5"),
         ("box-divided", "unknown 3 12"),
         ("two-tanks", "safe 15 75"),
         ("two-tanks-low-rim", "unknown 10 59"),
@@ -31,10 +35,13 @@ fn first_lines() {
         ("heated-vat", "safe 3 4"),
         ("plant-p-cut", "safe 1 3"),
         ("box-ends", "unknown 3 15"),
-        ("box-ends-cut", "safe 12 22"),
+        ("box-ends-cut", "safe 12 21"),
         ("three-tanks", "unknown 2 5"),
         ("three-tanks-cut", "safe 3 8"),
         ("largest-cut", "safe 10 352"),
+        ("standing-pump", "safe 6 5"),
+        ("worn-pump", "safe 3 5"),
+        ("worn-pump-over", "safe 3 5"),
         ("refused-empty", "refused 1"),
         ("refused-cut", "refused 7"),
         ("refused-trailing", "refused 8"),
@@ -58,6 +65,60 @@ fn tables() {
         let (_, file) = models.iter().find(|(name, _)| *name == model).expect("a table's model is a sample");
         assert_eq!(second::host::check(file, &table), number, "{name}");
     }
+}
+
+/// The sample models whose answer, k or table the cut of T-06 changed, with their answers of before; the
+/// others have the same of all three.
+#[test]
+fn answers_of_before() {
+    let changed = [
+        ("box-whole", "safe 6"),
+        ("box-divided", "unknown 3"),
+        ("box-ends-cut", "safe 12"),
+        ("standing-pump", "safe 4"),
+        ("worn-pump", "unknown 1"),
+        ("worn-pump-over", "safe 5"),
+    ];
+    let mut found = Vec::new();
+    for (name, file) in samples::all() {
+        let Ok(model) = model_of_file(&file) else {
+            continue;
+        };
+        let plant = model.plant();
+        let answer = |run: Run| {
+            let (mut table, mut work) = (vec![0; plant.table_words()], vec![0; plant.table_words()]);
+            let (answer, k) = run(&plant, LIMIT, &mut table, &mut work);
+            (format!("{} {k}", answer.word()), table)
+        };
+        let (then, now) = (answer(before::run), answer(run));
+        if then != now {
+            found.push((name, then.0));
+        }
+    }
+    assert_eq!(found, changed.map(|(name, answer)| (name, answer.to_string())));
+}
+
+/// The worn pump: with no delays but those that the vat can live with at least 40 is left in the store. The
+/// answer's table was refused by 33 before, and the one of before is accepted as it was then.
+#[test]
+fn worn_pump_with_a_vat() {
+    let text = listing(&model_file(&worn_pump(RUNS_DRY).words()));
+    assert_eq!(
+        text,
+        "safe 3 5\n0 1 100 100 57 100 40 93\n0 3 75 100 100 100 40 93\n1 0 0 0 57 100 40 93\n\
+         1 1 100 100 57 100 40 93\n1 3 0 100 100 100 40 93\n"
+    );
+    let tables = samples::tables();
+    let asked_before = |draft: Draft, name: &str| {
+        let words = draft.words();
+        let plant = Plant::from_words(&words).unwrap();
+        let (_, file, _) = tables.iter().find(|(found, ..)| *found == name).unwrap();
+        before::ask_table(&plant, &parse_table(&plant, file).unwrap())
+    };
+    assert_eq!(asked_before(worn_pump(RUNS_DRY), "worn-pump"), Err(33));
+    assert_eq!(asked_before(worn_pump(RUNS_DRY), "worn-pump.wider"), Err(34));
+    assert_eq!(asked_before(worn_pump(RUNS_OVER), "worn-pump-over"), Err(33));
+    assert_eq!(asked_before(worn_pump(RUNS_OVER), "worn-pump-over.wider"), Ok(()));
 }
 
 /// The three tanks' tables: one box for both recipes, and the two pieces of it.

@@ -1,6 +1,7 @@
 //! Does the comparison find wrong programs? A third, literal decider in which one mistake
-//! at a time can be switched on (document 01's traps, T-02's start parts, T-12's pieces and others); each
-//! must be found within 6,000 random models, and the decider without a mistake must agree.
+//! at a time can be switched on (document 01's traps, T-02's start parts, T-06's delays, T-12's pieces and
+//! others); each must be found within 6,000 random models, and the decider without a mistake must agree. So
+//! must some other ways to compute, of which T-06 makes no mistakes.
 
 use std::cell::Cell;
 
@@ -20,7 +21,7 @@ const READS_NEW_FACES: u8 = 4;
 const DELAY_FOR_EACH_VARIABLE: u8 = 5;
 const ENDLESS_UNBOUNDS_ALL: u8 = 6;
 const ENDLESS_BEFORE_NONE: u8 = 7;
-const CUTS_BEFORE_ROUNDING: u8 = 8;
+const ONLY_THE_WALLS_VARIABLE: u8 = 8;
 const LANDS_WITHOUT_GUARD: u8 = 9;
 const LANDS_WITHOUT_RESET_BOX: u8 = 10;
 const LANDS_OUTSIDE_TARGET: u8 = 11;
@@ -36,7 +37,7 @@ const JOINS_WITHOUT_CUTTING: u8 = 20;
 const VALUE_IN_FIRST_PIECE_ALONE: u8 = 21;
 const OWN_WALLS_BY_THEIR_SIDE: u8 = 22;
 const SWITCHES_FROM_FIRST_PIECE_ALONE: u8 = 23;
-const CUTS_THE_START: u8 = 24;
+const FIRST_VARIABLE_LEFT_OUT: u8 = 24;
 const TOUCHES_FROM_FIRST_PIECE_ALONE: u8 = 25;
 const STEPS_FROM_THE_WHOLE_FACE: u8 = 26;
 const LANDS_ON_FIRST_PIECE_ALONE: u8 = 27;
@@ -49,7 +50,28 @@ const START_CLAMPED_TO_THE_WALL: u8 = 33;
 const START_INSIDE_STILL_ASKED: u8 = 34;
 const START_RANGE_NOT_ASKED: u8 = 35;
 const START_ORDER_NOT_ASKED: u8 = 36;
-const TRAPS: u8 = 36;
+const LAST_VARIABLE_LEFT_OUT: u8 = 37;
+const NEXT_VARIABLE_LEFT_OUT: u8 = 38;
+const ENDS_EXCHANGED: u8 = 39;
+const WHOLE_RANGE_INSIDE: u8 = 40;
+const EMPTY_AT_ITS_EARLIEST: u8 = 41;
+const LATEST_AS_EARLIEST: u8 = 42;
+const INVARIANT_OF_THE_NEXT_LOCATION: u8 = 43;
+const ENDLESS_NOT_CUT: u8 = 44;
+const CUT_AT_A_WHOLE_DELAY: u8 = 45;
+const STARTS_ALONE_CUT: u8 = 46;
+const PIECES_ALONE_CUT: u8 = 47;
+const CHECKS_WITHOUT_THE_CUT: u8 = 48;
+const TRAPS: u8 = 48;
+
+// No mistakes. An exact low is never above the invariant's high, nor a high below its low: the order of cutting
+// and rounding is not seen. What a part reaches is what its two halves reach. A delay at which a box inside the
+// invariant is met is one that all variables can live with. The wall's own condition asks more of d than d's.
+const CUTS_BEFORE_ROUNDING: u8 = 101;
+const CUTS_THE_START: u8 = 102;
+const TOUCHES_BY_DELAYS_INSIDE: u8 = 103;
+const WALLS_VARIABLE_LEFT_OUT: u8 = 104;
+const HARMLESS: [u8; 4] = [CUTS_BEFORE_ROUNDING, CUTS_THE_START, TOUCHES_BY_DELAYS_INSIDE, WALLS_VARIABLE_LEFT_OUT];
 
 thread_local! {
     /// The mistake that is switched on.
@@ -103,8 +125,71 @@ fn delays(p: i64, q: i64, a: i64, c: i64, b: i64) -> Option<(Time, Option<Time>)
     Some((first, last))
 }
 
-fn wall_step(part: &Ranges, rates: &Ranges, inv: &Ranges, d: usize, b: i64) -> Option<Ranges> {
-    let (first, last) = delays(part[d].0, part[d].1, rates[d].0, rates[d].1, b)?;
+/// Is variable i asked whether it can live with the delays to a wall of d?
+fn asked(i: usize, d: usize, n: usize) -> bool {
+    !(on(ONLY_THE_WALLS_VARIABLE)
+        || on(CHECKS_WITHOUT_THE_CUT) && CHECKING.get()
+        || on(FIRST_VARIABLE_LEFT_OUT) && i == 0
+        || on(LAST_VARIABLE_LEFT_OUT) && i == n - 1
+        || on(NEXT_VARIABLE_LEFT_OUT) && i == (d + 1) % n
+        || on(WALLS_VARIABLE_LEFT_OUT) && i == d)
+}
+
+/// The delays that one variable can live with.
+fn lived_with(part: (i64, i64), rate: (i64, i64), range: (i64, i64)) -> Option<(Time, Option<Time>)> {
+    if on(ENDS_EXCHANGED) {
+        return times(part, rate, (range.1, range.0));
+    }
+    if on(WHOLE_RANGE_INSIDE) {
+        return times((part.1, part.0), (rate.1, rate.0), range);
+    }
+    let (from, until) = times(part, rate, range)?;
+    let whole = |t: Time| if on(CUT_AT_A_WHOLE_DELAY) { (t.0 / t.1, 1) } else { t };
+    Some((from, until.map(whole)))
+}
+
+/// The delays to wall b of d that all variables can live with in `room`.
+fn delays_inside(part: &Ranges, rates: &Ranges, room: &Ranges, d: usize, b: i64) -> Option<(Time, Option<Time>)> {
+    let (mut from, mut until) = delays(part[d].0, part[d].1, rates[d].0, rates[d].1, b)?;
+    let (earliest, endless) = (from, until.is_none());
+    for i in (0..part.len()).filter(|&i| asked(i, d, part.len())) {
+        let Some((first, last)) = lived_with(part[i], rates[i], room[i]) else {
+            return on(EMPTY_AT_ITS_EARLIEST).then_some((earliest, Some(earliest)));
+        };
+        (from, until) = common((from, until), (first, last));
+        if on(LATEST_AS_EARLIEST) {
+            from = last.unwrap_or(from);
+        }
+    }
+    if on(ENDLESS_NOT_CUT) && endless {
+        return Some((from, None));
+    }
+    let empty = until.is_some_and(|u| u.0 * from.1 < from.0 * u.1);
+    match (empty, on(EMPTY_AT_ITS_EARLIEST)) {
+        (false, _) => Some((from, until)),
+        (true, true) => Some((earliest, Some(earliest))),
+        (true, false) => None,
+    }
+}
+
+/// What two intervals have in common, which may be nothing.
+fn common(x: (Time, Option<Time>), y: (Time, Option<Time>)) -> (Time, Option<Time>) {
+    let later = |x: Time, y: Time| x.0 * y.1 > y.0 * x.1;
+    let from = if later(y.0, x.0) { y.0 } else { x.0 };
+    let until = match (x.1, y.1) {
+        (Some(x), Some(y)) => Some(if later(x, y) { y } else { x }),
+        (x, y) => x.or(y),
+    };
+    (from, until)
+}
+
+fn wall_step(
+    part: &Ranges,
+    rates: &Ranges,
+    inv: &Ranges,
+    (d, b): (usize, i64),
+    (first, last): (Time, Option<Time>),
+) -> Option<Ranges> {
     let mut out = Vec::new();
     for i in 0..part.len() {
         if i == d {
@@ -212,38 +297,55 @@ fn give(plant: &Plant, new: &mut Faces, l: usize, face: usize, result: Ranges) {
     }
 }
 
+/// The parts of location l: the start part, numbered 0, then those of each face.
+fn parts_of(plant: &Plant, faces: &Faces, l: usize, number: usize, starts: bool) -> Vec<Ranges> {
+    match (number, starts) {
+        (0, true) => starts_of(plant, l, on(STEPS_FROM_WHOLE_STARTS)),
+        (0, false) => vec![],
+        _ => present(plant, faces, l, number - 1),
+    }
+}
+
+/// The wall step from a part of location l, numbered as above, to a face.
+fn step_to(plant: &Plant, l: usize, number: usize, part: &Ranges, face: usize) -> Option<Ranges> {
+    let location = plant.location(l);
+    let (rates, inv) = (ranges(location.rates), ranges(location.invariant));
+    let next = plant.location((l + 1) % plant.sizes.locations);
+    let room = if on(INVARIANT_OF_THE_NEXT_LOCATION) { ranges(next.invariant) } else { inv.clone() };
+    let (d, b) = (face / 2, location.invariant[face] as i64);
+    let uncut = on(STARTS_ALONE_CUT) && number > 0 || on(PIECES_ALONE_CUT) && number == 0;
+    let times = if uncut {
+        delays(part[d].0, part[d].1, rates[d].0, rates[d].1, b)
+    } else {
+        delays_inside(part, &rates, &room, d, b)
+    };
+    wall_step(part, &rates, &inv, (d, b), times?)
+}
+
 fn pass(plant: &Plant, before: &Faces, starts: bool) -> Faces {
-    let n = plant.sizes.n;
+    let faces = 2 * plant.sizes.n;
     let mut new = before.clone();
     for l in 0..plant.sizes.locations {
-        let location = plant.location(l);
-        let (rates, inv) = (ranges(location.rates), ranges(location.invariant));
-        for number in 0..=2 * n {
-            let parts = if number == 0 {
-                if starts {
-                    starts_of(plant, l, on(STEPS_FROM_WHOLE_STARTS))
-                } else {
-                    vec![]
-                }
-            } else {
-                present(plant, if on(READS_NEW_FACES) { &new } else { before }, l, number - 1)
-            };
+        for number in 0..=faces {
+            let parts = parts_of(plant, if on(READS_NEW_FACES) { &new } else { before }, l, number, starts);
             for part in parts {
-                for face in 0..2 * n {
-                    if on(SKIPS_OWN_WALL) && face + 1 == number {
-                        continue;
-                    }
-                    let b = location.invariant[face] as i64;
-                    if let Some(reached) = wall_step(&part, &rates, &inv, face / 2, b) {
+                for face in (0..faces).filter(|face| !on(SKIPS_OWN_WALL) || face + 1 != number) {
+                    if let Some(reached) = step_to(plant, l, number, &part, face) {
                         give(plant, &mut new, l, face, reached);
                     }
                 }
             }
         }
     }
+    switch_steps(plant, before, &mut new);
+    new
+}
+
+/// Joins every switch step to the new faces.
+fn switch_steps(plant: &Plant, before: &Faces, new: &mut Faces) {
     for s in 0..plant.sizes.switches {
         let switch = plant.switch(s);
-        let from = if on(READS_NEW_FACES) { &new } else { before };
+        let from = if on(READS_NEW_FACES) { &*new } else { before };
         let mut parts = present(plant, from, switch.source, 2 * switch.d + switch.source_side);
         if on(SWITCHES_FROM_FIRST_PIECE_ALONE) {
             parts.truncate(1);
@@ -260,11 +362,10 @@ fn pass(plant: &Plant, before: &Faces, starts: bool) -> Faces {
             if on(LANDS_ON_FIRST_PIECE_ALONE) {
                 join(&mut new[switch.target][face * count(plant, switch.target)], landed);
             } else {
-                give(plant, &mut new, switch.target, face, landed);
+                give(plant, new, switch.target, face, landed);
             }
         }
     }
-    new
 }
 
 /// What a switch lands from one part of the source's face.
@@ -308,14 +409,11 @@ fn touches(part: &Ranges, rates: &Ranges, inv: &Ranges, bounds: &Ranges) -> bool
     let Some(bounds) = bounds else { return false };
     let (mut from, mut until): (Time, Option<Time>) = ((0, 1), None);
     for i in 0..part.len() {
-        let Some((first, last)) = times(part[i], rates[i], bounds[i]) else { return false };
-        if first.0 * from.1 > from.0 * first.1 {
-            from = first;
-        }
-        if let Some(last) = last {
-            if until.is_none_or(|u| last.0 * u.1 < u.0 * last.1) {
-                until = Some(last);
-            }
+        let Some(allowed) = times(part[i], rates[i], bounds[i]) else { return false };
+        (from, until) = common((from, until), allowed);
+        if on(TOUCHES_BY_DELAYS_INSIDE) {
+            let Some(allowed) = times(part[i], rates[i], inv[i]) else { return false };
+            (from, until) = common((from, until), allowed);
         }
     }
     on(DELAY_FOR_EACH_VARIABLE) || until.is_none_or(|u| from.0 * u.1 <= u.0 * from.1)
@@ -466,6 +564,13 @@ fn found_after(trap: u8, models: u64) -> Option<u64> {
 #[test]
 fn the_third_decider_without_a_mistake_agrees() {
     assert_eq!(found_after(NONE, 1_500), None);
+}
+
+#[test]
+fn what_makes_no_difference_is_not_found() {
+    for harmless in HARMLESS {
+        assert_eq!(found_after(harmless, 1_000), None, "{harmless}");
+    }
 }
 
 #[test]

@@ -1,6 +1,7 @@
 //! Does the comparison find wrong C calls? Each function here is this package's own answer with one
 //! mistake, in a number, a value or lent memory; each must be found within few random models.
 
+use second::before;
 use second::compare::{Comparison, Tested};
 use second::exports::{answer, Call, Input, Lent};
 use second::host;
@@ -523,6 +524,36 @@ fn checked_with_whole_boxes(call: Call, input: &Input, lent: &mut Lent) -> u32 {
     number
 }
 
+/// The analysis with the wall steps of before T-06, at the desk or not.
+fn analysed_as_before(wrong: Call, call: Call, input: &Input, lent: &mut Lent) -> u32 {
+    let number = answer(call, input, lent);
+    if call == wrong && !refused(number) {
+        let plant = Plant::from_words(input.model).expect("an answer comes after the model's questions");
+        let (found, k) = before::run(&plant, input.limit, lent.words, lent.work);
+        *lent.passes = lent.passes.wrapping_sub(*lent.value as u32).wrapping_add(k);
+        *lent.value = k as u64;
+        return found.code();
+    }
+    number
+}
+
+fn analysed_with_all_delays(call: Call, input: &Input, lent: &mut Lent) -> u32 {
+    analysed_as_before(Call::Analyse, call, input, lent)
+}
+
+fn charged_with_all_delays(call: Call, input: &Input, lent: &mut Lent) -> u32 {
+    analysed_as_before(Call::Desk, call, input, lent)
+}
+
+fn checked_with_all_delays(call: Call, input: &Input, lent: &mut Lent) -> u32 {
+    let number = answer(call, input, lent);
+    if call == Call::Check && number == 100 {
+        let plant = Plant::from_words(input.model).expect("an answer comes after the model's questions");
+        return before::ask_table(&plant, &input.table[..plant.table_words()]).err().unwrap_or(100);
+    }
+    number
+}
+
 fn fifteen_for_fourteen(call: Call, input: &Input, lent: &mut Lent) -> u32 {
     let number = answer(call, input, lent);
     if number == 14 {
@@ -532,7 +563,7 @@ fn fifteen_for_fourteen(call: Call, input: &Input, lent: &mut Lent) -> u32 {
     }
 }
 
-const WRONG: [(&str, Answer); 46] = [
+const WRONG: [(&str, Answer); 49] = [
     ("value not written on a refusal", value_not_written_on_a_refusal),
     ("the limit as an unknown answer's value", limit_as_value_of_unknown),
     ("ceiling of 32 bits", ceiling_of_32_bits),
@@ -568,6 +599,9 @@ const WRONG: [(&str, Answer); 46] = [
     ("buffer kept on 13", buffer_kept_on_13),
     ("unknown by whole start boxes", analysed_with_whole_boxes),
     ("33 by whole start boxes", checked_with_whole_boxes),
+    ("the analysis with all delays", analysed_with_all_delays),
+    ("the desk with all delays", charged_with_all_delays),
+    ("33 with all delays", checked_with_all_delays),
     ("46 before 19", cuts_asked_before_boxes),
     ("8 for 46", eight_for_forty_six),
     ("buffer kept on 46", buffer_kept_on_46),

@@ -12,6 +12,7 @@
 //! memory checker, and leaves out the models of thousands of passes. `--random-only` leaves the
 //! fixed cases out. `--all-numbers` wants every number of every call under fewer counts too.
 
+use second::changes::{Changes, STEP_KINDS};
 use second::compare::{Comparison, Tested};
 use second::coverage::{Counts, Tally};
 use second::host_ffi;
@@ -22,6 +23,26 @@ const SEED: u64 = 0x01_9912;
 
 fn listed(tally: &Tally) -> String {
     tally.iter().map(|(kind, count)| format!("{kind} {count}")).collect::<Vec<_>>().join("; ")
+}
+
+fn print_changes(changes: &Changes) {
+    println!(
+        "other than before T-06 ({} took too long then): {} random models, with another answer {} ({}), \
+         fewer passes {}, more passes {}, another table {}",
+        changes.not_compared,
+        changes.models,
+        changes.answer,
+        listed(&changes.answers),
+        changes.fewer_passes,
+        changes.more_passes,
+        changes.table
+    );
+    println!(
+        "  tables accepted before and still {}, {} of them wider than the answer's; refused by 33 before and accepted {}",
+        changes.still_accepted, changes.wider, changes.newly_accepted
+    );
+    let steps = STEP_KINDS.iter().zip(changes.steps).map(|(kind, count)| format!("{kind} {count}"));
+    println!("  delays of wall steps {}", steps.collect::<Vec<_>>().join("; "));
 }
 
 fn print_counts(counts: &Counts) {
@@ -54,6 +75,7 @@ fn print_counts(counts: &Counts) {
         "tables accepted of {} safe answers, {} tables refused for models answered unknown",
         counts.accepted, counts.refused
     );
+    print_changes(&counts.changes);
     let (safe, unknown) = (&counts.safe_runs, &counts.unknown_runs);
     println!(
         "runs of safe models: {}, with {} delays and {} switches; of {} configurations {} forbidden, {} unreached",

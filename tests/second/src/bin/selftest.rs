@@ -28,6 +28,7 @@ use second::generate::*;
 use second::host::{self, MOST_MODEL_WORDS};
 use second::model::Plant;
 use second::plain;
+use second::pumps::pump_model;
 use second::random::Random;
 use second::simulate::{travel, Travelled};
 use second::starts::any_crosses;
@@ -113,7 +114,12 @@ fn read_table(random: &mut Random, counts: &mut Counts, model: &[i32], file: &[u
 }
 
 fn one_model(random: &mut Random, counts: &mut Counts) {
-    let words = if random.chance(1, 8) { crossing_model(random) } else { random_model(random) }.words();
+    let draft = match random.below(8) {
+        0 => crossing_model(random),
+        1 => pump_model(random),
+        _ => random_model(random),
+    };
+    let words = draft.words();
     let plant = Plant::from_words(&words).expect("a random model passes its questions");
     counts.crossing += any_crosses(&plant) as u64;
     let sizes = plant.sizes;
