@@ -14,7 +14,7 @@ use Rattle.integers.specs.Words.{AreWords, AreBytes, onto}
 use Rattle.integers.proofs.Buffers.{take-onto}
 use Rattle.plant.specs.Ask.{ask, _then_}
 use Rattle.plant.specs.Model.{headSize, modelSize}
-use Rattle.plant.specs.Questions.{rangesQuestions, recordsQuestions, modelQuestions}
+use Rattle.plant.specs.Questions.{rangesQuestions, editionQuestion, recordsQuestions, modelQuestions}
 use Rattle.plant.specs.declared.Count.{Count}
 use Rattle.plant.specs.declared.Count.the-variants.{Done, Refused}
 use Rattle.plant.specs.Calls.{countReply, ReadOutcome, readReply, wordsRead, unlessRefused, zeroed}
@@ -23,7 +23,8 @@ use Rattle.plant.proofs.Reading.{done}
 use Rattle.model.proofs.Passing.{head-passed}
 use Rattle.model_files.specs.ModelFile.{modelFile, headWords, headQuestions, bufferQuestion, bodyQuestions, fileWords, recordsFileQuestions, readModelCall}
 use Rattle.model_files.specs.ModelFilesExact.{IsModelFile}
-use Rattle.model_files.proofs.ModelReading.{body-passed, most-words, most-bytes, length-file, length-head}
+use Rattle.model_files.proofs.FirstField.{length-head}
+use Rattle.model_files.proofs.ModelReading.{body-passed, most-words, most-bytes, length-file}
 use Rattle.model_files.proofs.ModelRoundTrip.{head-le, records-file-le, read-passes, file-read, model-files-exact}
 use Rattle.host.specs.Hosts.{modelOf, modelFileQuestions}
 use Rattle.host.proofs.Held.{Front, front}
@@ -71,8 +72,8 @@ abbrev pub Roomy : (s : List ℕ) (held : List ℤ) → Type 0
 Roomy s held = headQuestions s ≡ 0 → modelSize (headWords s) ≤ length held
 
 -- as many words as the longest model has
-pub most-roomy : (s : List ℕ) → Roomy s (replicate 7172 (pos 0))
-most-roomy s e = omega (arith, most-words (headWords s) (head-passed (headWords s) (omega (arith, length-head s)) (ranges-yes s e)), length-replicate 7172 (pos 0))
+pub most-roomy : (s : List ℕ) → Roomy s (replicate 7173 (pos 0))
+most-roomy s e = omega (arith, most-words (headWords s) (head-passed (headWords s) (omega (arith, length-head s)) (ranges-yes s e)), length-replicate 7173 (pos 0))
 
 had-room : (a : ℕ) (b : Bool) (words : List ℤ) (next : ReadOutcome) → (readReply (unlessRefused (a then ask b 5) words next) .code ≡ 5 → ⊥) → a ≡ 0 → T b
 unfolding _then_ unlessRefused
@@ -144,7 +145,7 @@ module _ (s : List ℕ) where
   pub is-model : modelFileQuestions s ≡ 0 → AreBytes s → IsModelFile s (modelOf s)
   unfolding modelOf
   is-model passed bytes =
-      let held : List ℤ = replicate 7172 (pos 0) in
+      let held : List ℤ = replicate 7173 (pos 0) in
       let e = reads held (most-roomy s) passed in
       subst (IsModelFile s) (ap wordsRead e ∙ take-onto (fileWords s h) held (modelSize h) (length-file s h (length-head s)))
       (model-files-exact .read-is-file s held bytes (ap (λ (o : ReadOutcome). readReply o .code) e))
@@ -175,8 +176,9 @@ unfolding modelQuestions
 file-passes m asks words =
     let a : T (leb headSize (length m)) × _ = asked (leb headSize (length m)) 5 _ (omega arith) asks in
     let b : (rangesQuestions m ≡ 0) × _ = then-both (rangesQuestions m) _ (a .1) in
-    let whole : modelSize m ≤ length m = leb→le (modelSize m) (length m) (asked (leb (modelSize m) (length m)) 5 _ (omega arith) (b .1) .0) in
-    let held : List ℤ = replicate 7172 (pos 0) in
-    let fit : modelSize m ≤ length held = omega (arith, most-words m (head-passed m (leb→le headSize (length m) (a .0)) (b .0)), length-replicate 7172 (pos 0)) in
+    let d : (editionQuestion m ≡ 0) × _ = then-both (editionQuestion m) _ (b .1) in
+    let whole : modelSize m ≤ length m = leb→le (modelSize m) (length m) (asked (leb (modelSize m) (length m)) 5 _ (omega arith) (d .1) .0) in
+    let held : List ℤ = replicate 7173 (pos 0) in
+    let fit : modelSize m ≤ length held = omega (arith, most-words m (head-passed m (leb→le headSize (length m) (a .0)) (b .0)), length-replicate 7173 (pos 0)) in
     let e = file-read m held asks words fit in
     (read-yes (modelFile m) held e, sym (read-front (modelFile m) held e .are) ∙ take-onto (take (modelSize m) m) held (modelSize m) (length-take-le (modelSize m) m whole))

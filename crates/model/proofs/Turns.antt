@@ -1,6 +1,6 @@
 -- One turn of each loop: a test of every number below i, with the test of i, is the test of every number below i + 1.
 use mathlib.Core.Path.{_≡_, refl, ap, ap₂, _∙_}
-use mathlib.Core.Bool.{Bool, true, not, _&&_, _||_}
+use mathlib.Core.Bool.{Bool, true, _&&_}
 use mathlib.Core.List.{List}
 use Prim.Native.Nat.{ℕ, _+_, _-_, _*_, _<_, _≤_}
 use native.Mathlib.Numerals.{add-one}
@@ -14,14 +14,13 @@ use Rattle.integers.specs.Words.{word, eqZ, within}
 use Rattle.integers.specs.Counted.{allBelow}
 use Rattle.integers.proofs.Signed.{abs-neg, fits64, as-signed, zero-minus}
 use Rattle.plant.specs.Box.{low, high}
-use Rattle.plant.specs.Model.{masked}
 use Rattle.plant.specs.Questions.{boxOk, insideOk, zerosOk, belowOk}
 
-all-none : (f : ℕ → Bool) → true ≡ allBelow 0 f
+pub all-none : (f : ℕ → Bool) → true ≡ allBelow 0 f
 unfolding allBelow
 all-none f = refl
 
-all-more : (f : ℕ → Bool) (i : ℕ) {ok t : Bool} → ok ≡ allBelow i f → t ≡ f i → (ok && t) ≡ allBelow (i + 1) f
+pub all-more : (f : ℕ → Bool) (i : ℕ) {ok t : Bool} → ok ≡ allBelow i f → t ≡ f i → (ok && t) ≡ allBelow (i + 1) f
 unfolding allBelow
 all-more f i e h = rw add-one (ap₂ (λ (a b : Bool). a && b) e h)
 
@@ -48,20 +47,6 @@ zeros-none s = all-none (λ i. eqZ (word s i) (pos 0))
 pub zeros-more : (s : List ℤ) (i : ℕ) {ok t : Bool} → ok ≡ zerosOk i s → t ≡ eqZ (word s i) (pos 0) → (ok && t) ≡ zerosOk (i + 1) s
 unfolding zerosOk
 zeros-more s i e h = all-more (λ i. eqZ (word s i) (pos 0)) i e h
-
--- the masked ranges of the first k variables of a reset box are single
-abbrev singleAt : (mask : ℕ) (b : List ℤ) → ℕ → Bool
-singleAt mask b i = not (masked mask i) || eqZ (low b i) (high b i)
-
-abbrev pub singleBelow : (k mask : ℕ) (b : List ℤ) → Bool
-singleBelow k mask b = allBelow k (singleAt mask b)
-
-pub single-none : (mask : ℕ) (b : List ℤ) → true ≡ singleBelow 0 mask b
-single-none mask b = all-none (singleAt mask b)
-
-pub single-more : (mask : ℕ) (b : List ℤ) (i : ℕ) {ok t : Bool} → ok ≡ singleBelow i mask b → t ≡ (not (masked mask i) || eqZ (word b (2 * i)) (word b (2 * i + 1))) → (ok && t) ≡ singleBelow (i + 1) mask b
-unfolding low high
-single-more mask b i e h = all-more (singleAt mask b) i e h
 
 -- ---- limits, as code holds them
 

@@ -1,4 +1,4 @@
-// The questions of a model's words, 2 to 5, 11 to 19 and 46. These functions serve the crates above and are no calls of outsiders.
+// The questions of a model's words, 2 to 5, 43, 11 to 19 and 46. These functions serve the crates above and are no calls of outsiders.
 ghost use mathlib.Core.Path.{_≡_};
 ghost use mathlib.Core.Bool.{_&&_};
 ghost use Prim.Native.Nat.{_+_, _*_, _≤_, _<_};
@@ -6,11 +6,12 @@ ghost use lib.ListN.{length};
 ghost use lib.IntN.{natAbs};
 ghost use lib.Signed.{leZ};
 ghost use Rattle.integers.specs.Words as W;
+ghost use Rattle.integers.specs.Counted.{allBelow};
 ghost use Rattle.plant.specs.Ask as S;
 ghost use Rattle.plant.specs.Ask.{_then_};
 ghost use Rattle.plant.specs.Model as M;
 ghost use Rattle.plant.specs.Questions as Q;
-ghost use Rattle.records.specs.Whole.{Whole, Numbered, Placed};
+ghost use Rattle.records.specs.Whole.{Head, Whole, Numbered, Placed};
 
 // Levels lie in -1,000,000..1,000,000, rates in -1,000..1,000.
 const LEVEL_LIMIT: u32 = 1000000;
@@ -151,22 +152,41 @@ fn boxes_ok(model: &[i32], e: usize) -> bool
     guarded & box_ok(records::reset(model, e), n, LEVEL_LIMIT)
 }
 
-// Masked reset ranges single.
-fn single_ok(model: &[i32], e: usize) -> bool
+// The reset range of variable i single, if it is masked.
+fn single_at(model: &[i32], e: usize, i: usize) -> bool
+    requires { ⌜ Numbered (now model) e × (i < M.n# (now model)) ⌝ }
+    ensures { λ r. ⌜ r ≡ Q.singleAt (now (model .entry)) e i ⌝ }
+{
+    let b = records::reset(model, e);
+    let single = integers::same(b[2 * i], b[2 * i + 1]);
+    !records::masked(records::reset_mask(model, e), i) | single
+}
+
+// All masked reset ranges single.
+fn all_single(model: &[i32], e: usize) -> bool
     requires { ⌜ Numbered (now model) e ⌝ }
-    ensures { λ r. ⌜ r ≡ Q.singleOk (now (model .entry)) e ⌝ }
+    ensures { λ r. ⌜ r ≡ allBelow (M.n# (now (model .entry))) (Q.singleAt (now (model .entry)) e) ⌝ }
 {
     let n = records::variables(model);
-    let mask = records::reset_mask(model, e);
-    let b = records::reset(model, e);
     let mut ok = true;
     let mut i: usize = 0;
     while i < n {
-        let single = integers::same(b[2 * i], b[2 * i + 1]);
-        ok = ok & (!records::masked(mask, i) | single);
+        ok = ok & single_at(model, e, i);
         i = i + 1;
     }
     ok
+}
+
+// Masked reset ranges single; edition 2 looks at d alone.
+fn single_ok(model: &[i32], e: usize) -> bool
+    requires { ⌜ Placed (now model) e ⌝ }
+    ensures { λ r. ⌜ r ≡ Q.singleOk (now (model .entry)) e ⌝ }
+{
+    if integers::same(records::edition(model), 2) {
+        single_at(model, e, records::wall_variable(model, e))
+    } else {
+        all_single(model, e)
+    }
 }
 
 // Guard of d equal to the source wall.
@@ -287,6 +307,14 @@ pub fn ranges_questions(model: &[i32]) -> u32
     or_else(q2, or_else(q3, q4))
 }
 
+// The edition 1 or 2?
+fn edition_question(model: &[i32]) -> u32
+    requires { ⌜ Head (now model) ⌝ }
+    ensures { λ r. ⌜ r ≡ Q.editionQuestion (now (model .entry)) ⌝ }
+{
+    ask(integers::within(records::edition(model) as i64, 1, 2), 43)
+}
+
 fn locations_questions(model: &[i32]) -> u32
     requires { ⌜ Whole (now model) ⌝ }
     ensures { λ r. ⌜ r ≡ S.first (M.L# (now (model .entry))) (Q.locationQuestions (now (model .entry))) ⌝ }
@@ -363,7 +391,7 @@ pub fn records_questions(model: &[i32]) -> u32
     or_else(location, or_else(switch, or_else(forbidden, cut)))
 }
 
-// The questions of a model's words, 2 to 5, 11 to 19 and 46: 0 if all are yes, else the number of the first that is not.
+// The questions of a model's words, 2 to 5, 43, 11 to 19 and 46: 0 if all are yes, else the number of the first that is not.
 pub fn questions(model: &[i32]) -> u32
     ensures { λ r. ⌜ r ≡ Q.modelQuestions (now (model .entry)) ⌝ }
 {
@@ -373,6 +401,10 @@ pub fn questions(model: &[i32]) -> u32
     let q = ranges_questions(model);
     if q != 0 {
         return q;
+    }
+    let edition = edition_question(model);
+    if edition != 0 {
+        return edition;
     }
     if model.len() < records::size(model) {
         return 5;

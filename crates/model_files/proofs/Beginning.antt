@@ -8,11 +8,13 @@ use lib.Dec.{T}
 use lib.IntN.{ℤ, pos, natAbs}
 use lib.ListN.{length, take, drop, length-drop, List·getD-append}
 use lib.Seq.{take-append-le, drop-append-le}
-use Rattle.integers.specs.Words.{word, num}
+use Rattle.integers.specs.Words.{word, num, eqZ}
+use Rattle.integers.proofs.Tests.{by-test₂}
+use Rattle.integers.proofs.Counted.{all-ext}
 use Rattle.plant.specs.Ask.{first}
 use Rattle.plant.specs.Box.{boxAt}
-use Rattle.plant.specs.Model.{n#, L#, E#, B#, locationAt, invariant, rate, startFlag, startBox, switchAt, source, target, wallVariable, sourceSide, targetSide, resetMask, guard, reset, forbiddenAt, forbiddenBox, cutAt, cutVariable, cutValue}
-use Rattle.plant.specs.Questions.{startOk, locationQuestions, placesOk, boxesOk, singleOk, sourceWall, targetWall, guardOk, levelAfter, landsOk, switchQuestions, forbiddenQuestion, cutOk, cutQuestion, recordsQuestions}
+use Rattle.plant.specs.Model.{n#, L#, E#, B#, edition, locationAt, invariant, rate, startFlag, startBox, switchAt, source, target, wallVariable, sourceSide, targetSide, resetMask, guard, reset, forbiddenAt, forbiddenBox, cutAt, cutVariable, cutValue}
+use Rattle.plant.specs.Questions.{startOk, locationQuestions, placesOk, boxesOk, singleAt, singleOk, sourceWall, targetWall, guardOk, levelAfter, landsOk, switchQuestions, forbiddenQuestion, cutOk, cutQuestion, recordsQuestions}
 use Rattle.plant.proofs.Asks.{asked, then-both, then-intro, first-each, first-intro}
 use Rattle.plant.proofs.Passed.{PlacesPassed, places-passed}
 use Rattle.records.specs.Whole.{Whole}
@@ -39,6 +41,9 @@ module _ (a r : List ℤ) (w : Whole a) where
 
   B-same : B# m ≡ B# a
   B-same = num-same 3 (omega (arith, w .head .there))
+
+  edition-same : edition m ≡ edition a
+  edition-same = word-same 4 (omega (arith, w .head .there))
 
   box-same : (at : ℕ) → at + 2 * n# a ≤ length a → boxAt (n# a) m at ≡ boxAt (n# a) a at
   unfolding boxAt
@@ -126,9 +131,13 @@ module _ (a r : List ℤ) (w : Whole a) where
     unfolding boxesOk
     boxes-same = rw (n-same, guard-same, reset-same) refl
 
+    one-same : (i : ℕ) → singleAt m e i ≡ singleAt a e i
+    unfolding singleAt
+    one-same i = rw (mask-same, reset-same) refl
+
     single-same : singleOk m e ≡ singleOk a e
     unfolding singleOk
-    single-same = rw (n-same, mask-same, reset-same) refl
+    single-same = rw (n-same, edition-same, variable-same) (by-test₂ _≡_ (eqZ (edition a) (pos 2)) (λ _. one-same (wallVariable a e)) (λ _. all-ext (n# a) (singleAt m e) (singleAt a e) (λ i _. one-same i)))
 
     -- its walls are walls of locations that exist
     module _ (p : PlacesPassed a e) where

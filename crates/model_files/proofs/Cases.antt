@@ -1,4 +1,4 @@
--- Plant P's file, read by computing with the definitions; and with a cut.
+-- Plant P's file, read by computing with the definitions; in edition 2; and with a cut.
 use mathlib.Core.Path.{_≡_, refl}
 use mathlib.Core.List.{List, [], _∷_, _++_}
 use Prim.Native.Nat.{ℕ}
@@ -12,37 +12,59 @@ use Rattle.plant.specs.declared.Count.{Count}
 use Rattle.plant.specs.declared.Count.the-variants.{Done, Refused}
 use Rattle.plant.specs.Ask.{_then_, first}
 use Rattle.plant.specs.Box.{low, high, boxBy, boxAt}
-use Rattle.plant.specs.Model.{locationAt, invariant, rate, startFlag, startBox, switchAt, forbiddenAt, forbiddenLocation, forbiddenBox, cutAt, cutVariable, cutValue, modelSize}
-use Rattle.plant.specs.Questions.{boxOk, insideOk, zerosOk, startOk, locationQuestions, forbiddenQuestion, strictlyInside, cutOk, cutQuestion, rangesQuestions, recordsQuestions}
+use Rattle.plant.specs.Model.{locationAt, invariant, rate, startFlag, startBox, switchAt, source, target, wallVariable, sourceSide, targetSide, resetMask, masked, guard, reset, forbiddenAt, forbiddenLocation, forbiddenBox, cutAt, cutVariable, cutValue, modelSize, wall}
+use Rattle.plant.specs.Questions.{boxOk, insideOk, zerosOk, startOk, locationQuestions, placesOk, boxesOk, singleAt, singleOk, sourceWall, targetWall, guardOk, levelAfter, landsOk, switchQuestions, forbiddenQuestion, strictlyInside, cutOk, cutQuestion, rangesQuestions, recordsQuestions}
 use Rattle.plant.specs.Calls.{unlessRefused}
 use Rattle.plant.specs.Cases.{plantP, P}
+use Rattle.plant.proofs.ResetCases.{dosing, dose}
 use Rattle.model_files.specs.ModelFile.{modelFile, runQuestions, headWords, headQuestions, cutWordsOk, cutFieldQuestions, endQuestions, cutsQuestions, bodyQuestions, runWords, recordWords, fileCut, cutWords, fileWords, recordsFileQuestions, readModelCall}
 
--- P's file has 24 words and 3 fields; read into 25 words it gives P, and the last word is left
+-- P's file has 22 of P's 25 words, in 3 fields: its tag gives the edition, no field the two words of no cut; read into 26 words it gives P,
+-- and the last word is left
 record Read : Type 0 where
   file-length : length (modelFile P) ≡ 97
-  reads : readModelCall (modelFile P) (replicate 25 (pos 7)) ≡ record { count = Done 24; words = P ++ (pos 7 ∷ []) }
-  too-short : readModelCall (modelFile P) (replicate 23 (pos 7)) .count ≡ Refused 5
-  one-byte-more : readModelCall (modelFile P ++ (0 ∷ [])) (replicate 24 (pos 7)) ≡ record { count = Refused 8; words = replicate 24 (pos 0) }
-  one-byte-less : readModelCall (take 96 (modelFile P)) (replicate 24 (pos 7)) .count ≡ Refused 7
-  no-byte : readModelCall [] (replicate 24 (pos 7)) ≡ record { count = Refused 1; words = replicate 24 (pos 7) }
+  reads : readModelCall (modelFile P) (replicate 26 (pos 7)) ≡ record { count = Done 25; words = P ++ (pos 7 ∷ []) }
+  too-short : readModelCall (modelFile P) (replicate 24 (pos 7)) .count ≡ Refused 5
+  one-byte-more : readModelCall (modelFile P ++ (0 ∷ [])) (replicate 25 (pos 7)) ≡ record { count = Refused 8; words = replicate 25 (pos 0) }
+  one-byte-less : readModelCall (take 96 (modelFile P)) (replicate 25 (pos 7)) .count ≡ Refused 7
+  no-byte : readModelCall [] (replicate 25 (pos 7)) ≡ record { count = Refused 1; words = replicate 25 (pos 7) }
 
 -- P's file with a field of tag 8 after it; and of P with an invariant that is not ordered
 abbrev withCut : (m words : List ℤ) → List ℕ
 withCut m words = modelFile m ++ field 8 (wordsBytes words)
 
 abbrev answered : List ℕ → Count
-answered s = readModelCall s (replicate 24 (pos 7)) .count
+answered s = readModelCall s (replicate 25 (pos 7)) .count
 
 abbrev disordered : List ℤ
-disordered = set P 5 (negsuc 0)
+disordered = set P 6 (negsuc 0)
+
+-- the first tag in place of a file's own
+abbrev tagged : ℕ → List ℕ → List ℕ
+tagged tag s = set s 0 tag
+
+-- document 02, T-10: P's file under tag 9 is P of edition 2, and its file has tag 9; any other first tag gets 1, and so does a head of
+-- another length
+record EditionRead : Type 0 where
+  reads : readModelCall (tagged 9 (modelFile P)) (replicate 25 (pos 7)) ≡ record { count = Done 25; words = set P 4 (pos 2) }
+  written : modelFile (set P 4 (pos 2)) ≡ tagged 9 (modelFile P)
+  tag-0 : answered (tagged 0 (modelFile P)) ≡ Refused 1
+  tag-2 : answered (tagged 2 (modelFile P)) ≡ Refused 1
+  tag-8 : answered (tagged 8 (modelFile P)) ≡ Refused 1
+  tag-10 : answered (tagged 10 (modelFile P)) ≡ Refused 1
+  head-of-20 : answered (field 9 (wordsBytes (take 5 P))) ≡ Refused 1
+  head-cut-short : answered (take 18 (tagged 9 (modelFile P))) ≡ Refused 1
+  -- the dose of 5..8 under tag 9, and the same bytes under tag 1
+  range-reads : readModelCall (modelFile (dose (pos 2) 5 8)) (replicate 54 (pos 7)) ≡ record { count = Done 54; words = dose (pos 2) 5 8 }
+  range-under-1 : readModelCall (tagged 1 (modelFile (dose (pos 2) 5 8))) (replicate 54 (pos 7)) ≡ record { count = Refused 16; words = replicate 54 (pos 0) }
+  range-tag : take 3 (modelFile (dose (pos 2) 5 8)) ≡ 9 ∷ 0 ∷ 16 ∷ []
 
 record CutRead : Type 0 where
   -- location 0 cut at y 5, and its file is that of P with the cut
-  reads : readModelCall (withCut P (pos 0 ∷ pos 1 ∷ pos 5 ∷ [])) (replicate 24 (pos 7)) ≡ record { count = Done 24; words = take 22 P ++ (pos 1 ∷ pos 5 ∷ []) }
-  written : modelFile (take 22 P ++ (pos 1 ∷ pos 5 ∷ [])) ≡ withCut P (pos 0 ∷ pos 1 ∷ pos 5 ∷ [])
+  reads : readModelCall (withCut P (pos 0 ∷ pos 1 ∷ pos 5 ∷ [])) (replicate 25 (pos 7)) ≡ record { count = Done 25; words = take 23 P ++ (pos 1 ∷ pos 5 ∷ []) }
+  written : modelFile (take 23 P ++ (pos 1 ∷ pos 5 ∷ [])) ≡ withCut P (pos 0 ∷ pos 1 ∷ pos 5 ∷ [])
   -- a first byte of 8 alone; a field of two words; one of the right length of which a byte is missing
-  tag-alone : readModelCall (modelFile P ++ (8 ∷ [])) (replicate 24 (pos 7)) ≡ record { count = Refused 46; words = replicate 24 (pos 0) }
+  tag-alone : readModelCall (modelFile P ++ (8 ∷ [])) (replicate 25 (pos 7)) ≡ record { count = Refused 46; words = replicate 25 (pos 0) }
   two-words : answered (withCut P (pos 0 ∷ pos 1 ∷ [])) ≡ Refused 46
   cut-short : answered (take 111 (withCut P (pos 0 ∷ pos 1 ∷ pos 5 ∷ []))) ≡ Refused 46
   -- a location that there is not; location 0 again; a byte after the last field
@@ -63,6 +85,22 @@ record CutRead : Type 0 where
 read : Read
 unfolding onto cat allBelow bitsAt wordAt wordsAt wordBytes wordsBytes fieldAt field _then_ first low high boxBy boxAt locationAt invariant rate startFlag startBox switchAt forbiddenAt forbiddenLocation forbiddenBox cutAt cutVariable cutValue modelSize boxOk insideOk zerosOk startOk locationQuestions forbiddenQuestion strictlyInside cutOk cutQuestion rangesQuestions recordsQuestions plantP P modelFile runQuestions headWords headQuestions cutWordsOk cutFieldQuestions endQuestions cutsQuestions bodyQuestions runWords recordWords fileCut cutWords fileWords recordsFileQuestions unlessRefused readModelCall
 read = record { file-length = refl; reads = refl; too-short = refl; one-byte-more = refl; one-byte-less = refl; no-byte = refl }
+
+edition-read : EditionRead
+unfolding dosing dose onto cat allBelow bitsAt wordAt wordsAt wordBytes wordsBytes fieldAt field _then_ first low high boxBy boxAt locationAt invariant rate startFlag startBox switchAt forbiddenAt forbiddenLocation forbiddenBox cutAt cutVariable cutValue modelSize boxOk insideOk zerosOk startOk locationQuestions forbiddenQuestion strictlyInside cutOk cutQuestion rangesQuestions recordsQuestions plantP P modelFile runQuestions headWords headQuestions cutWordsOk cutFieldQuestions endQuestions cutsQuestions bodyQuestions runWords recordWords fileCut cutWords fileWords recordsFileQuestions unlessRefused readModelCall source target wallVariable sourceSide targetSide resetMask masked guard reset wall placesOk boxesOk singleAt singleOk sourceWall targetWall guardOk levelAfter landsOk switchQuestions
+edition-read = record {
+  reads = refl;
+  written = refl;
+  tag-0 = refl;
+  tag-2 = refl;
+  tag-8 = refl;
+  tag-10 = refl;
+  head-of-20 = refl;
+  head-cut-short = refl;
+  range-reads = refl;
+  range-under-1 = refl;
+  range-tag = refl;
+}
 
 cut-read : CutRead
 unfolding onto cat allBelow bitsAt wordAt wordsAt wordBytes wordsBytes fieldAt field _then_ first low high boxBy boxAt locationAt invariant rate startFlag startBox switchAt forbiddenAt forbiddenLocation forbiddenBox cutAt cutVariable cutValue modelSize boxOk insideOk zerosOk startOk locationQuestions forbiddenQuestion strictlyInside cutOk cutQuestion rangesQuestions recordsQuestions plantP P modelFile runQuestions headWords headQuestions cutWordsOk cutFieldQuestions endQuestions cutsQuestions bodyQuestions runWords recordWords fileCut cutWords fileWords recordsFileQuestions unlessRefused readModelCall

@@ -2,6 +2,7 @@ pub mod Cuts
 pub mod CutsBack
 pub mod CutTurns
 pub mod Cases
+pub mod FirstField
 pub mod ModelReading
 pub mod Beginning
 pub mod ModelRoundTrip

@@ -7,21 +7,20 @@ use lib.Dec.{T, leb, leb→le}
 use lib.IntN.{ℤ, pos}
 use lib.ListN.{length, take, length-append, List·getD-append}
 use Rattle.integers.specs.Words.{word, onto}
-use Rattle.integers.specs.Counted.{cat}
-use Rattle.integers.proofs.Buffers.{onto-start, onto-all, onto-part, cat-none, length-cat, cat-turn, take-onto}
+use Rattle.integers.proofs.Buffers.{onto-start, onto-part, cat-none, length-cat, cat-turn, take-onto}
 use Rattle.wire.specs.Bytes.{wordsAt}
 use Rattle.wire.specs.Fields.{payloadLength, fieldPlace, fieldAt, isField}
 use Rattle.wire.proofs.Words.{length-words}
-use Rattle.wire.proofs.Fields.{Due, due, place-small}
+use Rattle.wire.proofs.Fields.{place-small}
 use Rattle.plant.specs.Ask.{ask, _then_}
 use Rattle.wire.specs.declared.Field.{Field}
 use Rattle.plant.specs.Model.{n#, L#, E#, B#, locationSize, switchSize, forbiddenSize, locationAt, switchAt, forbiddenAt, cutAt, modelSize}
-use Rattle.plant.specs.Questions.{rangesQuestions}
+use Rattle.plant.specs.Questions.{rangesQuestions, editionQuestion}
 use Rattle.plant.proofs.Asks.{ask-yes, or-right, both, then-both, first-each}
 use Rattle.records.specs.Whole as model
 use Rattle.records.proofs.Positions as at
 use Rattle.records.proofs.Positions.{head-first}
-use Rattle.model_files.specs.ModelFile.{headFieldSize, hasTag, fieldQuestions, runQuestions, locationsFrom, switchesFrom, forbiddensFrom, cutsFrom, headWords, headQuestions, bufferQuestion, cutsQuestions, bodyQuestions, runWords, recordWords, fileCut, cutWords, fileWords}
+use Rattle.model_files.specs.ModelFile.{hasTag, fieldQuestions, runQuestions, locationsFrom, switchesFrom, forbiddensFrom, cutsFrom, bufferQuestion, cutsQuestions, bodyQuestions, runWords, recordWords, fileCut, cutWords, fileWords}
 use Rattle.model_files.specs.Room.{RunReady, CutsReady}
 use Rattle.model_files.proofs.Cuts.{length-cut, cuts-few}
 
@@ -52,11 +51,6 @@ unfolding runWords
 run-turn s from w to i start place d x y e h es ep f =
     rw (f, es) (cat-turn (λ i. wordsAt s (fieldPlace from w i + 3) w) to i place d x e h (omega (arith, length-run s from i w)))
 
--- a run of one field
-pub run-one : (s : List ℕ) (from w : ℕ) → runWords s from 1 w ≡ wordsAt s (from + 3) w
-unfolding runWords cat
-run-one s from w = ap (λ (at : ℕ). wordsAt s at w) (omega arith)
-
 -- ---- the cuts' words
 
 pub length-cuts : (s : List ℕ) (from L : ℕ) → length (cutWords s from L) ≡ L * 2
@@ -76,11 +70,11 @@ module _ (h : List ℤ) (ok : model.Head h) where
   cuts-small = omega (arith, forbiddens-small, place-small (1 + 2 * n# h) (B# h) 13 64 (ok .B-small) (omega (arith, ok .n-small)))
 
 -- where the words of the locations, the switches, the forbidden boxes and the cuts begin
-pub locations-at : (h : List ℤ) → locationAt h 0 ≡ 4
+pub locations-at : (h : List ℤ) → locationAt h 0 ≡ 5
 unfolding locationAt
 locations-at h = omega arith
 
-pub switches-at : (h : List ℤ) → switchAt h 0 ≡ 4 + L# h * (6 * n# h + 1)
+pub switches-at : (h : List ℤ) → switchAt h 0 ≡ 5 + L# h * (6 * n# h + 1)
 unfolding switchAt locationAt
 switches-at h = omega arith
 
@@ -99,7 +93,7 @@ words-end h = omega arith
 -- ---- two lists with the same head words
 
 abbrev pub SameHead : (a b : List ℤ) → Type 0
-SameHead a b = (j : ℕ) → j < 4 → word a j ≡ word b j
+SameHead a b = (j : ℕ) → j < 5 → word a j ≡ word b j
 
 module _ (a b : List ℤ) (e : SameHead a b) where
   pub same-size : modelSize a ≡ modelSize b
@@ -119,10 +113,14 @@ module _ (a b : List ℤ) (e : SameHead a b) where
   unfolding recordWords fileWords
   same-words s = rw (e 0 (omega arith), e 1 (omega arith), e 2 (omega arith), e 3 (omega arith)) refl
 
-  pub same-allowed : 4 ≤ length a → model.Head b → model.Head a
+  pub same-edition : editionQuestion a ≡ editionQuestion b
+  unfolding editionQuestion
+  same-edition = rw (e 4 (omega arith)) refl
+
+  pub same-allowed : 5 ≤ length a → model.Head b → model.Head a
   same-allowed long ok = record {
     there = long;
-    not-negative = λ j l. rw (e j l) (ok .not-negative j l);
+    not-negative = λ j l. rw (e j (omega arith)) (ok .not-negative j l);
     n-positive = rw (e 0 (omega arith)) (ok .n-positive);
     n-small = rw (e 0 (omega arith)) (ok .n-small);
     L-positive = rw (e 1 (omega arith)) (ok .L-positive);
@@ -132,7 +130,7 @@ module _ (a b : List ℤ) (e : SameHead a b) where
   }
 
 -- the head words stand first
-pub same-front : (h r : List ℤ) → length h ≡ 4 → SameHead (h ++ r) h
+pub same-front : (h r : List ℤ) → length h ≡ 5 → SameHead (h ++ r) h
 same-front h r e j l = List·getD-append h r (pos 0) j (omega arith)
 
 -- ---- filling in
@@ -141,7 +139,7 @@ same-front h r e j l = List·getD-append h r (pos 0) j (omega arith)
 onto-more : (a s d x y : List ℤ) (to : ℕ) → x ≡ onto a d → length a ≡ to → y ≡ onto (take to x ++ s) x → y ≡ onto (a ++ s) d
 onto-more a s d x y to e l f = f ∙ rw e (onto-part a s d to l)
 
-module _ (s : List ℕ) (h : List ℤ) (four : length h ≡ 4) where
+module _ (s : List ℕ) (h : List ℤ) (five : length h ≡ 5) where
   abbrev locations : List ℤ
   locations = runWords s 19 (L# h) (6 * n# h + 1)
 
@@ -172,9 +170,9 @@ module _ (s : List ℕ) (h : List ℤ) (four : length h ≡ 4) where
   length-file = omega (arith, length-append (recordWords s h) cuts, to-cuts, length-cuts s (cutsFrom h) (L# h), words-end h)
 
   -- the head words, then the three runs, then the cuts
-  pub filled : (d x₁ x₂ x₃ x₄ : List ℤ) → x₁ ≡ onto h d → x₂ ≡ onto (take 4 x₁ ++ locations) x₁ → x₃ ≡ onto (take (switchAt h 0) x₂ ++ switches) x₂ → x₄ ≡ onto (take (forbiddenAt h 0) x₃ ++ forbiddens) x₃ → x₄ ≡ onto (recordWords s h) d
+  pub filled : (d x₁ x₂ x₃ x₄ : List ℤ) → x₁ ≡ onto h d → x₂ ≡ onto (take 5 x₁ ++ locations) x₁ → x₃ ≡ onto (take (switchAt h 0) x₂ ++ switches) x₂ → x₄ ≡ onto (take (forbiddenAt h 0) x₃ ++ forbiddens) x₃ → x₄ ≡ onto (recordWords s h) d
   filled d x₁ x₂ x₃ x₄ e₁ e₂ e₃ e₄ =
-      let f₂ : x₂ ≡ onto (h ++ locations) d = onto-more h locations d x₁ x₂ 4 e₁ four e₂ in
+      let f₂ : x₂ ≡ onto (h ++ locations) d = onto-more h locations d x₁ x₂ 5 e₁ five e₂ in
       let f₃ : x₃ ≡ onto ((h ++ locations) ++ switches) d = onto-more (h ++ locations) switches d x₂ x₃ (switchAt h 0) f₂ to-switches e₃ in
       onto-more ((h ++ locations) ++ switches) forbiddens d x₃ x₄ (forbiddenAt h 0) f₃ to-forbiddens e₄ ∙ ap (λ (l : List ℤ). onto l d) in-turn
 
@@ -184,7 +182,7 @@ module _ (s : List ℕ) (h : List ℤ) (four : length h ≡ 4) where
 
   pub same-file : SameHead (fileWords s h) h
   unfolding recordWords fileWords
-  same-file j l = List·getD-append (recordWords s h) cuts (pos 0) j (omega (arith, to-cuts, cuts-at h, forbiddens-at h, switches-at h)) ∙ same-front h (locations ++ (switches ++ forbiddens)) four j l
+  same-file j l = List·getD-append (recordWords s h) cuts (pos 0) j (omega (arith, to-cuts, cuts-at h, forbiddens-at h, switches-at h)) ∙ same-front h (locations ++ (switches ++ forbiddens)) five j l
 
   -- the words that are filled in are a whole model, as far as its head tells
   pub file-whole : model.Head h → model.Whole (fileWords s h)
@@ -199,19 +197,6 @@ module _ (s : List ℕ) (h : List ℤ) (four : length h ≡ 4) where
   -- they are what is asked
   pub front-of : (d x : List ℤ) (k : ℕ) → x ≡ onto (fileWords s h) d → k ≡ modelSize h → take k x ≡ fileWords s h
   front-of d x k e l = rw e (take-onto (fileWords s h) d k (length-file ∙ sym l))
-
-pub length-head : (s : List ℕ) → length (headWords s) ≡ 4
-unfolding headWords
-length-head s = length-words s 3 4
-
--- the head words of a file, read into four places
-pub head-read : (s : List ℕ) (d x : List ℤ) → length d ≡ 4 → x ≡ onto (take 0 d ++ runWords s 0 1 4) d → x ≡ headWords s
-unfolding headWords
-head-read s d x l e = e ∙ ap (λ (r : List ℤ). onto r d) (run-one s 0 4) ∙ onto-all (wordsAt s 3 4) d (length-words s 3 4 ∙ sym l)
-
-pub head-filled : (s : List ℕ) (h d x : List ℤ) → h ≡ headWords s → x ≡ onto (take 0 d ++ runWords s 0 1 4) d → x ≡ onto h d
-unfolding headWords
-head-filled s h d x e f = f ∙ ap (λ (r : List ℤ). onto r d) (run-one s 0 4 ∙ sym e)
 
 -- ---- what a yes tells
 
@@ -251,7 +236,7 @@ body-passed s h e =
 
 -- ---- the largest model: 64 locations of 6 variables, 128 switches, 64 forbidden boxes, every location cut
 
-pub most-words : (h : List ℤ) → model.Head h → modelSize h ≤ 7172
+pub most-words : (h : List ℤ) → model.Head h → modelSize h ≤ 7173
 most-words h ok =
     omega (
       arith,
@@ -283,7 +268,3 @@ module _ (s : List ℕ) (h : List ℤ) (ok : model.Head h) (y : BodyPassed s h) 
 
   pub cuts-ready : CutsReady s (cutsFrom h) (L# h) words (cutAt h 0)
   cuts-ready = record { some = ok .L-positive; passes = y .cuts-pass; room = omega (arith, words-end h); few = ok .L-small }
-
--- the first field is a run of one
-pub head-ready : (s : List ℕ) (words : List ℤ) → T (isField (fieldAt s 0) 1 (payloadLength headFieldSize)) → headFieldSize ≤ length words → RunReady s 0 1 headFieldSize words 0
-head-ready s words e l = record { tag = 1; whole = λ i u. let z : i ≡ 0 = omega arith in rw z e; room = omega arith; w-small = omega arith }

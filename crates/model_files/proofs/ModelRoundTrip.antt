@@ -10,9 +10,9 @@ use lib.Dec.{T, leb, eqb, le→leb, eqb-refl}
 use lib.IntN.{ℤ, pos, negsuc}
 use lib.Signed.{nonNeg}
 use lib.ListN.{length, getD, take, drop, length-append, length-drop, take-append-drop}
-use lib.Seq.{take-add, take-at, drop-at, length-take-le, getD-take, getD-drop, getD-append-add}
+use lib.Seq.{getD-at, take-add, take-at, drop-at, length-take-le, getD-take, getD-drop, getD-append-add}
 use mir.Facts.{sfits-lit}
-use Rattle.integers.specs.Words.{word, AreWords, AreBytes, onto}
+use Rattle.integers.specs.Words.{word, within, AreWords, AreBytes, onto}
 use Rattle.integers.specs.Counted.{cat}
 use Rattle.integers.proofs.Signed.{fits32}
 use Rattle.integers.proofs.Tests.{by-test}
@@ -24,10 +24,10 @@ use Rattle.wire.specs.Fields.{fieldAt, field, fieldPlace, isField}
 use Rattle.wire.specs.declared.Field.{Field}
 use Rattle.wire.specs.declared.Field.the-variants.{Whole}
 use Rattle.wire.proofs.Words.{length-bytes, length-part, length-words, part-words, all-bytes-back}
-use Rattle.wire.proofs.Fields.{length-field, field-back, field-words-back, field-part, length-fields, fields-back, fields-words-back, fields-stand, Due, due, whole-is}
+use Rattle.wire.proofs.Fields.{length-field, field-back, field-words-back, field-part, length-fields, fields-back, fields-words-back, fields-stand, due, whole-is}
 use Rattle.plant.specs.Ask.{ask, _then_}
-use Rattle.plant.specs.Model.{n#, L#, E#, B#, locationAt, switchAt, forbiddenAt, cutAt, cutVariable, cutValue, modelSize}
-use Rattle.plant.specs.Questions.{rangesQuestions, recordsQuestions, modelQuestions}
+use Rattle.plant.specs.Model.{n#, L#, E#, B#, edition, locationAt, switchAt, forbiddenAt, cutAt, cutVariable, cutValue, modelSize}
+use Rattle.plant.specs.Questions.{rangesQuestions, editionQuestion, recordsQuestions, modelQuestions}
 use Rattle.plant.proofs.Asks.{ask-intro, ask-le, asked, then-both, then-intro, then-le, first-intro, first-le}
 use Rattle.plant.proofs.Numbers.{records-le, ranges-le}
 use Rattle.plant.proofs.Passed.{IsUncut, IsCut, Passed, passed, ranges-passed}
@@ -37,12 +37,13 @@ use Rattle.plant.proofs.Reading.{past, done}
 use Rattle.records.specs.Whole as model
 use Rattle.records.proofs.Positions.{head-first, location-within, switch-within, forbidden-within, cut-within}
 use Rattle.model.proofs.Passing.{whole-passed}
-use Rattle.model_files.specs.ModelFile.{recordField, cutField, modelFile, hasTag, fieldQuestions, runQuestions, headWords, headQuestions, bufferQuestion, recordsFileQuestions, switchesFrom, forbiddensFrom, cutsFrom, cutPlace, cutFieldWords, leastLocation, cutWordsOk, cutFieldQuestions, endQuestions, cutsQuestions, bodyQuestions, runWords, recordWords, fileCut, cutWords, fileWords, readModelCall}
+use Rattle.model_files.specs.ModelFile.{firstTag, editionOf, recordField, cutField, modelFile, hasTag, fieldQuestions, runQuestions, headWords, isHead, headQuestions, bufferQuestion, recordsFileQuestions, switchesFrom, forbiddensFrom, cutsFrom, cutPlace, cutFieldWords, leastLocation, cutWordsOk, cutFieldQuestions, endQuestions, cutsQuestions, bodyQuestions, runWords, recordWords, fileCut, cutWords, fileWords, readModelCall}
 use Rattle.model_files.specs.ModelFilesExact.{IsModelFile, ModelFilesExact}
 use Rattle.model_files.proofs.Beginning.{records-yes}
 use Rattle.model_files.proofs.Cuts.{length-cut}
 use Rattle.model_files.proofs.CutsBack.{cuts-stand, cuts-asked, cuts-read}
-use Rattle.model_files.proofs.ModelReading.{SameHead, same-size, same-ranges, same-body, same-words, same-allowed, same-file, to-cuts, length-file, length-head, length-run, BodyPassed, body-passed, switches-at, forbiddens-at, cuts-at, words-end}
+use Rattle.model_files.proofs.FirstField.{FirstField, first-field, edition-back, edition-within, head-is, length-head, one-more}
+use Rattle.model_files.proofs.ModelReading.{SameHead, same-size, same-ranges, same-edition, same-body, same-words, same-allowed, same-file, to-cuts, length-file, length-run, BodyPassed, body-passed, switches-at, forbiddens-at, cuts-at, words-end}
 
 -- ---- lists in four parts
 
@@ -120,7 +121,7 @@ module _ (m : List ℤ) (ok : Passed m) (f : AreWords m) where
   forbiddenWords b = part m (forbiddenAt m b) (1 + 2 * n# m)
 
   abbrev headField : List ℕ
-  headField = field 1 (wordsBytes (part m 0 4))
+  headField = field (firstTag (edition m)) (wordsBytes (part m 0 4))
 
   abbrev locations : List ℕ
   locations = cat (L# m) (λ l. field 2 (wordsBytes (locationWords l)))
@@ -140,13 +141,13 @@ module _ (m : List ℤ) (ok : Passed m) (f : AreWords m) where
   -- lengths
 
   four : length (part m 0 4) ≡ 4
-  four = length-part m 0 4 (w .head .there)
+  four = length-part m 0 4 (omega (arith, w .head .there))
 
   length-payload : length (wordsBytes (part m 0 4)) ≡ 16
   length-payload = omega (arith, length-bytes (part m 0 4), four)
 
   length-head-field : length headField ≡ 19
-  length-head-field = omega (arith, length-field 1 (wordsBytes (part m 0 4)), length-payload)
+  length-head-field = omega (arith, length-field (firstTag (edition m)) (wordsBytes (part m 0 4)), length-payload)
 
   length-location : (l : ℕ) → l < L# m → length (locationWords l) ≡ 6 * n# m + 1
   length-location l u = length-part m (locationAt m l) (6 * n# m + 1) (location-within m w l u)
@@ -203,29 +204,37 @@ module _ (m : List ℤ) (ok : Passed m) (f : AreWords m) where
       (then-intro (run-yes s ((headField ++ locations) ++ switches) 4 forbiddenWords (B# m) (1 + 2 * n# m) cuts (forbiddensFrom m) around-forbiddens before-forbiddens length-forbidden (omega arith))
       (rw around-cuts (cuts-asked (((headField ++ locations) ++ switches) ++ forbiddens) (cutVariable m) (cutValue m) (cutsFrom m) (L# m) before-cuts cut-fits no-value))))
 
-  head-yes : T (isField (fieldAt s 0) 1 16)
-  head-yes = whole-is (fieldAt s 0) 1 3 16 19 (field-back [] 1 (wordsBytes (part m 0 4)) (locations ++ (switches ++ (forbiddens ++ cuts))) 0 16 refl length-payload (omega arith))
+  head-yes : T (isHead (fieldAt s 0))
+  head-yes = head-is (fieldAt s 0) (edition m) (whole-is (fieldAt s 0) (firstTag (edition m)) 3 16 19 (field-back [] (firstTag (edition m)) (wordsBytes (part m 0 4)) (locations ++ (switches ++ (forbiddens ++ cuts))) 0 16 refl length-payload (omega arith)))
 
   -- the words
 
-  head-words : headWords s ≡ part m 0 4
+  first-byte : getD s 0 0 ≡ firstTag (edition m)
+  unfolding field
+  first-byte = refl
+
+  head-words : headWords s ≡ take 5 m
   unfolding headWords
-  head-words = field-words-back [] 1 (part m 0 4) (locations ++ (switches ++ (forbiddens ++ cuts))) 0 4 refl four (part-words m 0 4 f)
+  head-words =
+      ap₂ (λ (x : List ℤ) (z : ℤ). x ++ (z ∷ []))
+      (field-words-back [] (firstTag (edition m)) (part m 0 4) (locations ++ (switches ++ (forbiddens ++ cuts))) 0 4 refl four (part-words m 0 4 f))
+      (ap editionOf first-byte ∙ edition-back (edition m) (ok .edition-is))
+      ∙ sym (one-more 4 m (omega (arith, w .head .there)))
 
   same : SameHead (headWords s) m
-  same j l = rw head-words (getD-take 4 m j (pos 0) l)
+  same j l = rw head-words (getD-take 5 m j (pos 0) l)
 
-  location-parts : cat (L# m) locationWords ≡ part m 4 (L# m * (6 * n# m + 1))
+  location-parts : cat (L# m) locationWords ≡ part m 5 (L# m * (6 * n# m + 1))
   unfolding locationAt
-  location-parts = cat-parts m 4 (6 * n# m + 1) (L# m)
+  location-parts = cat-parts m 5 (6 * n# m + 1) (L# m)
 
-  switch-parts : cat (E# m) switchWords ≡ part m (4 + L# m * (6 * n# m + 1)) (E# m * (6 + 4 * n# m))
+  switch-parts : cat (E# m) switchWords ≡ part m (5 + L# m * (6 * n# m + 1)) (E# m * (6 + 4 * n# m))
   unfolding switchAt locationAt
-  switch-parts = cat-parts m (4 + L# m * (6 * n# m + 1)) (6 + 4 * n# m) (E# m)
+  switch-parts = cat-parts m (5 + L# m * (6 * n# m + 1)) (6 + 4 * n# m) (E# m)
 
-  forbidden-parts : cat (B# m) forbiddenWords ≡ part m (4 + L# m * (6 * n# m + 1) + E# m * (6 + 4 * n# m)) (B# m * (1 + 2 * n# m))
+  forbidden-parts : cat (B# m) forbiddenWords ≡ part m (5 + L# m * (6 * n# m + 1) + E# m * (6 + 4 * n# m)) (B# m * (1 + 2 * n# m))
   unfolding forbiddenAt switchAt locationAt
-  forbidden-parts = cat-parts m (4 + L# m * (6 * n# m + 1) + E# m * (6 + 4 * n# m)) (1 + 2 * n# m) (B# m)
+  forbidden-parts = cat-parts m (5 + L# m * (6 * n# m + 1) + E# m * (6 + 4 * n# m)) (1 + 2 * n# m) (B# m)
 
   runs : runWords s 19 (L# m) (6 * n# m + 1) ++ (runWords s (switchesFrom m) (E# m) (6 + 4 * n# m) ++ runWords s (forbiddensFrom m) (B# m) (1 + 2 * n# m))
       ≡ cat (L# m) locationWords ++ (cat (E# m) switchWords ++ cat (B# m) forbiddenWords)
@@ -234,16 +243,16 @@ module _ (m : List ℤ) (ok : Passed m) (f : AreWords m) where
       (ap₂ (λ (x y : List ℤ). x ++ y) (run-words s (headField ++ locations) 3 switchWords (E# m) (6 + 4 * n# m) (forbiddens ++ cuts) (switchesFrom m) around-switches before-switches length-switch (λ i. part-words m (switchAt m i) (6 + 4 * n# m) f))
       (run-words s ((headField ++ locations) ++ switches) 4 forbiddenWords (B# m) (1 + 2 * n# m) cuts (forbiddensFrom m) around-forbiddens before-forbiddens length-forbidden (λ i. part-words m (forbiddenAt m i) (1 + 2 * n# m) f)))
 
-  cut-parts : cutWords s (cutsFrom m) (L# m) ≡ part m (4 + L# m * (6 * n# m + 1) + E# m * (6 + 4 * n# m) + B# m * (1 + 2 * n# m)) (L# m * 2)
+  cut-parts : cutWords s (cutsFrom m) (L# m) ≡ part m (5 + L# m * (6 * n# m + 1) + E# m * (6 + 4 * n# m) + B# m * (1 + 2 * n# m)) (L# m * 2)
   unfolding cutWords cutVariable cutValue cutAt forbiddenAt switchAt locationAt
   cut-parts =
       cat-ext (L# m) (fileCut s (cutsFrom m) (L# m)) (λ l. part m (cutAt m l) 2)
       (λ l u. subst (λ (x : List ℕ). fileCut x (cutsFrom m) (L# m) l ≡ cutVariable m l ∷ cutValue m l ∷ []) (sym around-cuts)
       (cuts-read (((headField ++ locations) ++ switches) ++ forbiddens) (cutVariable m) (cutValue m) (cutsFrom m) (L# m) before-cuts cut-fits no-value l u)
       ∙ sym (two-words m (cutAt m l) (cut-within m w l u)))
-      ∙ cat-parts m (4 + L# m * (6 * n# m + 1) + E# m * (6 + 4 * n# m) + B# m * (1 + 2 * n# m)) 2 (L# m)
+      ∙ cat-parts m (5 + L# m * (6 * n# m + 1) + E# m * (6 + 4 * n# m) + B# m * (1 + 2 * n# m)) 2 (L# m)
 
-  size-is : 4 + L# m * (6 * n# m + 1) + E# m * (6 + 4 * n# m) + B# m * (1 + 2 * n# m) + L# m * 2 ≡ modelSize m
+  size-is : 5 + L# m * (6 * n# m + 1) + E# m * (6 + 4 * n# m) + B# m * (1 + 2 * n# m) + L# m * 2 ≡ modelSize m
   size-is = omega (arith, switches-at m, forbiddens-at m, cuts-at m, words-end m)
 
   words-are : fileWords s (headWords s) ≡ take (modelSize m) m
@@ -251,9 +260,9 @@ module _ (m : List ℤ) (ok : Passed m) (f : AreWords m) where
       same-words (headWords s) m same s
       ∙ ap₂ (λ (x y : List ℤ). x ++ y)
       (ap₂ (λ (x y : List ℤ). x ++ y) head-words (runs ∙ ap₂ (λ (x y : List ℤ). x ++ y) location-parts (ap₂ (λ (x y : List ℤ). x ++ y) switch-parts forbidden-parts))
-      ∙ four-parts m 4 (L# m * (6 * n# m + 1)) (E# m * (6 + 4 * n# m)) (B# m * (1 + 2 * n# m)))
+      ∙ four-parts m 5 (L# m * (6 * n# m + 1)) (E# m * (6 + 4 * n# m)) (B# m * (1 + 2 * n# m)))
       cut-parts
-      ∙ sym (take-add (4 + L# m * (6 * n# m + 1) + E# m * (6 + 4 * n# m) + B# m * (1 + 2 * n# m)) (L# m * 2) m)
+      ∙ sym (take-add (5 + L# m * (6 * n# m + 1) + E# m * (6 + 4 * n# m) + B# m * (1 + 2 * n# m)) (L# m * 2) m)
       ∙ ap (λ (k : ℕ). take k m) size-is
 
   -- the model's words alone pass, too
@@ -278,7 +287,7 @@ module _ (m : List ℤ) (ok : Passed m) (f : AreWords m) where
   reads words ranges records room =
       let size : modelSize (headWords s) ≡ modelSize m = same-size (headWords s) m same in
       past _
-      (then-intro (then-intro (ask-intro (isField (fieldAt s 0) 1 16) 1 head-yes) (same-ranges (headWords s) m same ∙ ranges))
+      (then-intro (then-intro (ask-intro (isHead (fieldAt s 0)) 1 head-yes) (same-ranges (headWords s) m same ∙ ranges))
       (ask-intro (leb (modelSize (headWords s)) (length words)) 5 (le→leb (modelSize (headWords s)) (length words) (omega (arith, size)))))
       (past _ (then-intro (same-body (headWords s) m same s ∙ body-yes) (ap recordsQuestions words-are ∙ front-records records))
       (rw (size, words-are) refl))
@@ -308,7 +317,7 @@ module _ (s : List ℕ) where
 
   pub head-le : headQuestions s ≤ 46
   unfolding headQuestions
-  head-le = then-le _ _ 46 (asks (isField (fieldAt s 0) 1 16) 1 (omega arith)) (ranges-le (headWords s))
+  head-le = then-le _ _ 46 (asks (isHead (fieldAt s 0)) 1 (omega arith)) (ranges-le (headWords s))
 
   body-le : (h : List ℤ) → bodyQuestions s h ≤ 46
   unfolding bodyQuestions
@@ -326,13 +335,13 @@ module _ (s : List ℕ) where
 
 -- the file of the words a, by the head words b
 file-by : (a b : List ℤ) → SameHead a b → modelFile a
-    ≡ recordField 1 a 0 4
-    ++ (cat (L# b) (λ i. recordField 2 a (4 + i * (6 * n# b + 1)) (6 * n# b + 1))
-    ++ (cat (E# b) (λ i. recordField 3 a (4 + L# b * (6 * n# b + 1) + i * (6 + 4 * n# b)) (6 + 4 * n# b))
-    ++ (cat (B# b) (λ i. recordField 4 a (4 + L# b * (6 * n# b + 1) + E# b * (6 + 4 * n# b) + i * (1 + 2 * n# b)) (1 + 2 * n# b))
-    ++ cat (L# b) (λ i. cutField i (word a (4 + L# b * (6 * n# b + 1) + E# b * (6 + 4 * n# b) + B# b * (1 + 2 * n# b) + i * 2)) (word a (4 + L# b * (6 * n# b + 1) + E# b * (6 + 4 * n# b) + B# b * (1 + 2 * n# b) + i * 2 + 1))))))
+    ≡ recordField (firstTag (edition b)) a 0 4
+    ++ (cat (L# b) (λ i. recordField 2 a (5 + i * (6 * n# b + 1)) (6 * n# b + 1))
+    ++ (cat (E# b) (λ i. recordField 3 a (5 + L# b * (6 * n# b + 1) + i * (6 + 4 * n# b)) (6 + 4 * n# b))
+    ++ (cat (B# b) (λ i. recordField 4 a (5 + L# b * (6 * n# b + 1) + E# b * (6 + 4 * n# b) + i * (1 + 2 * n# b)) (1 + 2 * n# b))
+    ++ cat (L# b) (λ i. cutField i (word a (5 + L# b * (6 * n# b + 1) + E# b * (6 + 4 * n# b) + B# b * (1 + 2 * n# b) + i * 2)) (word a (5 + L# b * (6 * n# b + 1) + E# b * (6 + 4 * n# b) + B# b * (1 + 2 * n# b) + i * 2 + 1))))))
 unfolding modelFile locationAt switchAt forbiddenAt cutVariable cutValue cutAt
-file-by a b e = rw (e 0 (omega arith), e 1 (omega arith), e 2 (omega arith), e 3 (omega arith)) refl
+file-by a b e = rw (e 0 (omega arith), e 1 (omega arith), e 2 (omega arith), e 3 (omega arith), e 4 (omega arith)) refl
 
 -- the fields of a run are the file's part that is read
 run-stands : (s : List ℕ) (b : AreBytes s) (a p : List ℤ) (q : List ℤ) (from count tag w at : ℕ) → a ≡ p ++ (runWords s from count w ++ q) → length p ≡ at
@@ -354,15 +363,24 @@ module _ (s : List ℕ) where
   pub read-size : modelSize (fileWords s (headWords s)) ≡ modelSize (headWords s)
   read-size = same-size (fileWords s (headWords s)) (headWords s) same-read
 
+  edition-read : edition (headWords s) ≡ editionOf (getD s 0 0)
+  unfolding headWords
+  edition-read = getD-at (wordsAt s 3 4) (editionOf (getD s 0 0)) [] (pos 0) 4 (length-words s 3 4)
+
+  edition-yes : editionQuestion (headWords s) ≡ 0
+  unfolding editionQuestion
+  edition-yes = rw edition-read (ask-intro (within (pos 1) (pos 2) (editionOf (getD s 0 0))) 43 (edition-within (getD s 0 0)))
+
   pub read-passes : rangesQuestions (headWords s) ≡ 0 → recordsQuestions (fileWords s (headWords s)) ≡ 0 → modelQuestions (fileWords s (headWords s)) ≡ 0
   unfolding modelQuestions
   read-passes ranges records =
       let a : List ℤ = fileWords s (headWords s) in
-      then-intro (ask-intro (leb 4 (length a)) 5 (le→leb 4 (length a) (omega (arith, length-read, head-first (headWords s)))))
+      then-intro (ask-intro (leb 5 (length a)) 5 (le→leb 5 (length a) (omega (arith, length-read, head-first (headWords s)))))
       (then-intro (same-ranges a (headWords s) same-read ∙ ranges)
-      (then-intro (ask-intro (leb (modelSize a) (length a)) 5 (le→leb (modelSize a) (length a) (omega (arith, length-read, read-size)))) records))
+      (then-intro (same-edition a (headWords s) same-read ∙ edition-yes)
+      (then-intro (ask-intro (leb (modelSize a) (length a)) 5 (le→leb (modelSize a) (length a) (omega (arith, length-read, read-size)))) records)))
 
-module _ (s : List ℕ) (b : AreBytes s) (first-due : Due s 0 1 16) (some : 0 < L# (headWords s)) (y : BodyPassed s (headWords s)) where
+module _ (s : List ℕ) (b : AreBytes s) (first : FirstField s) (some : 0 < L# (headWords s)) (y : BodyPassed s (headWords s)) where
   abbrev h : List ℤ
   h = headWords s
 
@@ -393,21 +411,24 @@ module _ (s : List ℕ) (b : AreBytes s) (first-due : Due s 0 1 16) (some : 0 < 
   around-forbidden-run : a ≡ ((h ++ locationRun) ++ switchRun) ++ (forbiddenRun ++ cutRun)
   around-forbidden-run = around-switch-run ∙ sym (append-assoc (h ++ locationRun) switchRun (forbiddenRun ++ cutRun))
 
-  length-two : length (h ++ locationRun) ≡ 4 + L# h * (6 * n# h + 1)
+  length-two : length (h ++ locationRun) ≡ 5 + L# h * (6 * n# h + 1)
   length-two = omega (arith, length-append h locationRun, length-head s, length-run s 19 (L# h) (6 * n# h + 1))
 
-  length-three : length ((h ++ locationRun) ++ switchRun) ≡ 4 + L# h * (6 * n# h + 1) + E# h * (6 + 4 * n# h)
+  length-three : length ((h ++ locationRun) ++ switchRun) ≡ 5 + L# h * (6 * n# h + 1) + E# h * (6 + 4 * n# h)
   length-three = omega (arith, length-append (h ++ locationRun) switchRun, length-two, length-run s (switchesFrom h) (E# h) (6 + 4 * n# h))
 
-  head-part : part a 0 4 ≡ h
-  head-part = ap (λ (x : List ℤ). part x 0 4) around-locations ∙ take-at h (locationRun ++ (switchRun ++ (forbiddenRun ++ cutRun))) 4 (length-head s)
-
-  head-stands : recordField 1 a 0 4 ≡ take 19 s
+  head-part : part a 0 4 ≡ wordsAt s 3 4
   unfolding headWords
+  head-part =
+      let rest : List ℤ = locationRun ++ (switchRun ++ (forbiddenRun ++ cutRun)) in
+      let fifth : List ℤ = editionOf (getD s 0 0) ∷ [] in
+      ap (λ (x : List ℤ). part x 0 4) (around-locations ∙ append-assoc (wordsAt s 3 4) fifth rest) ∙ take-at (wordsAt s 3 4) (fifth ++ rest) 4 (length-words s 3 4)
+
+  head-stands : recordField (firstTag (edition h)) a 0 4 ≡ take 19 s
   head-stands =
-      ap (λ (x : List ℤ). field 1 (wordsBytes x)) head-part
-      ∙ ap (field 1) (all-bytes-back s 3 4 b (first-due .there))
-      ∙ sym (field-part s 0 1 3 16 19 b (first-due .field-is))
+      ap₂ (λ (tag : ℕ) (x : List ℤ). field tag (wordsBytes x)) (ap firstTag (edition-read s) ∙ first .is-tag) head-part
+      ∙ ap (field (first .tag)) (all-bytes-back s 3 4 b (first .is-due .there))
+      ∙ sym (field-part s 0 (first .tag) 3 16 19 b (first .is-due .field-is))
 
   -- word j of the cut of location l
   cut-word : (at l j : ℕ) → length (recordWords s h) ≡ at → l < L# h → j < 2 → word a (at + (l * 2 + j)) ≡ word (fileCut s (cutsFrom h) (L# h) l) j
@@ -429,20 +450,20 @@ module _ (s : List ℕ) (b : AreBytes s) (first-due : Due s 0 1 16) (some : 0 < 
   is-file =
       sym (file-by a h (same-file s h (length-head s))
       ∙ ap₂ (λ (x y : List ℕ). x ++ y) head-stands
-      (ap₂ (λ (x y : List ℕ). x ++ y) (run-stands s b a h (switchRun ++ (forbiddenRun ++ cutRun)) 19 (L# h) 2 (6 * n# h + 1) 4 around-locations (length-head s) (y .locations-whole))
-      (ap₂ (λ (x y : List ℕ). x ++ y) (run-stands s b a (h ++ locationRun) (forbiddenRun ++ cutRun) (switchesFrom h) (E# h) 3 (6 + 4 * n# h) (4 + L# h * (6 * n# h + 1)) around-switch-run length-two (y .switches-whole))
-      (ap₂ (λ (x y : List ℕ). x ++ y) (run-stands s b a ((h ++ locationRun) ++ switchRun) cutRun (forbiddensFrom h) (B# h) 4 (1 + 2 * n# h) (4 + L# h * (6 * n# h + 1) + E# h * (6 + 4 * n# h)) around-forbidden-run length-three (y .forbiddens-whole))
-      (cuts-again (4 + L# h * (6 * n# h + 1) + E# h * (6 + 4 * n# h) + B# h * (1 + 2 * n# h)) (to-cuts s h (length-head s) ∙ omega (arith, switches-at h, forbiddens-at h, cuts-at h))))))
+      (ap₂ (λ (x y : List ℕ). x ++ y) (run-stands s b a h (switchRun ++ (forbiddenRun ++ cutRun)) 19 (L# h) 2 (6 * n# h + 1) 5 around-locations (length-head s) (y .locations-whole))
+      (ap₂ (λ (x y : List ℕ). x ++ y) (run-stands s b a (h ++ locationRun) (forbiddenRun ++ cutRun) (switchesFrom h) (E# h) 3 (6 + 4 * n# h) (5 + L# h * (6 * n# h + 1)) around-switch-run length-two (y .switches-whole))
+      (ap₂ (λ (x y : List ℕ). x ++ y) (run-stands s b a ((h ++ locationRun) ++ switchRun) cutRun (forbiddensFrom h) (B# h) 4 (1 + 2 * n# h) (5 + L# h * (6 * n# h + 1) + E# h * (6 + 4 * n# h)) around-forbidden-run length-three (y .forbiddens-whole))
+      (cuts-again (5 + L# h * (6 * n# h + 1) + E# h * (6 + 4 * n# h) + B# h * (1 + 2 * n# h)) (to-cuts s h (length-head s) ∙ omega (arith, switches-at h, forbiddens-at h, cuts-at h))))))
       ∙ five-parts s 19 (L# h * (3 + 4 * (6 * n# h + 1))) (E# h * (3 + 4 * (6 + 4 * n# h))) (B# h * (3 + 4 * (1 + 2 * n# h))))
 
   pub read-file : rangesQuestions h ≡ 0 → recordsQuestions a ≡ 0 → IsModelFile s a
   read-file ranges records = record { is-file = is-file; passes = read-passes s ranges records; no-more = length-read s ∙ sym (read-size s) }
 
-head-passed : (s : List ℕ) → headQuestions s ≡ 0 → Due s 0 1 16 × (rangesQuestions (headWords s) ≡ 0)
+head-passed : (s : List ℕ) → headQuestions s ≡ 0 → FirstField s × (rangesQuestions (headWords s) ≡ 0)
 unfolding headQuestions
 head-passed s e =
-    let x : T (isField (fieldAt s 0) 1 16) × (rangesQuestions (headWords s) ≡ 0) = asked (isField (fieldAt s 0) 1 16) 1 (rangesQuestions (headWords s)) (omega arith) e in
-    (due s 0 1 16 (x .0), x .1)
+    let x : T (isHead (fieldAt s 0)) × (rangesQuestions (headWords s) ≡ 0) = asked (isHead (fieldAt s 0)) 1 (rangesQuestions (headWords s)) (omega arith) e in
+    (first-field s (x .0), x .1)
 
 -- ---- the theorem
 
@@ -450,9 +471,10 @@ pub file-read : (m words : List ℤ) → modelQuestions m ≡ 0 → AreWords m �
     → record { count = Done (modelSize m); words = onto (take (modelSize m) m) words } ≡ readModelCall (modelFile m) words
 unfolding modelFile modelQuestions
 file-read m words e f room =
-    let x : _ × _ = asked (leb 4 (length m)) 5 _ (omega arith) e in
+    let x : _ × _ = asked (leb 5 (length m)) 5 _ (omega arith) e in
     let y : (rangesQuestions m ≡ 0) × _ = then-both (rangesQuestions m) _ (x .1) in
-    let z : _ × (recordsQuestions m ≡ 0) = asked (leb (modelSize m) (length m)) 5 (recordsQuestions m) (omega arith) (y .1) in
+    let k : (editionQuestion m ≡ 0) × _ = then-both (editionQuestion m) _ (y .1) in
+    let z : _ × (recordsQuestions m ≡ 0) = asked (leb (modelSize m) (length m)) 5 (recordsQuestions m) (omega arith) (k .1) in
     reads m (passed m e) f words (y .0) (z .1) room
 
 read-is-file : (s : List ℕ) (words : List ℤ) → AreBytes s → readReply (readModelCall s words) .code ≡ 100 → IsModelFile s (wordsRead (readModelCall s words))

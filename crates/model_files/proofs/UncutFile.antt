@@ -7,9 +7,8 @@ use native.Mathlib.Omega.{arith}
 use lib.IntN.{ℤ, negsuc, natAbs}
 use Rattle.integers.specs.Words.{eqZ}
 use Rattle.integers.specs.Counted.{cat}
-use Rattle.plant.specs.Model.{n#, L#, E#, B#, locationSize, switchSize, forbiddenSize, locationAt, switchAt, forbiddenAt, Cut, uncut, cutBy, cutVariable, cutValue, cutFrom, cutOf}
-use Rattle.plant.specs.Meaning.{Uncut}
-use Rattle.model_files.specs.ModelFile.{headFieldSize, recordField, cutField, modelFile}
+use Rattle.plant.specs.Model.{n#, L#, E#, B#, edition, locationSize, switchSize, forbiddenSize, locationAt, switchAt, forbiddenAt, Cut, uncut, cutBy, cutVariable, cutValue, cutFrom, cutOf}
+use Rattle.model_files.specs.ModelFile.{firstTag, headFieldSize, recordField, cutField, modelFile}
 use Rattle.model_files.specs.UncutFile.{UncutFile}
 
 -- a cut that is none has variable -1
@@ -40,7 +39,7 @@ unfolding modelFile
 uncut-file = record {
   uncut = λ m none.
       ap (λ (cuts : List ℕ).
-      recordField 1 m 0 headFieldSize
+      recordField (firstTag (edition m)) m 0 headFieldSize
       ++ (cat (L# m) (λ l. recordField 2 m (locationAt m l) (locationSize (n# m)))
       ++ (cat (E# m) (λ e. recordField 3 m (switchAt m e) (switchSize (n# m)))
       ++ (cat (B# m) (λ b. recordField 4 m (forbiddenAt m b) (forbiddenSize (n# m))) ++ cuts))))

@@ -1,6 +1,6 @@
--- Document 01, "Files" and "The questions, in order": the file of a model, and what reading one gives. And document 02, T-12: the
--- fields of its cuts.
-use mathlib.Core.Bool.{Bool, false, cond, not, _&&_}
+-- Document 01, "Files" and "The questions, in order": the file of a model, and what reading one gives. And document 02: its first tag,
+-- which gives its edition (T-10), and the fields of its cuts (T-12).
+use mathlib.Core.Bool.{Bool, false, cond, not, _&&_, _||_}
 use mathlib.Core.List.{List, [], _∷_, _++_}
 use Prim.Native.Nat.{ℕ, zero, suc, _+_, _-_}
 use lib.Dec.{eqb, leb}
@@ -14,12 +14,19 @@ use Rattle.wire.specs.declared.Field.{Field}
 use Rattle.wire.specs.declared.Field.the-variants.{Whole, Cut, Short}
 use Rattle.plant.specs.Ask.{ask, _then_, first}
 use Rattle.plant.specs.declared.Count.the-variants.{Done}
-use Rattle.plant.specs.Model.{n#, L#, E#, B#, locationSize, switchSize, forbiddenSize, locationAt, switchAt, forbiddenAt, cutVariable, cutValue, modelSize}
+use Rattle.plant.specs.Model.{n#, L#, E#, B#, edition, locationSize, switchSize, forbiddenSize, locationAt, switchAt, forbiddenAt, cutVariable, cutValue, modelSize}
 use Rattle.plant.specs.Questions.{rangesQuestions, recordsQuestions}
 use Rattle.plant.specs.Calls.{ReadOutcome, unlessRefused, zeroed}
 
--- ---- the file of a model's words: tag 1 (n, L, E, B), then L of tag 2, E of tag 3, B of tag 4, each one record; then one of tag 8
--- for each location that is cut (location, variable, value)
+-- ---- the file of a model's words: tag 1, or 9 in edition 2 (n, L, E, B), then L of tag 2, E of tag 3, B of tag 4, each one record;
+-- then one of tag 8 for each location that is cut (location, variable, value)
+
+-- the edition gives the first tag, and is given by it
+abbrev pub firstTag : (edition : ℤ) → ℕ
+firstTag edition = cond (eqZ edition (pos 2)) 9 1
+
+abbrev pub editionOf : (tag : ℕ) → ℤ
+editionOf tag = cond (eqb tag 9) (pos 2) (pos 1)
 
 -- how many words the first field has, and a cut's
 abbrev pub headFieldSize : ℕ
@@ -38,7 +45,7 @@ cutField l variable value = cond (eqZ variable (negsuc 0)) [] (field 8 (wordsByt
 
 unfoldable pub modelFile : List ℤ → List ℕ
 modelFile m =
-    recordField 1 m 0 headFieldSize
+    recordField (firstTag (edition m)) m 0 headFieldSize
     ++ (cat (L# m) (λ l. recordField 2 m (locationAt m l) (locationSize (n# m)))
     ++ (cat (E# m) (λ e. recordField 3 m (switchAt m e) (switchSize (n# m)))
     ++ (cat (B# m) (λ b. recordField 4 m (forbiddenAt m b) (forbiddenSize (n# m)))
@@ -60,13 +67,17 @@ fieldQuestions f tag len = ask (hasTag f tag) 6 then ask (isField f tag len) 7
 unfoldable pub runQuestions : (s : List ℕ) (from count tag w : ℕ) → ℕ
 runQuestions s from count tag w = first count (λ i. fieldQuestions (fieldAt s (fieldPlace from w i)) tag (payloadLength w))
 
--- n, L, E and B as the first field has them
+-- n, L, E and B as the first field has them, and the edition that its tag, the file's first byte, gives
 unfoldable pub headWords : List ℕ → List ℤ
-headWords s = wordsAt s headerSize headFieldSize
+headWords s = wordsAt s headerSize headFieldSize ++ (editionOf (getD s 0 0) ∷ [])
 
--- first field whole, tag 1, length 16? 1. n, L, E and B allowed? 2 to 4
+-- whole, tag 1 or 9, length 16
+abbrev pub isHead : Field → Bool
+isHead f = isField f 1 (payloadLength headFieldSize) || isField f 9 (payloadLength headFieldSize)
+
+-- first field so? 1. n, L, E and B allowed? 2 to 4. (The edition is 1 or 2, so 43 is not asked.)
 unfoldable pub headQuestions : List ℕ → ℕ
-headQuestions s = ask (isField (fieldAt s 0) 1 (payloadLength headFieldSize)) 1 then rangesQuestions (headWords s)
+headQuestions s = ask (isHead (fieldAt s 0)) 1 then rangesQuestions (headWords s)
 
 -- word buffer long enough for the model of the head words h? 5
 abbrev pub bufferQuestion : (h : List ℤ) (room : ℕ) → ℕ

@@ -10,7 +10,7 @@ use Rattle.integers.specs.Words.{word}
 use Rattle.wire.specs.Fields.{payloadLength, fieldLength, fieldPlace, fieldAt, isField}
 use Rattle.plant.specs.Model.{cutSize, modelSize}
 use Rattle.records.specs.Whole.{Head}
-use Rattle.model_files.specs.ModelFile.{headFieldSize, cutFieldSize, headWords, cutFieldWords, cutsQuestions}
+use Rattle.model_files.specs.ModelFile.{cutFieldSize, headWords, isHead, cutFieldWords, cutsQuestions}
 
 -- count fields of one tag stand whole from a position on, each with a payload of w words, and there is room for these words
 pub record RunReady (s : List ℕ) (from count w : ℕ) (words : List ℤ) (to : ℕ) : Type 0 where
@@ -33,7 +33,7 @@ pub record CutsReady (s : List ℕ) (from L : ℕ) (words : List ℤ) (to : ℕ)
 
 -- the head words of a file whose questions 1 to 5 are yes
 pub record HeadRead (s : List ℕ) (h words : List ℤ) : Type 0 where
-  pub first-field : T (isField (fieldAt s 0) 1 (payloadLength headFieldSize))
+  pub first-field : T (isHead (fieldAt s 0))
   pub is-read : h ≡ headWords s
   pub head : Head h
   pub room : modelSize h ≤ length words

@@ -1,24 +1,51 @@
-// Reading a model's file (document 01, "Files"; document 02, T-12).
+// Reading a model's file (document 01, "Files"; document 02, T-10 and T-12).
 use plant::Count;
 ghost use mathlib.Core.Path.{_≡_};
 ghost use mathlib.Core.Bool.{true, cond};
 ghost use mathlib.Core.List.{[], _∷_, _++_};
 ghost use Prim.Native.Nat.{_+_, _≤_, _<_};
+ghost use lib.Dec.{T};
 ghost use lib.IntN.{pos, negsuc};
 ghost use lib.ListN.{length, take};
 ghost use Rattle.integers.specs.Words.{word, num, onto};
-ghost use Rattle.wire.specs.Fields.{fieldLength};
+ghost use Rattle.wire.specs.Fields.{fieldLength, fieldAt};
 ghost use Rattle.plant.specs.Ask.{_then_};
-ghost use Rattle.plant.specs.Model.{cutSize};
+ghost use Rattle.plant.specs.Model.{headSize, cutSize};
 ghost use Rattle.plant.specs.Questions.{rangesQuestions};
 ghost use Rattle.records.specs.Whole.{Head};
-ghost use Rattle.model_files.specs.ModelFile.{headFieldSize, cutFieldSize, hasTag, fieldQuestions, runQuestions, bufferQuestion, locationsFrom, switchesFrom, forbiddensFrom, cutsFrom, cutFieldWords, cutWordsOk, cutFieldQuestions, cutsQuestions, bodyQuestions, runWords, recordWords, namesLocation, cutWords, fileWords, readRecords, readModelCall};
+ghost use Rattle.model_files.specs.ModelFile.{editionOf, cutFieldSize, headWords, isHead, hasTag, fieldQuestions, runQuestions, bufferQuestion, locationsFrom, switchesFrom, forbiddensFrom, cutsFrom, cutFieldWords, cutWordsOk, cutFieldQuestions, cutsQuestions, bodyQuestions, runWords, recordWords, namesLocation, cutWords, fileWords, readRecords, readModelCall};
 ghost use Rattle.model_files.specs.Room.{RunReady, CutThere, CutsReady, HeadRead};
 
 // How many words the first field has, and a cut's: location, variable, value.
 const HEAD_FIELD_SIZE: usize = 4;
 
 const CUT_FIELD_SIZE: usize = 3;
+
+// ---- the first field, and the head words
+
+// Whole, of tag 1 or 9, with n, L, E and B.
+fn is_head(f: wire::Field) -> bool
+    ensures { λ r. ⌜ r ≡ isHead f ⌝ }
+{
+    let len = wire::payload_length(HEAD_FIELD_SIZE);
+    wire::is_field(f, 1, len) | wire::is_field(f, 9, len)
+}
+
+// The edition that the first tag gives.
+fn edition_of(tag: u8) -> i32
+    ensures { λ r. ⌜ r ≡ editionOf tag ⌝ }
+{
+    if tag == 9 { 2 } else { 1 }
+}
+
+// Copies n, L, E and B to the front of the words, and the edition behind them.
+fn read_head(file: &[u8], words: &mut [i32])
+    requires { ⌜ T (isHead (fieldAt (now file) 0)) × (headSize ≤ length (now words)) ⌝ }
+    ensures { λ _. ⌜ now (words .exit) ≡ onto (headWords (now (file .entry))) (now (words .entry)) ⌝ }
+{
+    wire::copy_words(file, wire::HEADER_SIZE, HEAD_FIELD_SIZE, words, 0);
+    words[HEAD_FIELD_SIZE] = edition_of(file[0]);
+}
 
 // ---- the questions of a file
 
@@ -67,7 +94,7 @@ fn run_questions(file: &[u8], from: usize, count: usize, tag: u8, w: usize) -> u
 
 // n, L, E and B allowed, and the words of such a model not more than there is room for?
 fn sizes_questions(head: &[i32], room: usize) -> u32
-    requires { ⌜ headFieldSize ≤ length (now head) ⌝ }
+    requires { ⌜ headSize ≤ length (now head) ⌝ }
     ensures { λ r. ⌜ r ≡ (rangesQuestions (now (head .entry)) then bufferQuestion (now (head .entry)) room) ⌝ }
 {
     let q = model::ranges_questions(head);
@@ -235,7 +262,7 @@ fn fill_records(file: &[u8], head: &[i32], words: &mut [i32])
     ensures { λ _. ⌜ now (words .exit) ≡ onto (recordWords (now (file .entry)) (now (head .entry))) (now (words .entry)) ⌝ }
 {
     let n = records::variables(head);
-    copy_run(file, 0, 1, HEAD_FIELD_SIZE, words, 0);
+    read_head(file, words);
     copy_run(
         file,
         locations_from(),
@@ -355,16 +382,12 @@ fn read_records(file: &[u8], head: &[i32], words: &mut [i32]) -> Count
 pub fn read_model(file: &[u8], words: &mut [i32]) -> Count
     ensures { λ r. ⌜ record { count = r; words = now (words .exit) } ≡ readModelCall (now (file .entry)) (now (words .entry)) ⌝ }
 {
-    let first = wire::next_field(file, 0);
-    let q1 = model::ask(
-        wire::is_field(first, 1, wire::payload_length(HEAD_FIELD_SIZE)),
-        1,
-    );
+    let q1 = model::ask(is_head(wire::next_field(file, 0)), 1);
     if q1 != 0 {
         return Count::Refused(q1);
     }
-    let mut head = [0i32; HEAD_FIELD_SIZE];
-    copy_run(file, 0, 1, HEAD_FIELD_SIZE, &mut head, 0);
+    let mut head = [0i32; records::HEAD_SIZE];
+    read_head(file, &mut head);
     let q = sizes_questions(&head, words.len());
     if q != 0 {
         return Count::Refused(q);

@@ -11,7 +11,7 @@ use Rattle.plant.specs.declared.Answer.the-variants.{Safe, Unknown}
 use Rattle.plant.specs.Ask.{_then_, first}
 use Rattle.plant.specs.Box.{low, high, boxBy, boxAt, ordered, cut, hull, unlessEmpty, faceWords, join, joins}
 use Rattle.plant.specs.Model.{locationAt, invariant, rate, startFlag, startBox, switchAt, source, target, wallVariable, sourceSide, targetSide, resetMask, masked, guard, reset, forbiddenAt, forbiddenLocation, forbiddenBox, cutAt, cutVariable, cutValue, cutFrom, cutOf, modelSize, wall, faceWall}
-use Rattle.plant.specs.Questions.{boxOk, insideOk, zerosOk, startOk, locationQuestions, placesOk, boxesOk, singleOk, sourceWall, targetWall, guardOk, levelAfter, landsOk, switchQuestions, forbiddenQuestion, strictlyInside, cutOk, cutQuestion, rangesQuestions, recordsQuestions, modelQuestions}
+use Rattle.plant.specs.Questions.{boxOk, insideOk, zerosOk, startOk, locationQuestions, placesOk, boxesOk, singleAt, singleOk, sourceWall, targetWall, guardOk, levelAfter, landsOk, switchQuestions, forbiddenQuestion, strictlyInside, cutOk, cutQuestion, rangesQuestions, editionQuestion, recordsQuestions, modelQuestions}
 use Rattle.plant.specs.Delays.{delaysInto, bothDelays, hasDelay, orNever}
 use Rattle.plant.specs.Steps.{delaysIntoBox, touches, lowAt, highAt, lowAfter, highAfter, boxAfter, wallDelays, wallStep, setMasked, guarded, landed, switchStep}
 use Rattle.plant.specs.Pieces.{extentBy, keepsTo, boxUpTo, boxFrom, cutToExtent, piecesPerFace, perFace, anyCut, pieces, pieceNumber, pieceFace, pieceIndex, pieceVariable, pieceWall, pieceExtent, pieceRange}
@@ -22,7 +22,7 @@ use Rattle.plant.specs.Cases.{box₂}
 -- x and y from 5 at rate 1 to 6, in 0..6; at the wall y 6 a switch sets x to 1; x 4, y 6 is forbidden; with this cut
 unfoldable pub plantC : (variable value : ℤ) → List ℤ
 plantC variable value =
-    pos 2 ∷ pos 1 ∷ pos 1 ∷ pos 1
+    pos 2 ∷ pos 1 ∷ pos 1 ∷ pos 1 ∷ pos 1
     ∷ pos 0 ∷ pos 6 ∷ pos 0 ∷ pos 6
     ∷ pos 1 ∷ pos 1 ∷ pos 1 ∷ pos 1
     ∷ pos 1 ∷ pos 5 ∷ pos 5 ∷ pos 5 ∷ pos 5
@@ -55,7 +55,7 @@ tableC own up from = gone ++ gone ++ there 6 6 6 6 ++ own ++ gone ++ gone ++ up 
 -- second, where x grows alone; with the cut words of the first and of the second
 unfoldable pub plantD : (cut₀ cut₁ : List ℤ) → List ℤ
 plantD cut₀ cut₁ =
-    (pos 2 ∷ pos 2 ∷ pos 1 ∷ pos 0
+    (pos 2 ∷ pos 2 ∷ pos 1 ∷ pos 0 ∷ pos 1
     ∷ pos 0 ∷ pos 4 ∷ pos 0 ∷ pos 8 ∷ pos 1 ∷ pos 1 ∷ pos 1 ∷ pos 1 ∷ pos 1 ∷ pos 0 ∷ pos 0 ∷ pos 0 ∷ pos 2
     ∷ pos 0 ∷ pos 4 ∷ pos 0 ∷ pos 8 ∷ pos 1 ∷ pos 1 ∷ pos 0 ∷ pos 0 ∷ pos 0 ∷ pos 0 ∷ pos 0 ∷ pos 0 ∷ pos 0
     ∷ pos 0 ∷ pos 1 ∷ pos 0 ∷ pos 1 ∷ pos 0 ∷ pos 1 ∷ pos 4 ∷ pos 4 ∷ pos 0 ∷ pos 8 ∷ pos 0 ∷ pos 0 ∷ pos 0 ∷ pos 8 ∷ [])
@@ -91,8 +91,8 @@ pub record CutCases : Type 0 where
   pub minus-two : modelQuestions (plantC (negsuc 1) (pos 2)) ≡ 46
   pub no-variable : modelQuestions (plantC (pos 2) (pos 2)) ≡ 46
   -- a list one word short of the cuts; a bad forbidden box (y 6..5) with a bad cut; a table one word short
-  pub one-short : modelQuestions (take 37 cutC) ≡ 5
-  pub box-first : modelQuestions (take 35 cutC ++ (pos 5 ∷ pos 0 ∷ pos 6 ∷ [])) ≡ 19
+  pub one-short : modelQuestions (take 38 cutC) ≡ 5
+  pub box-first : modelQuestions (take 36 cutC ++ (pos 5 ∷ pos 0 ∷ pos 6 ∷ [])) ≡ 19
   pub table-short : checkerQuestions cutC (take 39 (tableC gone (there 1 1 6 6) (there 6 6 6 6))) ≡ 20
   -- 39: four faces of 27 bytes; with the cut eight pieces of 31; with one of two locations cut, twelve of 31
   pub whole-file : longestTableFile uncutC ≡ 115
@@ -125,7 +125,7 @@ pub record CutCases : Type 0 where
   pub two-ceiling : ceilingOf (plantD cut-y no-cut) ≡ 58
 
 pub cut-cases : CutCases
-unfolding floorZ ceilZ maxZ minZ equal cat allBelow anyBelow sumBelow _then_ first low high boxBy boxAt ordered cut hull unlessEmpty faceWords join joins locationAt invariant rate startFlag startBox switchAt source target wallVariable sourceSide targetSide resetMask masked guard reset forbiddenAt forbiddenLocation forbiddenBox cutAt cutVariable cutValue cutFrom cutOf modelSize wall faceWall boxOk insideOk zerosOk startOk locationQuestions placesOk boxesOk singleOk sourceWall targetWall guardOk levelAfter landsOk switchQuestions forbiddenQuestion strictlyInside cutOk cutQuestion rangesQuestions recordsQuestions modelQuestions delaysInto bothDelays hasDelay orNever delaysIntoBox touches lowAt highAt lowAfter highAfter boxAfter wallDelays wallStep setMasked guarded landed switchStep extentBy keepsTo boxUpTo boxFrom cutToExtent piecesPerFace perFace anyCut pieces pieceNumber pieceFace pieceIndex pieceVariable pieceWall pieceExtent pieceRange wordsPerLocation piecesBefore pieceCount tableSize longestTableFile pieceAt tableBy faceRead pieceOf onWall absentOk presentOk pieceOk tableOk startPart partOf toPiece wallStepAt wallFrom sourcePiece switchStepAt switchOnto wallsJoined switchesJoined newPiece pass tableAfter partTouches touching widths faceCount ceilingOf unchanged certificateQuestions tableQuestions checkerQuestions search analysis plantC uncutC cutC tableC plantD
+unfolding floorZ ceilZ maxZ minZ equal cat allBelow anyBelow sumBelow _then_ first low high boxBy boxAt ordered cut hull unlessEmpty faceWords join joins locationAt invariant rate startFlag startBox switchAt source target wallVariable sourceSide targetSide resetMask masked guard reset forbiddenAt forbiddenLocation forbiddenBox cutAt cutVariable cutValue cutFrom cutOf modelSize wall faceWall boxOk insideOk zerosOk startOk locationQuestions placesOk boxesOk singleAt singleOk sourceWall targetWall guardOk levelAfter landsOk switchQuestions forbiddenQuestion strictlyInside cutOk cutQuestion rangesQuestions editionQuestion recordsQuestions modelQuestions delaysInto bothDelays hasDelay orNever delaysIntoBox touches lowAt highAt lowAfter highAfter boxAfter wallDelays wallStep setMasked guarded landed switchStep extentBy keepsTo boxUpTo boxFrom cutToExtent piecesPerFace perFace anyCut pieces pieceNumber pieceFace pieceIndex pieceVariable pieceWall pieceExtent pieceRange wordsPerLocation piecesBefore pieceCount tableSize longestTableFile pieceAt tableBy faceRead pieceOf onWall absentOk presentOk pieceOk tableOk startPart partOf toPiece wallStepAt wallFrom sourcePiece switchStepAt switchOnto wallsJoined switchesJoined newPiece pass tableAfter partTouches touching widths faceCount ceilingOf unchanged certificateQuestions tableQuestions checkerQuestions search analysis plantC uncutC cutC tableC plantD
 cut-cases = record {
   whole-unknown = refl;
   cut-safe = refl;

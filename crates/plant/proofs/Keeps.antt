@@ -44,7 +44,7 @@ module _ (m : List ℤ) (ok : Passed m) where
   switch-step-ok e u g =
       subst (λ (d : ℕ). FaceAll (OnWall (n# m) inv d (wall inv d (sideOf (targetFace m e)))) (switchStepAt m e g)) (sym half)
       (subst (λ (x : ℕ). FaceAll (OnWall (n# m) inv (wallVariable m e) (wall inv (wallVariable m e) x)) (switchStepAt m e g)) (sym side)
-      (switch-ok (n# m) (resetMask m e) (guard m e) (reset m e) inv (wallVariable m e) (sourceWall m e) (targetWall m e) (s .variable-is) (s .guard-low) (s .guard-high) (s .single (wallVariable m e) (s .variable-is)) (s .lands) g))
+      (switch-ok (n# m) (resetMask m e) (guard m e) (reset m e) inv (wallVariable m e) (sourceWall m e) (targetWall m e) (s .variable-is) (s .guard-low) (s .guard-high) (s .single-wall) (s .lands) g))
     where
       inv : List ℤ
       inv = invariant m (target m e)

@@ -19,7 +19,7 @@ use Rattle.plant.specs.Model.{n#, E#, invariant, rate, source, target}
 use Rattle.plant.specs.Delays.{In}
 use Rattle.plant.specs.Steps.{Bound, unbounded, bound, cutLow, cutHigh, lowAfter, highAfter, boxAfter, faceAfter, StillInside, wallDelays, wallStep}
 use Rattle.plant.specs.Tables.{wordsPerLocation}
-use Rattle.plant.specs.Meaning.{AtEnd, at-earliest, at-latest, Brings, Reached, BroughtInside, TightLow, TightHigh, WallBox, WallMeans, Single, SwitchMeans, Meaning}
+use Rattle.plant.specs.Meaning.{AtEnd, at-earliest, at-latest, Brings, Reached, BroughtInside, TightLow, TightHigh, WallBox, WallMeans, SwitchMeans, Meaning}
 use Rattle.plant.proofs.DelaysExact.{delays-exact}
 use Rattle.plant.proofs.Touching.{touches-exact}
 use Rattle.plant.proofs.WallDelays.{wall-delays-exact}
@@ -29,6 +29,7 @@ use Rattle.plant.proofs.WallStep.{above-low, below-high, in-delays, ins
 use Rattle.plant.proofs.Tight.{lowBefore, highBefore, AttainedLow, AttainedHigh, to-wall, low-attained, high-attained}
 use Rattle.plant.proofs.Smallest.{brought-inside, wall-smallest}
 use Rattle.plant.proofs.SwitchStep.{switch-holds, switch-mono}
+use Rattle.plant.proofs.Editions.{single-values, at-target-wall}
 use Rattle.plant.proofs.SwitchExact.{switch-from, switch-ordered}
 use Rattle.plant.proofs.StartPart.{start-ordered, start-holds, start-only}
 use Rattle.plant.proofs.Pieces.{extent-mono, extent-holds, extent-only, extent-ordered, covered}
@@ -156,10 +157,10 @@ module _ (m : List ℤ) (l : ℕ) (part : List ℤ) (d : ℕ) (b : ℤ) (rates :
 
 -- ---- the switch step
 
-switch-means : (m : List ℤ) (e : ℕ) → e < E# m → Single m e → SwitchMeans m e
-switch-means m e l single = record {
+switch-means : (m : List ℤ) (e : ℕ) → e < E# m → SwitchMeans m e
+switch-means m e l = record {
   exact = λ D positive g y. (
-    switch-from m e l single D g y,
+    switch-from m e l D g y,
     λ s. switch-holds m D (record { location = source m e; levels = s .before }) e (record { location = target m e; levels = y }) g positive (s .is-switch) (s .in-invariant) (s .from-face),
   );
   not-empty = λ g box e′. subst (FaceAll (Ordered (n# m))) e′ (switch-ordered m e g);
@@ -177,6 +178,8 @@ meaning = record {
   wall-delays = λ n inv rate part d b D t invs rates parts ld k. wall-delays-exact n inv rate part d b ld invs rates parts D t k;
   wall-step = wall-means;
   switch-step = switch-means;
+  edition-1 = single-values;
+  at-target-wall = at-target-wall;
   wall-grows = λ n inv rate rate′ part part′ d b ld parts rates larger wider. wall-mono n inv rate rate′ part part′ d b larger wider ld parts rates;
   switch-grows = switch-mono;
   start-part = λ m l D x u count positive. (

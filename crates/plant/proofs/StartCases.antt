@@ -11,7 +11,7 @@ use Rattle.plant.specs.declared.Answer.the-variants.{Safe, Unknown}
 use Rattle.plant.specs.Ask.{_then_, first}
 use Rattle.plant.specs.Box.{absent, present, low, high, boxBy, boxAt, ordered, cut, hull, unlessEmpty, faceWords, join, joins}
 use Rattle.plant.specs.Model.{locationAt, invariant, rate, startFlag, startBox, switchAt, source, target, wallVariable, sourceSide, targetSide, resetMask, masked, guard, reset, forbiddenAt, forbiddenLocation, forbiddenBox, cutAt, cutVariable, cutValue, cutFrom, cutOf, modelSize, wall, faceWall}
-use Rattle.plant.specs.Questions.{boxOk, insideOk, zerosOk, startOk, locationQuestions, placesOk, boxesOk, singleOk, sourceWall, targetWall, guardOk, levelAfter, landsOk, switchQuestions, forbiddenQuestion, strictlyInside, cutOk, cutQuestion, rangesQuestions, recordsQuestions, modelQuestions}
+use Rattle.plant.specs.Questions.{boxOk, insideOk, zerosOk, startOk, locationQuestions, placesOk, boxesOk, singleAt, singleOk, sourceWall, targetWall, guardOk, levelAfter, landsOk, switchQuestions, forbiddenQuestion, strictlyInside, cutOk, cutQuestion, rangesQuestions, editionQuestion, recordsQuestions, modelQuestions}
 use Rattle.plant.specs.Delays.{delaysInto, bothDelays, hasDelay, orNever}
 use Rattle.plant.specs.Steps.{delaysIntoBox, touches, lowAt, highAt, lowAfter, highAfter, boxAfter, wallDelays, wallStep, setMasked, guarded, landed, switchStep}
 use Rattle.plant.specs.Pieces.{extentBy, keepsTo, boxUpTo, boxFrom, cutToExtent, piecesPerFace, perFace, pieces, pieceNumber, pieceFace, pieceIndex, pieceVariable, pieceWall, pieceExtent, pieceRange}
@@ -23,7 +23,7 @@ use Rattle.plant.specs.Cases.{box₂}
 -- plant P with this rate of y, start flag, start box, forbidden box and cut
 unfoldable pub plantQ : (rate : List ℤ) (flag : ℤ) (start box cut : List ℤ) → List ℤ
 plantQ rate flag start box cut =
-    (pos 2 ∷ pos 1 ∷ pos 0 ∷ pos 1 ∷ pos 0 ∷ pos 10 ∷ pos 0 ∷ pos 10 ∷ pos 1 ∷ pos 1 ∷ [])
+    (pos 2 ∷ pos 1 ∷ pos 0 ∷ pos 1 ∷ pos 1 ∷ pos 0 ∷ pos 10 ∷ pos 0 ∷ pos 10 ∷ pos 1 ∷ pos 1 ∷ [])
     ++ rate ++ (flag ∷ start) ++ (pos 0 ∷ box) ++ cut
 
 -- with P's rate and forbidden box, not cut; the same started at x 0 and this y
@@ -47,7 +47,7 @@ overhangTable a b c = (pos 1 ∷ box₂ 0 0 5 a) ++ (pos 1 ∷ box₂ 10 10 0 b)
 -- two locations of one variable, 0..10 without a start and 20..30 with this one
 unfoldable pub two : (lo hi : ℕ) → List ℤ
 two lo hi =
-    pos 1 ∷ pos 2 ∷ pos 0 ∷ pos 0
+    pos 1 ∷ pos 2 ∷ pos 0 ∷ pos 0 ∷ pos 1
     ∷ pos 0 ∷ pos 10 ∷ pos 1 ∷ pos 1 ∷ pos 0 ∷ pos 0 ∷ pos 0
     ∷ pos 20 ∷ pos 30 ∷ pos 1 ∷ pos 1 ∷ pos 1 ∷ pos lo ∷ pos hi
     ∷ negsuc 0 ∷ pos 0 ∷ negsuc 0 ∷ pos 0 ∷ []
@@ -116,7 +116,7 @@ pub record StartCases : Type 0 where
   pub cut-part : startPart cutQ 0 ≡ present (box₂ 0 0 2 10)
 
 pub start-cases : StartCases
-unfolding floorZ ceilZ maxZ minZ equal cat allBelow anyBelow sumBelow _then_ first low high boxBy boxAt ordered cut hull unlessEmpty faceWords join joins locationAt invariant rate startFlag startBox switchAt source target wallVariable sourceSide targetSide resetMask masked guard reset forbiddenAt forbiddenLocation forbiddenBox cutAt cutVariable cutValue cutFrom cutOf modelSize wall faceWall boxOk insideOk zerosOk startOk locationQuestions placesOk boxesOk singleOk sourceWall targetWall guardOk levelAfter landsOk switchQuestions forbiddenQuestion strictlyInside cutOk cutQuestion rangesQuestions recordsQuestions modelQuestions delaysInto bothDelays hasDelay orNever delaysIntoBox touches lowAt highAt lowAfter highAfter boxAfter wallDelays wallStep setMasked guarded landed switchStep extentBy keepsTo boxUpTo boxFrom cutToExtent piecesPerFace perFace pieces pieceNumber pieceFace pieceIndex pieceVariable pieceWall pieceExtent pieceRange piecesBefore pieceCount tableSize pieceAt tableBy faceRead pieceOf onWall absentOk presentOk pieceOk tableOk startPart partOf toPiece wallStepAt wallFrom sourcePiece switchStepAt switchOnto wallsJoined switchesJoined newPiece pass tableAfter partTouches touching widths faceCount ceilingOf unchanged certificateQuestions tableQuestions checkerQuestions search analysis before.startOk before.locationQuestions before.modelQuestions before.startPart before.partOf before.wallFrom before.switchesJoined before.pass before.tableAfter before.touching before.search before.analysis plantQ startingP startingY falling overhang overhangTable two cutQ
+unfolding floorZ ceilZ maxZ minZ equal cat allBelow anyBelow sumBelow _then_ first low high boxBy boxAt ordered cut hull unlessEmpty faceWords join joins locationAt invariant rate startFlag startBox switchAt source target wallVariable sourceSide targetSide resetMask masked guard reset forbiddenAt forbiddenLocation forbiddenBox cutAt cutVariable cutValue cutFrom cutOf modelSize wall faceWall boxOk insideOk zerosOk startOk locationQuestions placesOk boxesOk singleAt singleOk sourceWall targetWall guardOk levelAfter landsOk switchQuestions forbiddenQuestion strictlyInside cutOk cutQuestion rangesQuestions editionQuestion recordsQuestions modelQuestions delaysInto bothDelays hasDelay orNever delaysIntoBox touches lowAt highAt lowAfter highAfter boxAfter wallDelays wallStep setMasked guarded landed switchStep extentBy keepsTo boxUpTo boxFrom cutToExtent piecesPerFace perFace pieces pieceNumber pieceFace pieceIndex pieceVariable pieceWall pieceExtent pieceRange piecesBefore pieceCount tableSize pieceAt tableBy faceRead pieceOf onWall absentOk presentOk pieceOk tableOk startPart partOf toPiece wallStepAt wallFrom sourcePiece switchStepAt switchOnto wallsJoined switchesJoined newPiece pass tableAfter partTouches touching widths faceCount ceilingOf unchanged certificateQuestions tableQuestions checkerQuestions search analysis before.startOk before.locationQuestions before.modelQuestions before.startPart before.partOf before.wallFrom before.switchesJoined before.pass before.tableAfter before.touching before.search before.analysis plantQ startingP startingY falling overhang overhangTable two cutQ
 start-cases = record {
   crossing = refl;
   crossing-part = refl;

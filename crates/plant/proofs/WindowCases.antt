@@ -14,7 +14,7 @@ use Rattle.plant.specs.declared.Answer.the-variants.{Safe}
 use Rattle.plant.specs.Ask.{_then_, first}
 use Rattle.plant.specs.Box.{absent, present, low, high, boxBy, boxAt, ordered, cut, hull, unlessEmpty, faceWords, join, joins}
 use Rattle.plant.specs.Model.{locationAt, invariant, rate, startFlag, startBox, switchAt, source, target, wallVariable, sourceSide, targetSide, resetMask, masked, guard, reset, forbiddenAt, forbiddenLocation, forbiddenBox, cutAt, cutVariable, cutValue, cutFrom, cutOf, modelSize, wall, faceWall}
-use Rattle.plant.specs.Questions.{boxOk, insideOk, zerosOk, startOk, locationQuestions, placesOk, boxesOk, singleOk, sourceWall, targetWall, guardOk, levelAfter, landsOk, switchQuestions, forbiddenQuestion, strictlyInside, cutOk, cutQuestion, rangesQuestions, recordsQuestions, modelQuestions}
+use Rattle.plant.specs.Questions.{boxOk, insideOk, zerosOk, startOk, locationQuestions, placesOk, boxesOk, singleAt, singleOk, sourceWall, targetWall, guardOk, levelAfter, landsOk, switchQuestions, forbiddenQuestion, strictlyInside, cutOk, cutQuestion, rangesQuestions, editionQuestion, recordsQuestions, modelQuestions}
 use Rattle.plant.specs.Delays.{delaysInto, bothDelays, hasDelay, orNever}
 use Rattle.plant.specs.Steps.{delaysIntoBox, touches, lowAt, highAt, lowAfter, highAfter, boxAfter, wallDelays, wallStep, setMasked, guarded, landed, switchStep}
 use Rattle.plant.specs.Pieces.{extentBy, keepsTo, boxUpTo, boxFrom, cutToExtent, piecesPerFace, perFace, pieces, pieceNumber, pieceFace, pieceIndex, pieceVariable, pieceWall, pieceExtent, pieceRange}
@@ -38,7 +38,7 @@ rates = box₂ 0 1 1 1 ++ down
 -- a pump draws x up at 1..2 while a vat y fills at 1 to its rim 6 and a store z falls at 1 from 10; a store of 0..3 is forbidden
 unfoldable pub pump : List ℤ
 pump =
-    (pos 3 ∷ pos 1 ∷ pos 0 ∷ pos 1 ∷ box₃ 0 10 0 6 0 10) ++ (box₂ 1 2 1 1 ++ down)
+    (pos 3 ∷ pos 1 ∷ pos 0 ∷ pos 1 ∷ pos 1 ∷ box₃ 0 10 0 6 0 10) ++ (box₂ 1 2 1 1 ++ down)
     ++ (pos 1 ∷ box₃ 0 0 0 0 10 10) ++ (pos 0 ∷ box₃ 0 10 0 6 0 3) ++ (negsuc 0 ∷ pos 0 ∷ [])
 
 -- its table, with the low of z on faces 1 and 3, the walls x 10 and y 6
@@ -50,7 +50,7 @@ tableOfPump z =
 -- three variables in 0..2, 0..2 and 0..1, all at rate 2, from x 0, y 0..2, z 1, cut at y 1
 unfoldable pub plantS : List ℤ
 plantS =
-    (pos 3 ∷ pos 1 ∷ pos 0 ∷ pos 0 ∷ box₃ 0 2 0 2 0 1) ++ box₃ 2 2 2 2 2 2 ++ (pos 1 ∷ box₃ 0 0 0 2 1 1) ++ (pos 1 ∷ pos 1 ∷ [])
+    (pos 3 ∷ pos 1 ∷ pos 0 ∷ pos 0 ∷ pos 1 ∷ box₃ 0 2 0 2 0 1) ++ box₃ 2 2 2 2 2 2 ++ (pos 1 ∷ box₃ 0 0 0 2 1 1) ++ (pos 1 ∷ pos 1 ∷ [])
 
 pub record WindowCases : Type 0 where
   -- invariants 0..10, part x 0, y 5, z 10, wall x = 0: y is at 10 after 5, so z is 5..10, where it was 0..10
@@ -103,7 +103,7 @@ pub record WindowCases : Type 0 where
   pub cut-before : take 7 (drop 42 (before.tableAfter plantS 1)) ≡ pos 1 ∷ box₃ 0 2 2 2 1 1
 
 pub window-cases : WindowCases
-unfolding floorZ ceilZ maxZ minZ equal cat allBelow anyBelow sumBelow _then_ first low high boxBy boxAt ordered cut hull unlessEmpty faceWords join joins locationAt invariant rate startFlag startBox switchAt source target wallVariable sourceSide targetSide resetMask masked guard reset forbiddenAt forbiddenLocation forbiddenBox cutAt cutVariable cutValue cutFrom cutOf modelSize wall faceWall boxOk insideOk zerosOk startOk locationQuestions placesOk boxesOk singleOk sourceWall targetWall guardOk levelAfter landsOk switchQuestions forbiddenQuestion strictlyInside cutOk cutQuestion rangesQuestions recordsQuestions modelQuestions delaysInto bothDelays hasDelay orNever delaysIntoBox touches lowAt highAt lowAfter highAfter boxAfter wallDelays wallStep setMasked guarded landed switchStep extentBy keepsTo boxUpTo boxFrom cutToExtent piecesPerFace perFace pieces pieceNumber pieceFace pieceIndex pieceVariable pieceWall pieceExtent pieceRange piecesBefore pieceCount tableSize pieceAt tableBy faceRead pieceOf onWall absentOk presentOk pieceOk tableOk startPart partOf toPiece wallStepAt wallFrom sourcePiece switchStepAt switchOnto wallsJoined switchesJoined newPiece pass tableAfter partTouches touching widths faceCount ceilingOf unchanged certificateQuestions tableQuestions checkerQuestions search analysis before.wallDelays before.wallStep before.wallFrom before.switchesJoined before.pass before.tableAfter before.checkerQuestions P plantP tableP widerTable cutC plantC tableC plantD pump tableOfPump plantS
+unfolding floorZ ceilZ maxZ minZ equal cat allBelow anyBelow sumBelow _then_ first low high boxBy boxAt ordered cut hull unlessEmpty faceWords join joins locationAt invariant rate startFlag startBox switchAt source target wallVariable sourceSide targetSide resetMask masked guard reset forbiddenAt forbiddenLocation forbiddenBox cutAt cutVariable cutValue cutFrom cutOf modelSize wall faceWall boxOk insideOk zerosOk startOk locationQuestions placesOk boxesOk singleAt singleOk sourceWall targetWall guardOk levelAfter landsOk switchQuestions forbiddenQuestion strictlyInside cutOk cutQuestion rangesQuestions editionQuestion recordsQuestions modelQuestions delaysInto bothDelays hasDelay orNever delaysIntoBox touches lowAt highAt lowAfter highAfter boxAfter wallDelays wallStep setMasked guarded landed switchStep extentBy keepsTo boxUpTo boxFrom cutToExtent piecesPerFace perFace pieces pieceNumber pieceFace pieceIndex pieceVariable pieceWall pieceExtent pieceRange piecesBefore pieceCount tableSize pieceAt tableBy faceRead pieceOf onWall absentOk presentOk pieceOk tableOk startPart partOf toPiece wallStepAt wallFrom sourcePiece switchStepAt switchOnto wallsJoined switchesJoined newPiece pass tableAfter partTouches touching widths faceCount ceilingOf unchanged certificateQuestions tableQuestions checkerQuestions search analysis before.wallDelays before.wallStep before.wallFrom before.switchesJoined before.pass before.tableAfter before.checkerQuestions P plantP tableP widerTable cutC plantC tableC plantD pump tableOfPump plantS
 window-cases = record {
   document-delays = refl;
   document-step = refl;

@@ -18,12 +18,13 @@ use Rattle.plant.specs.declared.End.the-variants.{At}
 use Rattle.plant.specs.declared.Interval.{Interval}
 use Rattle.plant.specs.declared.Delays.the-variants.{Between}
 use Rattle.plant.specs.Box.{low, high, Ordered, Inside, Face, absent, present, FaceIn}
-use Rattle.plant.specs.Model.{n#, E#, invariant, rate, source, target, resetMask, masked, guard, reset, L#, Cut, uncut, cutBy, cutOf, faceNumber, variableOf}
+use Rattle.plant.specs.Model.{n#, L#, E#, edition, invariant, rate, source, target, wallVariable, resetMask, masked, guard, reset, Cut, uncut, cutBy, cutOf, faceNumber, variableOf}
+use Rattle.plant.specs.Questions.{targetWall, modelQuestions}
 use Rattle.plant.specs.Delays.{delaysInto, In, Reaches}
 use Rattle.plant.specs.Steps.{touches, Touch, Bound, unbounded, bound, cutLow, cutHigh, StillInside, wallDelays, WallDelay, wallStep, switchStep}
 use Rattle.plant.specs.Pieces.{Extent, wholeFace, upToValue, fromValue, noExtent, extentBy, cutToExtent, piecesPerFace, perFace, pieceNumber}
 use Rattle.plant.specs.Tables.{wordsPerLocation, tableSize, longestTableFile, tableBy, pieceOf, tableOk, startPart, widths, ceilingOf}
-use Rattle.plant.specs.Runs.{InBox, IsDelay, IsSwitch, IsInitial}
+use Rattle.plant.specs.Runs.{Configuration, InBox, IsDelay, IsSwitch, IsInitial}
 
 -- the face is there, and the levels x over D lie in its box
 abbrev pub Holds : (n D : ℕ) (x : List ℤ) → Face → Type 0
@@ -127,10 +128,6 @@ module _ (m : List ℤ) (l : ℕ) (part : List ℤ) (d : ℕ) (b : ℤ) where
 -- ---- switch step of switch e
 
 module _ (m : List ℤ) (e : ℕ) where
-  -- masked reset ranges are single, as question 16 asks
-  abbrev pub Single : Type 0
-  Single = (i : ℕ) → i < n# m → masked (resetMask m e) i ≡ true → low (reset m e) i ≡ high (reset m e) i
-
   -- from levels over D of the face g, switch e of a run leaves the levels y, in the target's invariant
   pub record Switched (D : ℕ) (g : Face) (y : List ℤ) : Type 0 where
     pub before : List ℤ
@@ -148,6 +145,13 @@ module _ (m : List ℤ) (e : ℕ) where
     pub exact : (D : ℕ) → 0 < D → (g : Face) (y : List ℤ) → Holds (n# m) D y (switchFrom g) ↔ Switched D g y
     -- an empty cut lands nothing
     pub not-empty : (g : Face) (box : List ℤ) → switchFrom g ≡ present box → Ordered (n# m) box
+
+  -- the single-value case: the reset range of each masked variable is one value, and after the switch the variable has it
+  pub record SingleValues : Type 0 where
+    pub ranges : (i : ℕ) → i < n# m → masked (resetMask m e) i ≡ true → low (reset m e) i ≡ high (reset m e) i
+    pub values :
+        (D : ℕ) (c c′ : Configuration) → IsSwitch m D c e c′
+        → (i : ℕ) → i < n# m → masked (resetMask m e) i ≡ true → word (c′ .levels) i ≡ low (reset m e) i *ℤ pos D
 
 -- ---- the pieces of a face
 
@@ -203,8 +207,14 @@ pub record Meaning : Type 0 where
   pub wall-step :
       (m : List ℤ) (l : ℕ) (part : List ℤ) (d : ℕ) (b : ℤ) → Ordered (n# m) (rate m l) → Ordered (n# m) part → d < n# m
       → WallMeans m l part d b
-  -- the switch step is exact, both ways
-  pub switch-step : (m : List ℤ) (e : ℕ) → e < E# m → Single m e → SwitchMeans m e
+  -- the switch step is exact, both ways, resets to a range too
+  pub switch-step : (m : List ℤ) (e : ℕ) → e < E# m → SwitchMeans m e
+  -- a model of edition 1 is the single-value case (document 02, T-10); and in both editions a switch leaves d at the target wall (by 16
+  -- to 18)
+  pub edition-1 : (m : List ℤ) → modelQuestions m ≡ 0 → edition m ≡ pos 1 → (e : ℕ) → e < E# m → SingleValues m e
+  pub at-target-wall :
+      (m : List ℤ) → modelQuestions m ≡ 0 → (D : ℕ) (c : Configuration) (e : ℕ) (c′ : Configuration) → IsSwitch m D c e c′
+      → word (c′ .levels) (wallVariable m e) ≡ targetWall m e *ℤ pos D
   -- steps grow: the wall step with part and rate, the switch step with face, guard and reset box
   pub wall-grows :
       (n : ℕ) (inv rate rate′ part part′ : List ℤ) (d : ℕ) (b : ℤ) → d < n

@@ -27,15 +27,15 @@ pub forbiddens-small : (n b : ℕ) → b ≤ 64 → n ≤ 6 → b * forbiddenSiz
 forbiddens-small n b h k = let f : 1 + 2 * n ≤ 13 = omega arith in let g : b * (1 + 2 * n) ≤ 64 * 13 = mul-le-mul h f in omega arith
 
 module _ (m : List ℤ) (h : Head m) where
-  pub location-small : (l : ℕ) → l ≤ 64 → locationAt m l ≤ 2372
+  pub location-small : (l : ℕ) → l ≤ 64 → locationAt m l ≤ 2373
   unfolding locationAt
   location-small l k = omega (arith, locations-small (n# m) l k (h .n-small))
 
-  pub switch-small : (e : ℕ) → e ≤ 128 → switchAt m e ≤ 6212
+  pub switch-small : (e : ℕ) → e ≤ 128 → switchAt m e ≤ 6213
   unfolding switchAt
   switch-small e k = omega (arith, location-small (L# m) (h .L-small), switches-small (n# m) e k (h .n-small))
 
-  pub forbidden-small : (b : ℕ) → b ≤ 64 → forbiddenAt m b ≤ 7044
+  pub forbidden-small : (b : ℕ) → b ≤ 64 → forbiddenAt m b ≤ 7045
   unfolding forbiddenAt
   forbidden-small b k = omega (arith, switch-small (E# m) (h .E-small), forbiddens-small (n# m) b k (h .n-small))
 

@@ -9,10 +9,10 @@ use lib.ListN.{length}
 use Rattle.integers.specs.Words.{word}
 use Rattle.plant.specs.Model.{n#, L#, E#, B#, headSize, switchAt, source, target, wallVariable, sourceSide, targetSide, modelSize}
 
--- n, L, E and B are there and allowed
+-- the head is there, and n, L, E and B are allowed (of the edition nothing is asked)
 pub record Head (m : List ℤ) : Type 0 where
   pub there : headSize ≤ length m
-  pub not-negative : (j : ℕ) → j < headSize → T (nonNeg (word m j))
+  pub not-negative : (j : ℕ) → j < 4 → T (nonNeg (word m j))
   pub n-positive : 1 ≤ n# m
   pub n-small : n# m ≤ 6
   pub L-positive : 1 ≤ L# m

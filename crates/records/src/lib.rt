@@ -1,5 +1,6 @@
-// Reading a model's words: its numbers of variables, locations, switches and forbidden boxes, where the records stand, and what they
-// hold. These functions serve the crates above and are no calls of outsiders: what they are lent has passed its questions so far.
+// Reading a model's words: its numbers of variables, locations, switches and forbidden boxes, its edition, where the records stand, and
+// what they hold. These functions serve the crates above and are no calls of outsiders: what they are lent has passed its questions so
+// far.
 ghost use mathlib.Core.Path.{_≡_};
 ghost use Prim.Native.Nat.{_+_, _*_, _≤_, _<_};
 ghost use lib.Dec.{T};
@@ -11,7 +12,7 @@ ghost use Rattle.plant.specs.Model as M;
 ghost use Rattle.plant.specs.Questions as Q;
 ghost use Rattle.records.specs.Whole.{Head, Whole, Numbered, Placed};
 
-// ---- how many variables, locations, switches and forbidden boxes the model has
+// ---- the head: how many variables, locations, switches and forbidden boxes the model has, and its edition
 
 pub fn variables(model: &[i32]) -> usize
     requires { ⌜ Head (now model) ⌝ }
@@ -41,9 +42,17 @@ pub fn forbidden_boxes(model: &[i32]) -> usize
     integers::number(model, 3)
 }
 
+// 1 or 2 in a model that passes its questions (document 02, T-10).
+pub fn edition(model: &[i32]) -> i32
+    requires { ⌜ Head (now model) ⌝ }
+    ensures { λ r. ⌜ r ≡ M.edition (now (model .entry)) ⌝ }
+{
+    model[4]
+}
+
 // ---- how many words the head has, and each record of n variables
 
-pub const HEAD_SIZE: usize = 4;
+pub const HEAD_SIZE: usize = 5;
 
 pub fn location_size(n: usize) -> usize
     requires { ⌜ n ≤ 6 ⌝ }
@@ -70,7 +79,7 @@ pub fn forbidden_size(n: usize) -> usize
 pub const CUT_SIZE: usize = 2;
 
 // The words of the largest model: 6 variables, 64 locations, 128 switches, 64 forbidden boxes.
-pub const MOST_WORDS: usize = 7172;
+pub const MOST_WORDS: usize = 7173;
 
 // Words enough for small models: those that a call on files holds at first.
 pub const FEW_WORDS: usize = 512;

@@ -192,7 +192,7 @@ pub fn box_after(
     true
 }
 
-// What a switch leaves of a level: the reset's if the variable is masked.
+// What a switch leaves of an end of a range: the reset range's if the variable is masked.
 fn after_reset(masked: bool, reset: i64, before: i64) -> i64
     ensures { λ r. ⌜ r ≡ cond masked reset before ⌝ }
 {

@@ -12,7 +12,7 @@ use Rattle.plant.specs.declared.Count.the-variants.{Done, Refused}
 use Rattle.plant.specs.Ask.{_then_, first}
 use Rattle.plant.specs.Box.{low, high, boxBy, boxAt, ordered, faceWords}
 use Rattle.plant.specs.Model.{locationAt, invariant, rate, startFlag, startBox, switchAt, source, target, wallVariable, sourceSide, targetSide, resetMask, masked, guard, reset, forbiddenAt, forbiddenLocation, forbiddenBox, cutAt, cutVariable, cutValue, cutFrom, cutOf, modelSize, wall, faceWall}
-use Rattle.plant.specs.Questions.{boxOk, insideOk, zerosOk, startOk, locationQuestions, placesOk, boxesOk, singleOk, sourceWall, targetWall, guardOk, levelAfter, landsOk, switchQuestions, forbiddenQuestion, strictlyInside, cutOk, cutQuestion, rangesQuestions, recordsQuestions, modelQuestions}
+use Rattle.plant.specs.Questions.{boxOk, insideOk, zerosOk, startOk, locationQuestions, placesOk, boxesOk, singleAt, singleOk, sourceWall, targetWall, guardOk, levelAfter, landsOk, switchQuestions, forbiddenQuestion, strictlyInside, cutOk, cutQuestion, rangesQuestions, editionQuestion, recordsQuestions, modelQuestions}
 use Rattle.plant.specs.Pieces.{extentBy, keepsTo, piecesPerFace, perFace, anyCut, pieces, pieceNumber, pieceFace, pieceIndex, pieceVariable, pieceWall, pieceExtent}
 use Rattle.plant.specs.Tables.{piecesBefore, pieceCount, tableSize, longestTableFile, pieceAt, tableBy, faceRead, pieceOf, onWall, absentOk, presentOk, pieceOk, tableOk}
 use Rattle.plant.specs.Calls.{unlessRefused}
@@ -29,7 +29,7 @@ record Table : Type 0 where
   writes : writeTableCall P (tableP 2) (replicate 115 9) .count ≡ Done 61
 
 table : Table
-unfolding onto cat allBelow anyBelow sumBelow bitsAt wordAt wordsAt wordBytes wordsBytes fieldAt field _then_ first low high boxBy boxAt ordered faceWords locationAt invariant rate startFlag startBox switchAt source target wallVariable sourceSide targetSide resetMask masked guard reset forbiddenAt forbiddenLocation forbiddenBox cutAt cutVariable cutValue cutFrom cutOf modelSize wall faceWall boxOk insideOk zerosOk startOk locationQuestions placesOk boxesOk singleOk sourceWall targetWall guardOk levelAfter landsOk switchQuestions forbiddenQuestion strictlyInside cutOk cutQuestion rangesQuestions recordsQuestions modelQuestions extentBy keepsTo piecesPerFace perFace anyCut pieces pieceNumber pieceFace pieceIndex pieceVariable pieceWall pieceExtent piecesBefore pieceCount tableSize longestTableFile pieceAt tableBy faceRead pieceOf onWall absentOk presentOk pieceOk tableOk placeSize placeWords presentPieces locationFields pieceFields tableFile countWord countQuestion pieceFieldWords pieceWord pieceNamed placeOk pieceQuestion fileFace fileTable fieldsQuestions tableFileQuestions roomQuestions readTableCall writeQuestions writeTableCall unlessRefused plantP P tableP
+unfolding onto cat allBelow anyBelow sumBelow bitsAt wordAt wordsAt wordBytes wordsBytes fieldAt field _then_ first low high boxBy boxAt ordered faceWords locationAt invariant rate startFlag startBox switchAt source target wallVariable sourceSide targetSide resetMask masked guard reset forbiddenAt forbiddenLocation forbiddenBox cutAt cutVariable cutValue cutFrom cutOf modelSize wall faceWall boxOk insideOk zerosOk startOk locationQuestions placesOk boxesOk singleAt singleOk sourceWall targetWall guardOk levelAfter landsOk switchQuestions forbiddenQuestion strictlyInside cutOk cutQuestion rangesQuestions editionQuestion recordsQuestions modelQuestions extentBy keepsTo piecesPerFace perFace anyCut pieces pieceNumber pieceFace pieceIndex pieceVariable pieceWall pieceExtent piecesBefore pieceCount tableSize longestTableFile pieceAt tableBy faceRead pieceOf onWall absentOk presentOk pieceOk tableOk placeSize placeWords presentPieces locationFields pieceFields tableFile countWord countQuestion pieceFieldWords pieceWord pieceNamed placeOk pieceQuestion fileFace fileTable fieldsQuestions tableFileQuestions roomQuestions readTableCall writeQuestions writeTableCall unlessRefused plantP P tableP
 table = record {
   file-length = refl;
   reads = refl;
@@ -80,7 +80,7 @@ record CutTable : Type 0 where
   own-wall : Refuses 32 (one (pos 0 ∷ pos 2 ∷ pos 1 ∷ box₂ 0 0 0 0))
 
 cut-table : CutTable
-unfolding onto cat allBelow anyBelow sumBelow bitsAt wordAt wordsAt wordBytes wordsBytes fieldAt field _then_ first low high boxBy boxAt ordered faceWords locationAt invariant rate startFlag startBox switchAt source target wallVariable sourceSide targetSide resetMask masked guard reset forbiddenAt forbiddenLocation forbiddenBox cutAt cutVariable cutValue cutFrom cutOf modelSize wall faceWall boxOk insideOk zerosOk startOk locationQuestions placesOk boxesOk singleOk sourceWall targetWall guardOk levelAfter landsOk switchQuestions forbiddenQuestion strictlyInside cutOk cutQuestion rangesQuestions recordsQuestions modelQuestions extentBy keepsTo piecesPerFace perFace anyCut pieces pieceNumber pieceFace pieceIndex pieceVariable pieceWall pieceExtent piecesBefore pieceCount tableSize longestTableFile pieceAt tableBy faceRead pieceOf onWall absentOk presentOk pieceOk tableOk placeSize placeWords presentPieces locationFields pieceFields tableFile countWord countQuestion pieceFieldWords pieceWord pieceNamed placeOk pieceQuestion fileFace fileTable fieldsQuestions tableFileQuestions roomQuestions readTableCall writeQuestions writeTableCall unlessRefused plantD D tableD
+unfolding onto cat allBelow anyBelow sumBelow bitsAt wordAt wordsAt wordBytes wordsBytes fieldAt field _then_ first low high boxBy boxAt ordered faceWords locationAt invariant rate startFlag startBox switchAt source target wallVariable sourceSide targetSide resetMask masked guard reset forbiddenAt forbiddenLocation forbiddenBox cutAt cutVariable cutValue cutFrom cutOf modelSize wall faceWall boxOk insideOk zerosOk startOk locationQuestions placesOk boxesOk singleAt singleOk sourceWall targetWall guardOk levelAfter landsOk switchQuestions forbiddenQuestion strictlyInside cutOk cutQuestion rangesQuestions editionQuestion recordsQuestions modelQuestions extentBy keepsTo piecesPerFace perFace anyCut pieces pieceNumber pieceFace pieceIndex pieceVariable pieceWall pieceExtent piecesBefore pieceCount tableSize longestTableFile pieceAt tableBy faceRead pieceOf onWall absentOk presentOk pieceOk tableOk placeSize placeWords presentPieces locationFields pieceFields tableFile countWord countQuestion pieceFieldWords pieceWord pieceNamed placeOk pieceQuestion fileFace fileTable fieldsQuestions tableFileQuestions roomQuestions readTableCall writeQuestions writeTableCall unlessRefused plantD D tableD
 cut-table = record {
   file-length = refl;
   second-piece = refl;

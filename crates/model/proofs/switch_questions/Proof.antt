@@ -27,7 +27,7 @@ ask-requires : tie.Need-ask-requires
 ask-requires c κs = search needs
 
 single-ok-requires : tie.Need-single-ok-requires
-single-ok-requires c κs = at-places (c .before .before) .numbered
+single-ok-requires c κs = at-places (c .before .before)
 
 ask-requires-2 : tie.Need-ask-requires-2
 ask-requires-2 c κs = search needs

@@ -3,7 +3,8 @@ use mathlib.Core.Path.{ap, _∙_}
 use native.Mathlib.Omega.{arith}
 use lib.ListN.{length}
 use borrow.Author.Needs.{needs}
-use Rattle.model_files.proofs.ModelReading.{body-passed, cuts-ready, all-filled, length-head}
+use Rattle.model_files.proofs.FirstField.{length-head}
+use Rattle.model_files.proofs.ModelReading.{body-passed, cuts-ready, all-filled}
 use Rattle.model_files.proofs.fill.Statement.{statement}
 use Rattle.model_files.proofs.fill.Tie as tie
 

@@ -1,9 +1,13 @@
--- The words of the first field are filled in, then those of the three runs, each behind the one before.
-use mathlib.Core.Path.{ap, _∙_}
+-- The head words are filled in, then those of the three runs, each behind the one before.
+use mathlib.Core.Path.{sym, ap, _∙_}
+use mathlib.Core.List.{List}
 use native.Mathlib.Omega.{arith}
+use lib.IntN.{ℤ}
 use lib.ListN.{length}
+use Rattle.integers.specs.Words.{onto}
 use Rattle.records.proofs.Positions.{head-first}
-use Rattle.model_files.proofs.ModelReading.{body-passed, head-ready, locations-ready, switches-ready, forbiddens-ready, locations-at, filled, length-head, head-filled}
+use Rattle.model_files.proofs.FirstField.{length-head}
+use Rattle.model_files.proofs.ModelReading.{body-passed, locations-ready, switches-ready, forbiddens-ready, locations-at, filled}
 use borrow.Author.Needs.{needs}
 use Rattle.model_files.proofs.fill_records.Statement.{statement}
 use Rattle.model_files.proofs.fill_records.Tie as tie
@@ -11,10 +15,10 @@ use Rattle.model_files.proofs.fill_records.Tie as tie
 variables-requires : tie.Need-variables-requires
 variables-requires c κs = search needs
 
-copy-run-requires : tie.Need-copy-run-requires
-copy-run-requires c κs =
+read-head-requires : tie.Need-read-head-requires
+read-head-requires c κs =
     let p = c .before .before .before .pre .0 in
-    head-ready _ _ (p .first-field) (omega (arith, p .room, head-first (c .before .before .before .args .head .now)))
+    (p .first-field, omega (arith, p .room, head-first (c .before .before .before .args .head .now)))
 
 locations-from-requires : tie.Need-locations-from-requires
 locations-from-requires c κs = search needs
@@ -28,8 +32,8 @@ location-size-requires c κs = search needs
 location-at-requires : tie.Need-location-at-requires
 location-at-requires c κs = search needs
 
-copy-run-requires-2 : tie.Need-copy-run-requires-2
-copy-run-requires-2 c κs =
+copy-run-requires : tie.Need-copy-run-requires
+copy-run-requires c κs =
     let p = c .before .before .before .before .before .before .before .before .before .before .pre in
     rw (c .before .before .before .before .locations-from .ensures, c .before .before .before .locations .ensures, c .before .before .location-size .ensures, c .before .before .before .before .before .before .before .before .variables .ensures, c .location-at .ensures)
     (locations-ready _ _ (p .0 .head) (body-passed _ _ (p .1)) _ (omega (arith, p .0 .room)))
@@ -46,8 +50,8 @@ switch-size-requires c κs = search needs
 switch-at-requires : tie.Need-switch-at-requires
 switch-at-requires c κs = search needs
 
-copy-run-requires-3 : tie.Need-copy-run-requires-3
-copy-run-requires-3 c κs =
+copy-run-requires-2 : tie.Need-copy-run-requires-2
+copy-run-requires-2 c κs =
     let p = c .before .before .before .before .before .before .before .before .before .before .before .before .before .before .before .before .before .pre in
     rw (c .before .before .before .before .switches-from .ensures, c .before .before .before .switches .ensures, c .before .before .switch-size .ensures, c .before .before .before .before .before .before .before .before .before .before .before .before .before .before .before .variables .ensures, c .switch-at .ensures)
     (switches-ready _ _ (p .0 .head) (body-passed _ _ (p .1)) _ (omega (arith, p .0 .room)))
@@ -64,8 +68,8 @@ forbidden-size-requires c κs = omega (arith, c .before .before .before .before 
 forbidden-at-requires : tie.Need-forbidden-at-requires
 forbidden-at-requires c κs = (c .before .before .before .before .before .before .before .before .before .before .before .before .before .before .before .before .before .before .before .before .before .before .before .pre .0 .head, omega arith)
 
-copy-run-requires-4 : tie.Need-copy-run-requires-4
-copy-run-requires-4 c κs =
+copy-run-requires-3 : tie.Need-copy-run-requires-3
+copy-run-requires-3 c κs =
     let p = c .before .before .before .before .before .before .before .before .before .before .before .before .before .before .before .before .before .before .before .before .before .before .before .before .pre in
     rw (c .before .before .before .before .forbiddens-from .ensures, c .before .before .before .forbidden-boxes .ensures, c .before .before .forbidden-size .ensures, c .before .before .before .before .before .before .before .before .before .before .before .before .before .before .before .before .before .before .before .before .before .before .variables .ensures, c .forbidden-at .ensures)
     (forbiddens-ready _ _ (p .0 .head) (body-passed _ _ (p .1)) _ (omega (arith, p .0 .room)))
@@ -79,31 +83,31 @@ returns c =
     let p = c .before .before .before .before .before .before .before .before .before .before .before .before .before .before .before .before .before .before .before .before .before .before .before .before .before .before .pre .0 in
     let n = c .before .before .before .before .before .before .before .before .before .before .before .before .before .before .before .before .before .before .before .before .before .before .before .before .variables .ensures in
     filled (a .file .now) (a .head .now) (ap length (p .is-read) ∙ length-head (a .file .now)) (a .words .now) _ _ _ _
-    (head-filled (a .file .now) (a .head .now) (a .words .now) _ (p .is-read) (c .before .before .before .before .before .before .before .before .before .before .before .before .before .before .before .before .before .before .before .before .before .before .copy-run .ensures))
-    (rw (c .before .before .before .before .before .before .before .before .before .before .before .before .before .before .before .before .before .before .before .before .locations-from .ensures, c .before .before .before .before .before .before .before .before .before .before .before .before .before .before .before .before .before .before .before .locations .ensures, c .before .before .before .before .before .before .before .before .before .before .before .before .before .before .before .before .before .before .location-size .ensures, n, c .before .before .before .before .before .before .before .before .before .before .before .before .before .before .before .before .location-at .ensures, locations-at (a .head .now)) at (c .before .before .before .before .before .before .before .before .before .before .before .before .before .before .before .copy-run2 .ensures))
-    (rw (c .before .before .before .before .before .before .before .before .before .before .before .before .before .switches-from .ensures, c .before .before .before .before .before .before .before .before .before .before .before .before .switches .ensures, c .before .before .before .before .before .before .before .before .before .before .before .switch-size .ensures, n, c .before .before .before .before .before .before .before .before .before .switch-at .ensures) at (c .before .before .before .before .before .before .before .before .copy-run3 .ensures))
-    (rw (c .before .before .before .before .before .before .forbiddens-from .ensures, c .before .before .before .before .before .forbidden-boxes .ensures, c .before .before .before .before .forbidden-size .ensures, n, c .before .before .forbidden-at .ensures) at (c .before .copy-run4 .ensures))
+    (c .before .before .before .before .before .before .before .before .before .before .before .before .before .before .before .before .before .before .before .before .before .before .read-head .ensures ∙ ap (λ (h : List ℤ). onto h (a .words .now)) (sym (p .is-read)))
+    (rw (c .before .before .before .before .before .before .before .before .before .before .before .before .before .before .before .before .before .before .before .before .locations-from .ensures, c .before .before .before .before .before .before .before .before .before .before .before .before .before .before .before .before .before .before .before .locations .ensures, c .before .before .before .before .before .before .before .before .before .before .before .before .before .before .before .before .before .before .location-size .ensures, n, c .before .before .before .before .before .before .before .before .before .before .before .before .before .before .before .before .location-at .ensures, locations-at (a .head .now)) at (c .before .before .before .before .before .before .before .before .before .before .before .before .before .before .before .copy-run .ensures))
+    (rw (c .before .before .before .before .before .before .before .before .before .before .before .before .before .switches-from .ensures, c .before .before .before .before .before .before .before .before .before .before .before .before .switches .ensures, c .before .before .before .before .before .before .before .before .before .before .before .switch-size .ensures, n, c .before .before .before .before .before .before .before .before .before .switch-at .ensures) at (c .before .before .before .before .before .before .before .before .copy-run2 .ensures))
+    (rw (c .before .before .before .before .before .before .forbiddens-from .ensures, c .before .before .before .before .before .forbidden-boxes .ensures, c .before .before .before .before .forbidden-size .ensures, n, c .before .before .forbidden-at .ensures) at (c .before .copy-run3 .ensures))
 
 pub fill-records-spec : {M : Type 1} → statement M
 fill-records-spec =
     tie.close
     (tie.spec
     variables-requires
-    copy-run-requires
+    read-head-requires
     locations-from-requires
     locations-requires
     location-size-requires
     location-at-requires
-    copy-run-requires-2
+    copy-run-requires
     switches-from-requires
     switches-requires
     switch-size-requires
     switch-at-requires
-    copy-run-requires-3
+    copy-run-requires-2
     forbiddens-from-requires
     forbidden-boxes-requires
     forbidden-size-requires
     forbidden-at-requires
-    copy-run-requires-4
+    copy-run-requires-3
     same-length
     returns)

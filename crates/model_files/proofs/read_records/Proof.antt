@@ -10,7 +10,8 @@ use Rattle.plant.proofs.Asks.{go, halt, then-intro}
 use Rattle.plant.specs.Questions.{recordsQuestions}
 use Rattle.plant.proofs.Reading.{refused-at, past}
 use Rattle.model_files.specs.ModelFile.{fileWords, recordsFileQuestions}
-use Rattle.model_files.proofs.ModelReading.{length-head, file-whole, front-of}
+use Rattle.model_files.proofs.FirstField.{length-head}
+use Rattle.model_files.proofs.ModelReading.{file-whole, front-of}
 use Rattle.model_files.proofs.read_records.Statement.{statement}
 use Rattle.model_files.proofs.read_records.Tie as tie
 
@@ -41,19 +42,19 @@ slice-reshare-prefix-records-questions c = search needs
 slice-aggregate-records-questions : tie.Need-slice-aggregate-records-questions
 slice-aggregate-records-questions c = sym (length-take-le (c .before .size .result) (c .before .before .before .fill .last .1 .1 .0) (omega arith))
 
--- the head words are four
-four : (c : tie.After-fill-arg) → length (c .before .before .before .before .args .head .now) ≡ 4
-four c = ap length (c .before .before .before .before .pre .is-read) ∙ length-head (c .before .before .before .before .args .file .now)
+-- the head words are five
+five : (c : tie.After-fill-arg) → length (c .before .before .before .before .args .head .now) ≡ 5
+five c = ap length (c .before .before .before .before .pre .is-read) ∙ length-head (c .before .before .before .before .args .file .now)
 
 -- what is asked are the words of the file
 asked : (c : tie.After-records-questions-arg) → let a = c .before .before .before .before .before .before .before .before .args in
     take (c .before .size .result) (c .before .before .before .fill .last .1 .1 .0) ≡ fileWords (a .file .now) (a .head .now)
 asked c =
     let a = c .before .before .before .before .before .before .before .before .args in
-    front-of (a .file .now) (a .head .now) (four (c .before .before .before .before)) (a .words .now) _ (c .before .size .result) (c .before .before .before .fill .ensures) (c .before .size .ensures)
+    front-of (a .file .now) (a .head .now) (five (c .before .before .before .before)) (a .words .now) _ (c .before .size .result) (c .before .before .before .fill .ensures) (c .before .size .ensures)
 
 records-questions-requires : tie.Need-records-questions-requires
-records-questions-requires c κs = rw (asked c) (file-whole _ _ (four (c .before .before .before .before)) (c .before .before .before .before .before .before .before .before .pre .head))
+records-questions-requires c κs = rw (asked c) (file-whole _ _ (five (c .before .before .before .before)) (c .before .before .before .before .before .before .before .before .pre .head))
 
 clear-requires-2 : tie.Need-clear-requires-2
 clear-requires-2 c κs = search needs
