@@ -9,7 +9,7 @@ mod timing;
 use std::hint::black_box;
 
 use other::{NAME, WHAT};
-use plants::{creeping, spreading, whole, Timed};
+use plants::{creeping, ranged, spreading, whole, Timed};
 use second::compare::{written_table, MOST_ROOM};
 use second::examples::{all_cut, plant_p, plant_p_cut, standing_pump, two_tank};
 use second::files::model_of_file;
@@ -132,6 +132,12 @@ fn other_knows_cuts() -> bool {
     other::decide(&cut.model, &mut vec![0; MOST_ROOM], 1) >> 32 != 8
 }
 
+/// Does the other one know edition 2? A library from before it refuses its first tag by 1.
+fn other_knows_edition_2() -> bool {
+    let of_edition_2 = Timed::new("P of edition 2", &ranged(plant_p()));
+    other::decide(&of_edition_2.model, &mut vec![0; MOST_ROOM], 1) >> 32 != 1
+}
+
 /// Has the other one today's wall step? A library from before request T-06 needs other passes for this plant.
 fn other_has_this_step() -> bool {
     let pump = Timed::new("standing pump", &standing_pump());
@@ -151,17 +157,26 @@ fn main() {
             plants.push(Timed::new("creeping", &creeping(n, locations, whole)));
         }
     }
-    let knows = other_knows_cuts();
-    if knows {
+    let knows_cuts = other_knows_cuts();
+    if knows_cuts {
         for n in [2, 3, 6] {
             plants.push(Timed::new("spreading, cut", &spreading(n, 64, all_cut)));
             plants.push(Timed::new("creeping, cut", &creeping(n, 64, all_cut)));
         }
     }
+    let knows_edition_2 = other_knows_edition_2();
+    if knows_edition_2 {
+        for n in [3, 6] {
+            plants.push(Timed::new("creeping, ranges", &creeping(n, 64, ranged)));
+        }
+    }
     let same_step = other_has_this_step();
     print_plants(&plants, same_step);
-    if !knows {
+    if !knows_cuts {
         println!("\nPlants with cuts are left out: {WHAT} refuses them.");
+    }
+    if !knows_edition_2 {
+        println!("\nPlants of edition 2 are left out: {WHAT} refuses them.");
     }
     print_growth(same_step);
     println!("\nIn every line without a * both gave the same number and the same table file, and accepted it.");

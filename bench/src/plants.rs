@@ -8,7 +8,7 @@ use second::delays::touches;
 use second::draft::{grid, Draft, SwitchDraft};
 use second::files::model_file;
 use second::generate::close_by;
-use second::model::Plant;
+use second::model::{Edition, Plant};
 use second::random::Random;
 
 const CELL_WIDTH: i32 = 20;
@@ -51,14 +51,26 @@ fn cells(n: usize, locations: usize) -> Vec<usize> {
     cells
 }
 
-/// No cuts. The plants take this, or `second::examples::all_cut`, before their forbidden boxes are laid.
+/// No cuts and no reset ranges. The plants take this, or `second::examples::all_cut`, or `ranged`, before their
+/// forbidden boxes are laid.
 pub fn whole(draft: Draft) -> Draft {
+    draft
+}
+
+/// Edition 2: what a switch set to 0, but for the variable of its wall, it sets to 0 to 1.
+pub fn ranged(mut draft: Draft) -> Draft {
+    draft.edition = Edition::Two;
+    for switch in &mut draft.switches {
+        for i in (0..draft.n).filter(|&i| i != switch.d && switch.mask >> i & 1 == 1) {
+            switch.reset[2 * i + 1] = 1;
+        }
+    }
     draft
 }
 
 /// A grid through which the levels spread upwards, with some cells that turn them back. Few
 /// passes: about two for each cell on the longest way.
-pub fn spreading(n: usize, locations: usize, cuts: fn(Draft) -> Draft) -> Draft {
+pub fn spreading(n: usize, locations: usize, changed: fn(Draft) -> Draft) -> Draft {
     let walls: Vec<Vec<i32>> =
         cells(n, locations).iter().map(|&count| (0..=count as i32).map(|i| i * CELL_WIDTH).collect()).collect();
     let mut random = Random::new(3);
@@ -71,12 +83,12 @@ pub fn spreading(n: usize, locations: usize, cuts: fn(Draft) -> Draft) -> Draft 
             .collect()
     });
     draft.locations[0].start = Some([0, 1].repeat(n));
-    with_forbidden(cuts(draft))
+    with_forbidden(changed(draft))
 }
 
 /// A row of cells along the last variable, which creeps up by `STROKE` while the others run
 /// through their range and are then set back. Many passes: two for each stroke.
-pub fn creeping(n: usize, locations: usize, cuts: fn(Draft) -> Draft) -> Draft {
+pub fn creeping(n: usize, locations: usize, changed: fn(Draft) -> Draft) -> Draft {
     let height = STROKES * STROKE / locations as i32;
     let mut walls = vec![vec![0, STROKE]; n];
     walls[n - 1] = (0..=locations as i32).map(|i| i * height).collect();
@@ -87,7 +99,7 @@ pub fn creeping(n: usize, locations: usize, cuts: fn(Draft) -> Draft) -> Draft {
     let mut start = vec![0; 2 * n];
     start[2 * n - 2..].fill(2 * STROKE);
     draft.locations[0].start = Some(start);
-    with_forbidden(cuts(draft))
+    with_forbidden(changed(draft))
 }
 
 /// Adds a switch that sets all variables but the last back from variable 0's high wall.

@@ -6,6 +6,7 @@
 #include "qiifaduleh.h"
 
 #include <stdio.h>
+#include <stdlib.h>
 #include <string.h>
 
 /* Refused by the compiler if the fact does not hold. */
@@ -24,7 +25,7 @@ FACT(longest_model_file,
                                 QII_SWITCHES_MAX * (3 + 4 * (6 + 4 * QII_VARIABLES_MAX)) +
                                 QII_FORBIDDEN_MAX * (3 + 4 * (1 + 2 * QII_VARIABLES_MAX)) +
                                 QII_LOCATIONS_MAX * (3 + 4 * 3));
-FACT(words_of_plant_p, QII_MODEL_WORDS(2, 1, 0, 1) == 24 && QII_TABLE_WORDS(1, 2) == 20);
+FACT(words_of_plant_p, QII_MODEL_WORDS(2, 1, 0, 1) == 25 && QII_TABLE_WORDS(1, 2) == 20);
 FACT(words_of_plant_p_cut, QII_TABLE_PIECES(1, 1, 2) == 8 && QII_CUT_TABLE_WORDS(1, 1, 2) == 40);
 FACT(words_of_the_largest_model,
      QII_MODEL_WORDS(QII_VARIABLES_MAX, QII_LOCATIONS_MAX, QII_SWITCHES_MAX, QII_FORBIDDEN_MAX) ==
@@ -44,7 +45,7 @@ FACT(refusals_of_records, QII_INVARIANT == 11 && QII_RATES == 12 && QII_START ==
 FACT(refusals_of_tables, QII_TABLE_FACE == 32 && QII_TABLE_GROWS == 33 && QII_TABLE_TOUCHES == 34 &&
                              QII_TABLE_HEAD == 35 && QII_FACE_FIELD == 36 && QII_FACE_PLACE == 37 &&
                              QII_TABLE_END == 38 && QII_TABLE_ROOM == 39);
-FACT(refusal_of_cuts, QII_CUT == 46);
+FACT(refusals_of_requests, QII_EDITION == 43 && QII_CUT == 46);
 FACT(answers, QII_SAFE == 100 && QII_UNKNOWN == 101 && QII_UNFINISHED == 102);
 FACT(other_names_of_100, QII_ACCEPTED == 100 && QII_DONE == 100);
 
@@ -84,6 +85,7 @@ static int numbers_in_use(void)
         case QII_FACE_PLACE:
         case QII_TABLE_END:
         case QII_TABLE_ROOM:
+        case QII_EDITION:
         case QII_CUT:
         case QII_SAFE:
         case QII_UNKNOWN:
@@ -138,17 +140,18 @@ static int measures_tables(void)
 /* Two locations of one variable without switches or boxes: none cut, the second, or both. */
 static int measures_models(void)
 {
-    static int32_t model[] = {1, 2, 0, 0, 0, 9, 0, 0, 0, 0, 0, 0, 9, 0, 0, 0, 0, 0, -1, 0, -1, 0};
+    static int32_t model[] = {1, 2, 0, 0, 1, 0, 9, 0, 0,  0, 0, 0,
+                              0, 9, 0, 0, 0, 0, 0, -1, 0, -1, 0};
     int none = qii_cuts(model) == 0 && qii_table_words(model) == 12 &&
                qii_table_bytes(model) == 7 + 4 * 19;
     int one, both;
 
-    model[20] = 0;
-    model[21] = 5;
+    model[21] = 0;
+    model[22] = 5;
     one = qii_cuts(model) == 1 && qii_table_words(model) == 18 &&
           qii_table_bytes(model) == 7 + 6 * 23;
-    model[18] = 0;
-    model[19] = 1;
+    model[19] = 0;
+    model[20] = 1;
     both = qii_cuts(model) == 2 && qii_table_words(model) == 24 &&
            qii_table_bytes(model) == 7 + 8 * 23;
     return none && one && both;
@@ -172,28 +175,35 @@ static int links(void)
            jobs == 0 && passes == 0 && value == 0;
 }
 
-/* The header's example, without a cut and with one. */
+/* The header's example, in both editions and no other, without a cut and with one. */
 static int answers_its_example(void)
 {
-    static int32_t model[] = {2, 1, 0, 1, 0, 10, 0, 10, 1, 1, 1,  2,
-                              1, 0, 0, 2, 5, 0,  9, 10, 0, 4, -1, 0};
+    static int32_t model[] = {2, 1, 0, 1, 1, 0, 10, 0, 10, 1,  1, 1, 2,
+                              1, 0, 0, 2, 5, 0, 9,  10, 0, 4, -1, 0};
     static const int32_t due[] = {1, 0, 0, 2, 5, 0, 0, 0, 0, 0, 0, 0, 0, 0, 0, 1, 2, 8, 10, 10};
     static const int32_t due_on_face_3[] = {1, 2, 5, 10, 10, 1, 5, 8, 10, 10};
     int32_t table[QII_CUT_TABLE_WORDS(1, 1, 2)], work[QII_CUT_TABLE_WORDS(1, 1, 2)];
     uint64_t passes = 0;
 
-    if (qii_analyse(model, 24, 1000, table, 20, work, 20, &passes) != QII_SAFE || passes != 1 ||
-        memcmp(table, due, sizeof due) != 0)
+    for (model[4] = 1; model[4] <= 2; model[4]++)
+        if (qii_analyse(model, 25, 1000, table, 20, work, 20, &passes) != QII_SAFE ||
+            passes != 1 || memcmp(table, due, sizeof due) != 0)
+            return 0;
+    if (qii_analyse(model, 25, 1000, table, 20, work, 20, &passes) != QII_EDITION)
         return 0;
-    model[22] = 0;
-    model[23] = 5;
-    return qii_analyse(model, 24, 1000, table, 40, work, 40, &passes) == QII_SAFE && passes == 1 &&
+    model[4] = 1;
+    model[23] = 0;
+    model[24] = 5;
+    return qii_analyse(model, 25, 1000, table, 40, work, 40, &passes) == QII_SAFE && passes == 1 &&
            memcmp(table + 30, due_on_face_3, sizeof due_on_face_3) == 0;
 }
 
-int main(void)
+/* header NUMBERS: as many as the header's enums have. */
+int main(int argc, char **argv)
 {
-    if (numbers_in_use() != 32 || meanings() != 32 || !takes_decided_apart() ||
+    int numbers = argc == 2 ? atoi(argv[1]) : 0;
+
+    if (numbers_in_use() != numbers || meanings() != numbers || !takes_decided_apart() ||
         !measures_tables() || !measures_models() || !links() || !answers_its_example()) {
         printf("the header's numbers or functions are wrong\n");
         return 1;

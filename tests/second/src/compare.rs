@@ -7,7 +7,8 @@ use std::fmt;
 use crate::analysis::{run_quick, Answer};
 use crate::coverage::{note, Counts};
 use crate::damage::{
-    damage_bytes, damage_faces, damaged_cuts, damaged_starts, damaged_table_file, edited_model_file, START_DAMAGE,
+    damage_bytes, damage_faces, damaged_cuts, damaged_head, damaged_ranges, damaged_starts, damaged_table_file,
+    edited_model_file, RANGE_DAMAGE, START_DAMAGE,
 };
 use crate::desk::Desk;
 use crate::exports::{Call, Input, Lent};
@@ -20,6 +21,7 @@ use crate::host;
 use crate::model::Plant;
 use crate::pumps::pump_model;
 use crate::random::Random;
+use crate::ranges::ranged_model;
 use crate::simulate::travel;
 use crate::starts::{any_crosses, table_of_whole_boxes, touched_by_whole_boxes};
 
@@ -40,6 +42,8 @@ const HELPED_ONE_IN: u64 = 10;
 const CROSSING_ONE_IN: u64 = 10;
 /// One model in so many is a pump plant, made to be safe by the cut of its delays.
 const PUMP_ONE_IN: u64 = 8;
+/// One model in so many is made so that its answer hangs on its reset ranges.
+const RANGED_ONE_IN: u64 = 5;
 /// One model in so many takes thousands of passes; none where the comparison is tight.
 const LONG_ONE_IN: u64 = 150;
 
@@ -234,6 +238,8 @@ impl Comparison {
             crossing_model(&mut self.random).words()
         } else if self.random.chance(1, PUMP_ONE_IN) {
             pump_model(&mut self.random).words()
+        } else if self.random.chance(1, RANGED_ONE_IN) {
+            ranged_model(&mut self.random).words()
         } else {
             random_model(&mut self.random).words()
         };
@@ -265,8 +271,9 @@ impl Comparison {
         };
         let (number, buffer) = self.decide("a random model", &model, length, limit)?;
         let code = number >> 32;
+        let mut answers_table = vec![0; plant.table_words()];
         if code >= 100 {
-            self.answer_case(plant, &model, code, written_table(plant, &buffer))?;
+            answers_table = self.answer_case(plant, &model, code, written_table(plant, &buffer))?;
         }
 
         let mut rest = vec![0; plant.table_words()];
@@ -285,6 +292,8 @@ impl Comparison {
             self.trimmed_case(plant, limit, [&rest, &other])?;
         }
         self.changes_case(plant, limit)?;
+        self.edition_case(plant, limit, [&rest, &other])?;
+        self.ranges_case(plant, code, [&answers_table, &rest, &other])?;
         for _ in 0..damaged {
             self.damaged_case(plant, &model, &rest, &other)?;
             self.damaged_call(plant, &rest, &other)?;
@@ -294,8 +303,8 @@ impl Comparison {
 
     /// What an answer says: the table of a safe one is accepted, no run meets a forbidden box,
     /// and a part of the table reaches each configuration; of an unknown one no table is
-    /// accepted. All of it is asked of the tested call's own bytes.
-    fn answer_case(&mut self, plant: &Plant, model: &[u8], code: u64, file: &[u8]) -> Result<(), Difference> {
+    /// accepted. All of it is asked of the tested call's own bytes. Gives their table.
+    fn answer_case(&mut self, plant: &Plant, model: &[u8], code: u64, file: &[u8]) -> Result<Vec<i32>, Difference> {
         let checked = self.check("the answer's table", model, file)?;
         self.hold_unknown(code, checked)?;
         let table = parse_table(plant, file).expect("a table file that equals this package's own reads");
@@ -319,7 +328,7 @@ impl Comparison {
             }
             _ => {}
         }
-        Ok(())
+        Ok(table)
     }
 
     /// Counts what a safe model, with its answer's table, would be if start boxes were taken whole.
@@ -392,15 +401,27 @@ impl Comparison {
     }
 
     pub(crate) fn damaged_model(&mut self, plant: &Plant, model: &[u8]) -> Vec<u8> {
-        if self.random.chance(9, 10) {
-            return self.otherwise_damaged_model(plant, model);
+        match self.random.below(20) {
+            0 | 1 => {
+                let (words, kind) = damaged_starts(&mut self.random, plant);
+                self.note_damage("model", START_DAMAGE[kind].0);
+                file_of_words(&plant.sizes, &words)
+            }
+            2 | 3 => {
+                let (words, kind) = damaged_ranges(&mut self.random, plant);
+                self.note_damage("model", RANGE_DAMAGE[kind].0);
+                file_of_words(&plant.sizes, &words)
+            }
+            4 => {
+                let (bytes, kind) = damaged_head(&mut self.random, plant);
+                self.note_damage("model", kind);
+                bytes
+            }
+            _ => self.otherwise_damaged_model(plant, model),
         }
-        let (words, kind) = damaged_starts(&mut self.random, plant);
-        self.note_damage("model", START_DAMAGE[kind].0);
-        file_of_words(&plant.sizes, &words)
     }
 
-    /// A model file with a change that is not one of `START_DAMAGE`.
+    /// A model file with a change that is none of `START_DAMAGE`, `RANGE_DAMAGE` and `HEAD_DAMAGE`.
     fn otherwise_damaged_model(&mut self, plant: &Plant, model: &[u8]) -> Vec<u8> {
         let random = &mut self.random;
         match random.below(26) {

@@ -5,12 +5,15 @@ use std::collections::BTreeMap;
 
 use crate::ceiling;
 use crate::changes::{Changes, STEP_KINDS};
-use crate::damage::{BYTE_DAMAGE, CUT_DAMAGE, FACES_DAMAGE, FIELD_DAMAGE, START_DAMAGE, TABLE_DAMAGE};
+use crate::damage::{
+    BYTE_DAMAGE, CUT_DAMAGE, FACES_DAMAGE, FIELD_DAMAGE, HEAD_DAMAGE, RANGE_DAMAGE, START_DAMAGE, TABLE_DAMAGE,
+};
 use crate::exports::Call;
 use crate::lending::{DESK_CALLS, DESK_STARTS, LENGTH_KINDS};
 use crate::model::{
     ordered_inside, Cut, Location, Plant, Switch, LEVEL, MAX_FORBIDDEN, MAX_LOCATIONS, MAX_SWITCHES, RATE,
 };
+use crate::ranges::{any_range, range_kinds, RANGE_KINDS};
 use crate::simulate::Travelled;
 use crate::starts::{start_kinds, START_KINDS};
 
@@ -52,16 +55,17 @@ pub const OTHER_DAMAGE: [&str; 4] =
     ["words at the edge of a question", "such words, then bytes", "random bytes", "a head and nothing else"];
 
 /// Damage to model words.
-pub const WORDS_DAMAGE: [&str; 5] = [
+pub const WORDS_DAMAGE: [&str; 6] = [
     "ends anywhere",
     "ends at the head",
+    "a bad count, and ends at the head",
     "random words",
     "edited, and words behind it",
     "words at the edge of a question",
 ];
 
 /// Extremes, and how often each must come up under the full counts.
-pub const EXTREMES: [(&str, u64); 17] = [
+pub const EXTREMES: [(&str, u64); 25] = [
     ("rates of -1,000 and 1,000 in one location", 300),
     ("a variable from -1,000,000 to 1,000,000", 300),
     ("such rates and such a variable in one location", 300),
@@ -79,6 +83,14 @@ pub const EXTREMES: [(&str, u64); 17] = [
     ("a face with its first piece alone", 1_000),
     ("a face with its second piece alone", 1_000),
     ("a face with both its pieces", 1_000),
+    ("unknown, and safe with the lows of its ranges alone", 200),
+    ("unknown, and safe with the highs of its ranges alone", 200),
+    ("unknown, and safe with the lows alone and with the highs alone", 100),
+    ("safe, and unknown with its ranges one wider", 200),
+    ("another table with the lows of its ranges alone", 300),
+    ("another table with the highs of its ranges alone", 300),
+    ("a safe answer's table of the lows of ranges alone refused by 33", 300),
+    ("a safe answer's table of the highs of ranges alone refused by 33", 300),
 ];
 
 /// What T-06 changes, and how often each must come up under the full counts.
@@ -97,6 +109,9 @@ const CHANGES: [Change; 8] = [
 /// How often each kind of start box must come up under the full counts.
 const EACH_START: u64 = 300;
 
+/// How often each kind of reset range must come up under the full counts.
+const EACH_RANGE: u64 = 300;
+
 /// How often each kind of wall step must come up under the full counts.
 const EACH_STEP: u64 = 1_000;
 
@@ -109,14 +124,22 @@ pub struct Counts {
     pub fixed: u64,
     pub models: u64,
     pub damaged: u64,
-    /// Models by number of variables (index n), all and those with cuts.
+    /// Models by number of variables (index n), all, those with cuts and those with reset ranges.
     pub by_n: [u64; 7],
     pub cut_by_n: [u64; 7],
+    pub ranged_by_n: [u64; 7],
     pub model_kinds: Tally,
     /// Models by how their start boxes lie.
     pub start_kinds: Tally,
     /// Models that were also compared with their start boxes trimmed.
     pub trimmed: u64,
+    /// Models by their edition and by how their reset ranges lie.
+    pub range_kinds: Tally,
+    /// Models that were compared in both editions, and models with a range that edition 1 refused.
+    pub both_editions: u64,
+    pub refused_editions: u64,
+    /// Accepted tables that were checked with narrower ranges.
+    pub narrowed: u64,
     pub limits: Tally,
     pub damage: Tally,
     /// Calls by the number that decide or check gave.
@@ -158,6 +181,10 @@ impl Counts {
         }
         for kind in start_kinds(plant) {
             note(&mut self.start_kinds, kind);
+        }
+        self.ranged_by_n[plant.sizes.n] += any_range(plant) as u64;
+        for kind in range_kinds(plant) {
+            note(&mut self.range_kinds, kind);
         }
         self.note_extremes(plant);
         note(&mut self.limits, limit_kind(plant, limit));
@@ -201,15 +228,16 @@ impl Counts {
         self.extreme("a face with both its pieces", seen[2]);
     }
 
-    /// Extremes, kinds of start boxes, kinds of wall steps and changes by T-06 that did not come up as often as
-    /// they must under the full counts.
+    /// Extremes, kinds of start boxes, of reset ranges and of wall steps, and changes by T-06 that did not come up
+    /// as often as they must under the full counts.
     pub fn too_seldom(&self) -> Vec<String> {
         let tallied = |tally: &Tally, kind: &str| tally.get(kind).copied().unwrap_or(0);
         let extremes = EXTREMES.map(|(kind, least)| (kind, least, tallied(&self.extremes, kind)));
         let starts = START_KINDS.map(|kind| (kind, EACH_START, tallied(&self.start_kinds, kind)));
         let steps = STEP_KINDS.iter().zip(self.changes.steps).map(|(kind, count)| (*kind, EACH_STEP, count));
         let changes = CHANGES.map(|(kind, least, count)| (kind, least, count(&self.changes)));
-        let counted = extremes.into_iter().chain(starts).chain(steps).chain(changes);
+        let ranges = RANGE_KINDS.map(|kind| (kind, EACH_RANGE, tallied(&self.range_kinds, kind)));
+        let counted = extremes.into_iter().chain(starts).chain(ranges).chain(steps).chain(changes);
         let seldom = counted.filter(|(_, least, count)| count < least);
         seldom.map(|(kind, least, count)| format!("{kind} ({count} of {least} times)")).collect()
     }
@@ -224,6 +252,20 @@ impl Counts {
         all.extend(missing("check", &CHECK_NUMBERS, Some(&self.check)));
         for call in Call::ALL {
             all.extend(missing(call.name(), &call.numbers(), self.calls.get(&call)));
+        }
+        all
+    }
+
+    /// Numbers that a call gave and cannot give.
+    pub fn numbers_not_due(&self) -> Vec<String> {
+        let beyond = |name: &str, numbers: &[u32], seen: Option<&BTreeMap<u32, u64>>| -> Vec<String> {
+            let given = seen.into_iter().flat_map(|seen| seen.keys());
+            given.filter(|n| !numbers.contains(n)).map(|n| format!("{name} {n}")).collect()
+        };
+        let mut all = beyond("decide", &DECIDE_NUMBERS, Some(&self.decide));
+        all.extend(beyond("check", &CHECK_NUMBERS, Some(&self.check)));
+        for call in Call::ALL {
+            all.extend(beyond(call.name(), &call.numbers(), self.calls.get(&call)));
         }
         all
     }
@@ -245,6 +287,11 @@ impl Counts {
             .iter()
             .for_each(|kind| expect(&format!("a start box: {kind}"), self.start_kinds.contains_key(*kind)));
         expect("a model with its start boxes trimmed", self.trimmed > 0);
+        (2..=6).for_each(|n| expect(&format!("n {n} with a reset range"), self.ranged_by_n[n] > 0));
+        RANGE_KINDS.iter().for_each(|kind| expect(kind, self.range_kinds.contains_key(*kind)));
+        expect("a model in both editions", self.both_editions > 0);
+        expect("a model with a range in edition 1", self.refused_editions > 0);
+        expect("an accepted table with narrower ranges", self.narrowed > 0);
         STEP_KINDS
             .iter()
             .zip(self.changes.steps)
@@ -255,6 +302,8 @@ impl Counts {
         expect("a safe answer's table accepted", self.accepted > 0);
         expect("a table refused for an unknown model", self.refused > 0);
         expect("a switch in a run of a safe model", self.safe_runs.switches > 0);
+        expect("a level inside a reset range in a run of a safe model", self.safe_runs.inside_ranges > 0);
+        expect("a fraction in a reset range in a run of a safe model", self.safe_runs.fractions > 0);
         expect("a forbidden box met in a run of an unknown model", self.unknown_runs.forbidden > 0);
         missing
     }
@@ -262,13 +311,15 @@ impl Counts {
 
 /// Every kind of damage, each with what is damaged.
 pub fn all_damage() -> Vec<String> {
-    let model = BYTE_DAMAGE.iter().chain(&CUT_DAMAGE).chain(&OTHER_DAMAGE).map(|kind| format!("model: {kind}"));
+    let model = BYTE_DAMAGE.iter().chain(&CUT_DAMAGE).chain(&HEAD_DAMAGE).chain(&OTHER_DAMAGE);
+    let model = model.map(|kind| format!("model: {kind}"));
     let table = BYTE_DAMAGE.iter().chain(FACES_DAMAGE).chain(&FIELD_DAMAGE).map(|kind| format!("table: {kind}"));
     let model_words = WORDS_DAMAGE.iter().map(|kind| format!("model words: {kind}"));
     let table_words = TABLE_DAMAGE.iter().map(|kind| format!("table words: {kind}"));
-    let starts =
-        START_DAMAGE.iter().flat_map(|(kind, _)| ["model", "model words"].map(|what| format!("{what}: {kind}")));
-    model.chain(table).chain(model_words).chain(table_words).chain(starts).collect()
+    let in_both = |kind: &str| ["model", "model words"].map(|what| format!("{what}: {kind}"));
+    let starts = START_DAMAGE.iter().flat_map(|(kind, _)| in_both(kind));
+    let ranges = RANGE_DAMAGE.iter().flat_map(|(kind, ..)| in_both(kind));
+    model.chain(table).chain(model_words).chain(table_words).chain(starts).chain(ranges).collect()
 }
 
 /// The kinds of lengths that must come up, of every slice of every call.

@@ -1,9 +1,13 @@
 //! Damaged inputs: tables, model words and files with one change each, aimed at the edge of a question.
 
-use crate::files::{field, file_of_words, CUT, FACE, FORBIDDEN, HEAD, LOCATION, SWITCH, TABLE_HEAD};
+use crate::files::{
+    field, file_of_words, head_tag, model_file, CUT, FACE, FORBIDDEN, HEAD, HEAD_2, HEAD_FIELD_BYTES, HEAD_FIELD_WORDS,
+    LOCATION, SWITCH, TABLE_HEAD,
+};
 use crate::generate::{put_random_piece, random_range};
-use crate::model::{Location, Piece, Plant, LEVEL, RATE};
+use crate::model::{Edition, Location, Piece, Plant, Switch, EDITION_AT, LEVEL, RATE, SWITCH_HEAD};
 use crate::random::Random;
+use crate::ranges::{lows_alone, with_ranges};
 use crate::Refusal;
 
 // ---------------------------------------------------------------- damage to tables
@@ -168,7 +172,10 @@ pub fn random_word(random: &mut Random) -> i32 {
     }
 }
 
-/// One change aimed at one of the questions 2 to 4, 11 to 19 and 46, as places and new words.
+/// Edition words, most of them of no edition.
+const EDITION_WORDS: [i32; 10] = [0, 3, -1, -2, 9, 257, i32::MAX, i32::MIN, 1, 2];
+
+/// One change aimed at one of the questions 2 to 4, 43, 11 to 19 and 46, as places and new words.
 /// Not every change leads to a refusal.
 pub fn model_edit(random: &mut Random, plant: &Plant) -> Vec<(usize, i32)> {
     let sizes = plant.sizes;
@@ -182,10 +189,11 @@ pub fn model_edit(random: &mut Random, plant: &Plant) -> Vec<(usize, i32)> {
         (false, false) => &[0, 1, 1, 4, 5],
     };
     match random.pick(kinds) {
-        0 => match random.below(4) {
+        0 => match random.below(5) {
             0 => vec![(0, random.pick(&[0, 7, -1, 6, 1, i32::MAX, i32::MIN]))],
             1 => vec![(1, random.pick(&[0, 65, -1, 64, 1, i32::MAX, i32::MIN]))],
             2 => vec![(2, random.pick(&[129, -1, 128, 0, i32::MAX, i32::MIN]))],
+            3 => vec![(EDITION_AT, random.pick(&EDITION_WORDS))],
             _ => vec![(3, random.pick(&[65, -1, 64, 0, i32::MAX, i32::MIN]))],
         },
         1 => vec![location_edit(random, plant, i)],
@@ -193,8 +201,8 @@ pub fn model_edit(random: &mut Random, plant: &Plant) -> Vec<(usize, i32)> {
             let s = random.below(sizes.switches);
             let at = sizes.switch_at(s);
             let switch = plant.switch(s);
-            let guard = at + 6 + 2 * i;
-            let reset = at + 6 + 2 * n + 2 * i;
+            let guard = at + SWITCH_HEAD + 2 * i;
+            let reset = sizes.reset_at(s, i);
             let l = sizes.locations as i32;
             match random.below(13) {
                 0 => vec![(at + random.below(2), random.pick(&[l, -1, l - 1, 0, i32::MAX]))],
@@ -214,7 +222,7 @@ pub fn model_edit(random: &mut Random, plant: &Plant) -> Vec<(usize, i32)> {
                 }
                 9 => {
                     // The guard of d off its wall, at one end or both.
-                    let place = at + 6 + 2 * switch.d;
+                    let place = at + SWITCH_HEAD + 2 * switch.d;
                     match random.below(3) {
                         0 => vec![(place, words[place] - 1)],
                         1 => vec![(place + 1, words[place + 1] + 1)],
@@ -223,7 +231,7 @@ pub fn model_edit(random: &mut Random, plant: &Plant) -> Vec<(usize, i32)> {
                 }
                 10 => {
                     // d reset beside the target's wall.
-                    let place = at + 6 + 2 * n + 2 * switch.d;
+                    let place = sizes.reset_at(s, switch.d);
                     let wall = words[place].clamp(-LEVEL + 1, LEVEL - 1) + random.pick(&[1, -1]);
                     vec![(at + 5, words[at + 5] | 1 << switch.d), (place, wall), (place + 1, wall)]
                 }
@@ -378,6 +386,165 @@ fn changed_start(random: &mut Random, location: &Location, kind: usize) -> (i32,
     (flag, start)
 }
 
+/// The kinds of change to the edition and to reset ranges that `damaged_ranges` makes, with the numbers that the
+/// model then gets, as words and as a file: none if it still passes its questions (document 02, T-10). In a file no
+/// tag stands for an edition word that is neither 1 nor 2.
+pub const RANGE_DAMAGE: [(&str, Option<Refusal>, Option<Refusal>); 22] = [
+    ("a bad edition", Some(43), Some(1)),
+    ("a bad edition and a bad n", Some(2), Some(1)),
+    ("a bad edition and a bad L", Some(3), Some(1)),
+    ("a bad edition and a bad E or B", Some(4), Some(1)),
+    ("a bad edition and a bad invariant", Some(43), Some(1)),
+    ("a bad edition and a bad cut", Some(43), Some(1)),
+    ("edition 1 and single values alone", None, None),
+    ("edition 2 and single values alone", None, None),
+    ("edition 2 and a bad n", Some(2), Some(2)),
+    ("edition 1 and a range", Some(16), Some(16)),
+    ("edition 2 and a range", None, None),
+    ("edition 2 and a range of all levels", None, None),
+    ("edition 1 and a range of a masked d", Some(16), Some(16)),
+    ("edition 2 and a range of a masked d", Some(16), Some(16)),
+    ("edition 1 and a range of an unmasked d", None, None),
+    ("edition 2 and a range of an unmasked d", None, None),
+    ("edition 2 and a range out of order", Some(15), Some(15)),
+    ("edition 2 and a range to above 1,000,000", Some(15), Some(15)),
+    ("edition 2, a range of a masked d and a guard off its wall", Some(16), Some(16)),
+    ("edition 1, a range and a guard off its wall", Some(16), Some(16)),
+    ("edition 2, a range and a guard off its wall", Some(17), Some(17)),
+    ("edition 2, a range and d set beside its wall", Some(18), Some(18)),
+];
+
+/// Those of them that need no switch.
+const OF_THE_HEAD: usize = 9;
+
+/// The model's words with one change to the edition or to a reset range. Gives its place in `RANGE_DAMAGE` too.
+pub fn damaged_ranges(random: &mut Random, plant: &Plant) -> (Vec<i32>, usize) {
+    let sizes = plant.sizes;
+    let mut kind = random.below(RANGE_DAMAGE.len());
+    let mut switches: Vec<usize> = (0..sizes.switches).collect();
+    if matches!(kind, 14 | 15) {
+        switches.retain(|&s| !plant.switch(s).masked(plant.switch(s).d));
+    }
+    // A range needs a variable beside d.
+    let of_d = matches!(kind, 12..=15 | 18);
+    if switches.is_empty() || (sizes.n == 1 && !of_d) {
+        kind = random.below(OF_THE_HEAD);
+    }
+    let edition = match kind {
+        6 | 9 | 12 | 14 | 19 => Edition::One,
+        _ => Edition::Two,
+    };
+    // No other range than the one that is put in.
+    let mut words = with_ranges(plant, lows_alone);
+    words[EDITION_AT] = edition.word();
+    if kind < OF_THE_HEAD {
+        change_head(random, plant, &mut words, kind);
+    } else {
+        let s = random.pick(&switches);
+        change_reset(random, plant, &mut words, s, kind);
+    }
+    (words, kind)
+}
+
+/// One change to the head, with one to a record in some kinds.
+fn change_head(random: &mut Random, plant: &Plant, words: &mut [i32], kind: usize) {
+    if kind < 6 {
+        words[EDITION_AT] = random.pick(&EDITION_WORDS[..8]);
+    }
+    match kind {
+        1 | 8 => words[0] = random.pick(&[0, 7, -1]),
+        2 => words[1] = random.pick(&[0, 65, -1]),
+        3 => words[random.pick(&[2, 3])] = random.pick(&[129, -1]),
+        4 => words[plant.sizes.location_at(0)] = LEVEL + 1,
+        5 => words[plant.sizes.cut_at(0)] = -2,
+        _ => {}
+    }
+}
+
+/// One change to the reset box of a switch, with one to its guard or to the reset value of d in some kinds.
+fn change_reset(random: &mut Random, plant: &Plant, words: &mut [i32], s: usize, kind: usize) {
+    let (sizes, switch) = (plant.sizes, plant.switch(s));
+    let d = switch.d;
+    let beside: Vec<usize> = (0..sizes.n).filter(|&i| i != d).collect();
+    let of_d = matches!(kind, 12..=15 | 18);
+    let i = if of_d { d } else { random.pick(&beside) };
+    let mask = sizes.switch_at(s) + SWITCH_HEAD - 1;
+    let (guard, reset) = (sizes.switch_at(s) + SWITCH_HEAD + 2 * d, sizes.reset_at(s, i));
+    let low = words[reset].clamp(-LEVEL, LEVEL - 1);
+    let high = (low + random.pick(&[1, 1, 2, 5, 2 * LEVEL])).min(LEVEL);
+    words[reset..reset + 2].copy_from_slice(&match kind {
+        11 => [-LEVEL, LEVEL],
+        16 => [low + 1, low],
+        17 => [low, LEVEL + 1],
+        _ => [low, high],
+    });
+    if !matches!(kind, 14 | 15) {
+        words[mask] |= 1 << i;
+    }
+    match kind {
+        18..=20 => {
+            let off = beside_wall(words[guard]);
+            words[guard..guard + 2].fill(off);
+        }
+        21 => {
+            let wall = target_wall(plant, &switch);
+            words[mask] |= 1 << d;
+            words[sizes.reset_at(s, d)..][..2].fill(beside_wall(wall));
+        }
+        _ => {}
+    }
+}
+
+/// The level next to one, towards 0.
+fn beside_wall(wall: i32) -> i32 {
+    if wall > 0 {
+        wall - 1
+    } else {
+        wall + 1
+    }
+}
+
+fn target_wall(plant: &Plant, switch: &Switch) -> i32 {
+    plant.location(switch.target).invariant[2 * switch.d + switch.target_side]
+}
+
+/// The kinds of change to the head field of a model file that `damaged_head` makes.
+pub const HEAD_DAMAGE: [&str; 6] = [
+    "the first tag of the other edition",
+    "a first tag of no edition",
+    "a head field of tag 9 and another length",
+    "a head field of tag 9 that is not whole",
+    "a head field of tag 9 and nothing else",
+    "tag 9 where a record is due",
+];
+
+/// A model file with one change to its head field. Gives the kind too.
+pub fn damaged_head(random: &mut Random, plant: &Plant) -> (Vec<u8>, &'static str) {
+    let mut bytes = model_file(plant.words());
+    let kind = random.below(HEAD_DAMAGE.len());
+    match kind {
+        0 => bytes[0] = head_tag(plant.edition.other()),
+        1 => bytes[0] = random.pick(&[0, LOCATION, 7, CUT, 10, 128 + HEAD, 128 + HEAD_2, 255]),
+        2 => {
+            let words = [2, HEAD_FIELD_WORDS - 1, HEAD_FIELD_WORDS + 1];
+            bytes.splice(..HEAD_FIELD_BYTES, field(HEAD_2, &plant.words()[..random.pick(&words)]));
+        }
+        3 => {
+            bytes[0] = HEAD_2;
+            bytes.truncate(random.below(HEAD_FIELD_BYTES));
+        }
+        4 => {
+            bytes[0] = HEAD_2;
+            bytes.truncate(HEAD_FIELD_BYTES);
+        }
+        _ => {
+            let places = field_places(&bytes);
+            bytes[places[1 + random.below(places.len() - 2)]] = HEAD_2;
+        }
+    }
+    (bytes, HEAD_DAMAGE[kind])
+}
+
 /// The kinds of change to the cuts of a model file that `damaged_cuts` makes.
 pub const CUT_DAMAGE: [&str; 17] = [
     "a cut's field that ends in its head",
@@ -440,7 +607,7 @@ pub fn damaged_cuts(random: &mut Random, plant: &Plant) -> (Vec<u8>, &'static st
             let value = random.pick(&[low - 1, high + 1, i32::MIN, i32::MAX]);
             cuts[chosen] = vec![cuts[chosen][0], i as i32, value];
         }
-        13 => tag = random.pick(&[0, HEAD, LOCATION, SWITCH, FORBIDDEN, FACE, TABLE_HEAD, 7, 9, 255]),
+        13 => tag = random.pick(&[0, HEAD, LOCATION, SWITCH, FORBIDDEN, FACE, TABLE_HEAD, 7, HEAD_2, 255]),
         14 | 15 => {
             cuts[chosen][1] = if kind == 14 { -1 } else { -2 };
             words[sizes.location_at(random.below(sizes.locations))] = LEVEL + 1;
@@ -530,7 +697,7 @@ pub fn damage_bytes(random: &mut Random, bytes: &mut Vec<u8>) -> &'static str {
             bytes.remove(any);
         }
         9 => bytes.insert(any, random.next() as u8),
-        10 => bytes[from] = random.pick(&[0, HEAD, LOCATION, SWITCH, FORBIDDEN, FACE, TABLE_HEAD, CUT, 9, 255]),
+        10 => bytes[from] = random.pick(&[0, HEAD, LOCATION, SWITCH, FORBIDDEN, FACE, TABLE_HEAD, CUT, HEAD_2, 255]),
         11 => {
             let length = u16::from_be_bytes([bytes[from + 1], bytes[from + 2]]);
             let change = random.pick(&[1u16, 4, 65535, 65532, 256]);

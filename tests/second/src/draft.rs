@@ -1,7 +1,7 @@
 //! A model in the making, turned into words; and grids of cells with switches between
 //! neighbours, as source 000 splits a mode at hyperplanes.
 
-use crate::model::MAX_SWITCHES;
+use crate::model::{Edition, HEAD_WORDS, MAX_SWITCHES};
 
 #[derive(Clone, Debug)]
 pub struct LocationDraft {
@@ -25,6 +25,7 @@ pub struct SwitchDraft {
 #[derive(Clone, Debug, Default)]
 pub struct Draft {
     pub n: usize,
+    pub edition: Edition,
     pub locations: Vec<LocationDraft>,
     pub switches: Vec<SwitchDraft>,
     /// Location and box.
@@ -36,8 +37,10 @@ pub struct Draft {
 impl Draft {
     /// The model's words.
     pub fn words(&self) -> Vec<i32> {
-        let mut words =
-            vec![self.n as i32, self.locations.len() as i32, self.switches.len() as i32, self.forbidden.len() as i32];
+        let counts = [self.n, self.locations.len(), self.switches.len(), self.forbidden.len()];
+        let mut words = counts.map(|count| count as i32).to_vec();
+        words.push(self.edition.word());
+        assert_eq!(words.len(), HEAD_WORDS);
         for location in &self.locations {
             words.extend(&location.invariant);
             words.extend(&location.rates);

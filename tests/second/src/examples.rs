@@ -1,6 +1,15 @@
 //! Document 01's plant P, source 000's examples and some plants more, as drafts.
 
 use crate::draft::{grid, Draft, LocationDraft, SwitchDraft};
+use crate::model::{Edition, HEAD_WORDS};
+
+/// Places in P's words: its location (invariant 4 words, rates 4, flag, start box 4), its forbidden box (location, box
+/// 4), its cut; and how many words it has.
+pub const P_LOCATION: usize = HEAD_WORDS;
+pub const P_START_FLAG: usize = P_LOCATION + 8;
+pub const P_FORBIDDEN: usize = P_LOCATION + 13;
+pub const P_CUT: usize = P_FORBIDDEN + 5;
+pub const P_WORDS: usize = P_CUT + 2;
 
 /// Plant P of document 01.
 pub fn plant_p() -> Draft {
@@ -13,7 +22,7 @@ pub fn plant_p() -> Draft {
         }],
         switches: vec![],
         forbidden: vec![(0, vec![9, 10, 0, 4])],
-        cuts: vec![],
+        ..Draft::default()
     }
 }
 
@@ -32,8 +41,8 @@ pub fn plant_p_from(start: [i32; 4]) -> Draft {
 /// The words of P with this start flag and start box, which need not pass the questions.
 pub fn plant_p_with_start(flag: i32, start: [i32; 4]) -> Vec<i32> {
     let mut words = plant_p().words();
-    words[12] = flag;
-    words[13..17].copy_from_slice(&start);
+    words[P_START_FLAG] = flag;
+    words[P_START_FLAG + 1..P_FORBIDDEN].copy_from_slice(&start);
     words
 }
 
@@ -137,7 +146,7 @@ pub fn figure_1() -> Draft {
         }],
         switches: vec![],
         forbidden: vec![],
-        cuts: vec![],
+        ..Draft::default()
     }
 }
 
@@ -276,6 +285,7 @@ pub fn three_tanks(cut: bool) -> Draft {
         switches: vec![pour(0), pour(1)],
         forbidden: vec![(2, vec![0, 10, 6, 10, 6, 10])],
         cuts: if cut { vec![(2, 1, 5)] } else { vec![] },
+        ..Draft::default()
     }
 }
 
@@ -334,7 +344,7 @@ pub fn water_level(lag: i32) -> Draft {
             (2, vec![121, 150, 0, 0]),
             (3, vec![0, 9, 0, lag]),
         ],
-        cuts: vec![],
+        ..Draft::default()
     }
 }
 
@@ -372,7 +382,7 @@ pub fn heated_vat(rim: i32) -> Draft {
         locations: vec![location([-2, -1, 1, 2], Some(vec![80, 130, 20, 25])), location([4, 5, 0, 0], None)],
         switches: vec![switch(0, 0, 0b10, [20, 20]), switch(1, rim, 0, [0, 300])],
         forbidden: vec![(0, vec![0, rim, 230, 300])],
-        cuts: vec![],
+        ..Draft::default()
     }
 }
 
@@ -423,7 +433,84 @@ pub fn worn_pump(forbidden: [i32; 2]) -> Draft {
         ],
         switches: vec![stop(0), stop(1)],
         forbidden: vec![in_store(0), in_store(1)],
-        cuts: vec![],
+        ..Draft::default()
+    }
+}
+
+/// What a hand-filled cup is to keep its vat clear of while it runs out: the rim, from 11 up; or that the cup is empty
+/// with the vat at 7, where the stirrer stands.
+pub const OVER_THE_RIM: [i32; 4] = [11, 20, 0, 8];
+pub const AT_THE_STIRRER: [i32; 4] = [7, 7, 0, 0];
+
+/// The dose that a cup is filled with by hand.
+pub const BY_HAND: [i32; 2] = [2, 5];
+
+/// A cup that is filled by hand (document 02, T-10). Variable 0 is the vat, 0..20, variable 1 the cup, 0..8. In
+/// location 0 the vat is emptied, by 1 to 2. Empty, the cup is filled with a dose, any of the range; in location 1 it
+/// runs out by 1, with as much water, so that the vat rises by 2. When the cup is empty, the vat is emptied again.
+///
+/// A dose of 2 to 5 brings the vat to 4 to 10, below its rim at 11; one of 6 to 12. One of 7/2 brings it to 7, which
+/// the doses 2 and 5 do not.
+pub fn hand_filled(dose: [i32; 2], forbidden: [i32; 4]) -> Draft {
+    let location = |rates: [i32; 4], start: Option<Vec<i32>>| LocationDraft {
+        invariant: vec![0, 20, 0, 8],
+        rates: rates.to_vec(),
+        start,
+    };
+    Draft {
+        n: 2,
+        edition: Edition::Two,
+        locations: vec![location([-2, -1, 0, 0], Some(vec![3, 8, 0, 0])), location([2, 2, -1, -1], None)],
+        switches: vec![
+            SwitchDraft {
+                source: 0,
+                target: 1,
+                d: 0,
+                source_side: 0,
+                target_side: 0,
+                mask: 0b10,
+                guard: vec![0, 0, 0, 8],
+                reset: vec![0, 0, dose[0], dose[1]],
+            },
+            SwitchDraft {
+                source: 1,
+                target: 0,
+                d: 1,
+                source_side: 0,
+                target_side: 0,
+                mask: 0,
+                guard: vec![0, 20, 0, 0],
+                reset: vec![0, 20, 0, 0],
+            },
+        ],
+        forbidden: vec![(1, forbidden.to_vec())],
+        ..Draft::default()
+    }
+}
+
+/// What a switch sets, and nothing else (document 02, T-10). In location 0 x rises by 1 from 0 to 10, with y at 0. Then
+/// a switch leads to location 1, y 0..10, where all stands still, and sets y to a range.
+pub fn set_to(range: [i32; 2]) -> Draft {
+    let location = |rates: [i32; 4], start: Option<Vec<i32>>| LocationDraft {
+        invariant: vec![0, 10, 0, 10],
+        rates: rates.to_vec(),
+        start,
+    };
+    Draft {
+        n: 2,
+        edition: Edition::Two,
+        locations: vec![location([1, 1, 0, 0], Some(vec![0; 4])), location([0; 4], None)],
+        switches: vec![SwitchDraft {
+            source: 0,
+            target: 1,
+            d: 0,
+            source_side: 1,
+            target_side: 1,
+            mask: 0b10,
+            guard: vec![10, 10, 0, 10],
+            reset: vec![10, 10, range[0], range[1]],
+        }],
+        ..Draft::default()
     }
 }
 
@@ -449,7 +536,7 @@ pub fn dosing(forbidden: i32) -> Draft {
             reset: vec![0, 0, 0, 5_000],
         }],
         forbidden: vec![(0, vec![0, 1, forbidden, 5_000])],
-        cuts: vec![],
+        ..Draft::default()
     }
 }
 

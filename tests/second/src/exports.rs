@@ -53,6 +53,10 @@ impl Call {
     pub const ALL: [Call; 7] =
         [Call::ReadModel, Call::Ceiling, Call::Check, Call::Analyse, Call::ReadTable, Call::WriteTable, Call::Desk];
 
+    /// Those that take model words.
+    pub const ON_WORDS: [Call; 6] =
+        [Call::Ceiling, Call::Check, Call::Analyse, Call::ReadTable, Call::WriteTable, Call::Desk];
+
     /// Its name in C.
     pub fn name(self) -> &'static str {
         match self {
@@ -69,14 +73,15 @@ impl Call {
     /// Every number that it can give.
     pub fn numbers(self) -> Vec<u32> {
         let model = (2..=5).chain(11..=19).chain([46]);
+        // 43 is asked of words alone: a file's first tag gives the edition.
         let more: &[u32] = match self {
             Call::ReadModel => &[1, 6, 7, 8, 100],
-            Call::Ceiling => &[100],
-            Call::Check => &[20, 32, 33, 34, 100],
-            Call::Analyse => &[20, 21, 100, 101, 102],
-            Call::ReadTable => &[20, 32, 35, 36, 37, 38, 100],
-            Call::WriteTable => &[20, 32, 39, 100],
-            Call::Desk => &[20, 21, 22, 100, 101, 102],
+            Call::Ceiling => &[43, 100],
+            Call::Check => &[43, 20, 32, 33, 34, 100],
+            Call::Analyse => &[43, 20, 21, 100, 101, 102],
+            Call::ReadTable => &[43, 20, 32, 35, 36, 37, 38, 100],
+            Call::WriteTable => &[43, 20, 32, 39, 100],
+            Call::Desk => &[43, 20, 21, 22, 100, 101, 102],
         };
         model.chain(more.iter().copied()).collect()
     }

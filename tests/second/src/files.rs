@@ -1,10 +1,11 @@
 //! Files: fields of a one-byte tag, a two-byte length, a payload; words of four bytes,
 //! highest byte first.
 
-use crate::model::{ask_records, Model, Piece, Plant, Sizes};
+use crate::model::{ask_records, Edition, Model, Piece, Plant, Sizes, EDITION_AT};
 use crate::tables::well_formed;
 use crate::Refusal;
 
+/// The first tag of a model file of edition 1.
 pub const HEAD: u8 = 1;
 pub const LOCATION: u8 = 2;
 pub const SWITCH: u8 = 3;
@@ -12,6 +13,21 @@ pub const FORBIDDEN: u8 = 4;
 pub const FACE: u8 = 5;
 pub const TABLE_HEAD: u8 = 6;
 pub const CUT: u8 = 8;
+/// The first tag of a model file of edition 2 (document 02, T-10).
+pub const HEAD_2: u8 = 9;
+
+/// Words of a model file's head field: n, L, E, B. The tag gives the edition.
+pub const HEAD_FIELD_WORDS: usize = 4;
+/// Bytes of the head field.
+pub const HEAD_FIELD_BYTES: usize = 3 + 4 * HEAD_FIELD_WORDS;
+
+/// The first tag of an edition.
+pub fn head_tag(edition: Edition) -> u8 {
+    match edition {
+        Edition::One => HEAD,
+        Edition::Two => HEAD_2,
+    }
+}
 
 /// The bytes of one field.
 pub fn field(tag: u8, words: &[i32]) -> Vec<u8> {
@@ -35,9 +51,11 @@ pub fn model_file(words: &[i32]) -> Vec<u8> {
 }
 
 /// The file of words with the fields that these sizes want, whatever the words are. A location has a
-/// field for its cut unless its two words are -1 and 0.
+/// field for its cut unless its two words are -1 and 0. An edition word that is neither 1 nor 2 has no
+/// tag: 0 stands there, which question 1 refuses.
 pub fn file_of_words(sizes: &Sizes, words: &[i32]) -> Vec<u8> {
-    let mut bytes = field(HEAD, &words[..4]);
+    let tag = Edition::ask(words[EDITION_AT]).map_or(0, head_tag);
+    let mut bytes = field(tag, &words[..HEAD_FIELD_WORDS]);
     for l in 0..sizes.locations {
         bytes.extend(field(LOCATION, &words[sizes.location_at(l)..sizes.location_at(l + 1)]));
     }
@@ -95,32 +113,34 @@ fn words_of(payload: &[u8]) -> impl Iterator<Item = i32> + '_ {
     payload.chunks_exact(4).map(|b| i32::from_be_bytes([b[0], b[1], b[2], b[3]]))
 }
 
-/// Questions 1 to 4 of a model file: its counts, and the cursor after its head.
-fn read_head(file: &[u8]) -> Result<(Sizes, Cursor<'_>), Refusal> {
+/// Questions 1 to 4 of a model file: its counts, its edition by the first tag, and the cursor after its head.
+fn read_head(file: &[u8]) -> Result<(Sizes, Edition, Cursor<'_>), Refusal> {
     let mut cursor = Cursor { bytes: file };
-    let Next::Payload(payload) = cursor.next(HEAD, 4) else {
+    let begins = |edition: &Edition| file.first() == Some(&head_tag(*edition));
+    let edition = Edition::BOTH.into_iter().find(begins).ok_or(1u32)?;
+    let Next::Payload(payload) = cursor.next(head_tag(edition), HEAD_FIELD_WORDS) else {
         return Err(1);
     };
     let mut words = words_of(payload);
-    let mut next = || words.next().expect("the head has four words");
+    let mut next = || words.next().expect("the head field has four words");
     let sizes = Sizes::ask(next(), next(), next(), next())?;
-    Ok((sizes, cursor))
+    Ok((sizes, edition, cursor))
 }
 
 /// A model file's words, held as long as they need to be: questions 1 to 4, 6 to 8, 11 to 19, 46.
 pub fn model_of_file(file: &[u8]) -> Result<Model, Refusal> {
-    let (sizes, cursor) = read_head(file)?;
-    read_records(cursor, sizes)
+    let (sizes, edition, cursor) = read_head(file)?;
+    read_records(cursor, sizes, edition)
 }
 
 /// Reads a model file into the word buffer and gives how many words it has.
 /// Refused by 6 to 8, 11 to 19 or 46: the whole buffer is zero. Refused by 1 to 5: unchanged.
 pub fn read_model(file: &[u8], buffer: &mut [i32]) -> Result<usize, Refusal> {
-    let (sizes, cursor) = read_head(file)?;
+    let (sizes, edition, cursor) = read_head(file)?;
     if buffer.len() < sizes.model_words() {
         return Err(5);
     }
-    match read_records(cursor, sizes) {
+    match read_records(cursor, sizes, edition) {
         Ok(model) => {
             buffer[..model.words.len()].copy_from_slice(&model.words);
             Ok(model.words.len())
@@ -133,9 +153,10 @@ pub fn read_model(file: &[u8], buffer: &mut [i32]) -> Result<usize, Refusal> {
 }
 
 /// Questions 6 to 8, 11 to 19 and 46: the words of the head, of the records and of the cuts behind it.
-fn read_records(mut cursor: Cursor, sizes: Sizes) -> Result<Model, Refusal> {
+fn read_records(mut cursor: Cursor, sizes: Sizes, edition: Edition) -> Result<Model, Refusal> {
     let mut words = Vec::with_capacity(sizes.model_words());
     words.extend([sizes.n, sizes.locations, sizes.switches, sizes.forbidden].map(|count| count as i32));
+    words.push(edition.word());
     let due = [
         (LOCATION, sizes.locations, sizes.location_words()),
         (SWITCH, sizes.switches, sizes.switch_words()),
@@ -151,8 +172,8 @@ fn read_records(mut cursor: Cursor, sizes: Sizes) -> Result<Model, Refusal> {
         }
     }
     words.extend(read_cuts(cursor, &sizes)?);
-    ask_records(&sizes, &words)?;
-    Ok(Model { sizes, words })
+    ask_records(&sizes, edition, &words)?;
+    Ok(Model { sizes, edition, words })
 }
 
 /// Where the end of the file is expected there may be cuts. Another tag gets 8. A cut's field that is

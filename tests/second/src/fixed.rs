@@ -1,16 +1,17 @@
 //! The comparison's fixed cases: the documents', source 000's examples, the sample models, and
 //! sweeps over every length, every bit and every word of small files. Those of the calls beside decide
 //! and check stand in `fixed_calls`, those of start boxes that cross the wall in `fixed_starts`, those of
-//! delays that all variables can live with in `fixed_delays`, those of locations that are cut in `fixed_cuts`.
+//! delays that all variables can live with in `fixed_delays`, those of locations that are cut in `fixed_cuts`,
+//! those of editions and reset ranges in `fixed_resets`.
 
 use crate::compare::{hex, written_table, Comparison, Difference, MOST_ROOM};
 use crate::draft::{grid, Draft};
-use crate::examples;
+use crate::examples::{self, set_to};
 use crate::exports::{Call, Input};
 use crate::files::{field, file_of_words, model_file, model_of_file, parse_table, table_file};
 use crate::fixed_calls::Whole;
 use crate::lending::Lengths;
-use crate::model::{Plant, LEVEL, RATE};
+use crate::model::{Plant, HEAD_WORDS, LEVEL, RATE};
 use crate::samples;
 
 /// The buffer that plant P needs.
@@ -65,6 +66,16 @@ fn p_table_file() -> Vec<u8> {
     let mut table = field(6, &[2]);
     table.extend(field(5, &[0, 0, 0, 0, 2, 5]));
     table.extend(field(5, &[0, 3, 2, 8, 10, 10]));
+    table
+}
+
+/// The table file of the answer of `set_to([2, 5])`, field by field.
+fn set_to_table_file() -> Vec<u8> {
+    let mut table = field(6, &[4]);
+    table.extend(field(5, &[0, 0, 0, 0, 0, 0]));
+    table.extend(field(5, &[0, 1, 10, 10, 0, 0]));
+    table.extend(field(5, &[0, 2, 0, 10, 0, 0]));
+    table.extend(field(5, &[1, 1, 10, 10, 2, 5]));
     table
 }
 
@@ -134,7 +145,7 @@ fn row_of_cells(size: usize) -> Draft {
     let walls = vec![(0..=40).map(|wall| 10 * wall).collect()];
     let mut draft = grid(&walls, |_| vec![1, 2]);
     draft.locations[0].start = Some(vec![0, 5]);
-    let rest = size - (4 + 40 * 9);
+    let rest = size - (HEAD_WORDS + 40 * 9);
     let switches = (7..10).find(|switches| (rest - switches * 10) % 3 == 0).expect("three in a row have every rest");
     draft.switches.truncate(switches);
     draft.forbidden = vec![(30, vec![303, 304]); (rest - switches * 10) / 3];
@@ -158,7 +169,8 @@ impl Comparison {
         self.fixed_calls()?;
         self.fixed_starts()?;
         self.fixed_delays()?;
-        self.fixed_cuts()
+        self.fixed_cuts()?;
+        self.fixed_resets()
     }
 
     /// A decide call whose number the document gives.
@@ -234,7 +246,7 @@ impl Comparison {
         self.check_gives("n 7", &seven, &field(6, &[0]), 2)?;
         self.decide_gives("n 7, records of n 6", &six_called_seven, MOST_ROOM, 5, answer(2, 0))?;
         self.decide_gives("an empty file", &[], P_ROOM, 5, answer(1, 0))?;
-        self.decide_gives("tag 9", &field(9, &[1, 1, 0, 0]), P_ROOM, 5, answer(1, 0))?;
+        self.decide_gives("tag 7", &field(7, &[1, 1, 0, 0]), P_ROOM, 5, answer(1, 0))?;
         Ok(())
     }
 
@@ -296,7 +308,7 @@ impl Comparison {
             let table = written_table(&plant, &buffer).to_vec();
             let longer = [&whole[..], &[4]].concat();
             let ends = [whole[..whole.len() - 1].to_vec(), longer, whole];
-            let heads = (0..4).flat_map(|index| EDGES.map(|edge| (index, edge)));
+            let heads = (0..HEAD_WORDS).flat_map(|index| EDGES.map(|edge| (index, edge)));
             let others = heads.map(|(index, edge)| {
                 let mut changed = words.clone();
                 changed[index] = edge;
@@ -384,16 +396,18 @@ impl Comparison {
         Ok(())
     }
 
-    /// P's file and its table file at every length, and every bit of both flipped; the same of P cut.
+    /// P's file and its table file at every length, and every bit of both flipped; the same of P cut and of a plant of
+    /// edition 2.
     fn lengths_and_bits(&mut self) -> Result<(), Difference> {
-        for (p, table) in [(p_file(), p_table_file()), (cut_p_file(), cut_p_table_file())] {
+        let ranged = (model_file(&set_to([2, 5]).words()), set_to_table_file());
+        for (p, table) in [(p_file(), p_table_file()), (cut_p_file(), cut_p_table_file()), ranged] {
             for length in 0..p.len() {
-                self.decide("P's file ends early", &p[..length], MOST_ROOM, 9)?;
-                self.check("P's file ends early", &p[..length], &table)?;
+                self.decide("a file ends early", &p[..length], MOST_ROOM, 9)?;
+                self.check("a file ends early", &p[..length], &table)?;
                 self.counts.fixed += 2;
             }
             for length in 0..table.len() {
-                self.check("P's table ends early", &p, &table[..length])?;
+                self.check("a table ends early", &p, &table[..length])?;
                 self.counts.fixed += 1;
             }
             for bit in 0..8 * p.len() {
@@ -414,20 +428,20 @@ impl Comparison {
     }
 
     /// Every word of the water-level model at every edge, without cuts and with cuts in two of its four
-    /// locations.
+    /// locations, and of a plant of edition 2.
     fn words_of_a_model(&mut self) -> Result<(), Difference> {
-        for draft in [examples::water_level(20), examples::water_level_cut()] {
+        for draft in [examples::water_level(20), examples::water_level_cut(), set_to([2, 5])] {
             let words = draft.words();
             let plant = Plant::from_words(&words).expect("an example passes its questions");
-            let (_, buffer) = self.decide("the water level", &model_file(&words), MOST_ROOM, 1_000)?;
+            let (_, buffer) = self.decide("a plant", &model_file(&words), MOST_ROOM, 1_000)?;
             let table = written_table(&plant, &buffer).to_vec();
             for index in 0..words.len() {
                 for edge in EDGES {
                     let mut changed = words.clone();
                     changed[index] = edge;
                     let changed = file_of_words(&plant.sizes, &changed);
-                    self.decide("the water level with another word", &changed, MOST_ROOM, 20)?;
-                    self.check("the water level with another word", &changed, &table)?;
+                    self.decide("a plant with another word", &changed, MOST_ROOM, 20)?;
+                    self.check("a plant with another word", &changed, &table)?;
                     self.counts.fixed += 2;
                 }
             }

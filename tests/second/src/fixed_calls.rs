@@ -8,6 +8,7 @@ use crate::examples;
 use crate::exports::{Call, Input, Slice};
 use crate::files::{field, model_file, table_file};
 use crate::fixed::EDGES;
+use crate::generate::close;
 use crate::lending::{Left, Lengths};
 use crate::model::{words_per_location, Plant, LEVEL};
 
@@ -44,6 +45,15 @@ impl Whole {
     /// P cut at x = 5.
     pub(crate) fn cut_p() -> Whole {
         Whole::new(&examples::plant_p_cut(), examples::plant_p_cut_table())
+    }
+
+    /// A plant with its table at rest.
+    pub(crate) fn at_rest(draft: &Draft) -> Whole {
+        let words = draft.words();
+        let plant = Plant::from_words(&words).expect("an example passes its questions");
+        let mut table = vec![0; plant.table_words()];
+        close(&plant, &mut table, 1_000);
+        Whole::new(draft, table)
     }
 
     pub(crate) fn input(&self, call: Call, limit: u32) -> Input<'_> {
@@ -106,7 +116,7 @@ impl Comparison {
         let p = Whole::p();
         let lengths = p.lengths(Call::Analyse);
         for (call, number, value) in [
-            (Call::ReadModel, 100, 24),
+            (Call::ReadModel, 100, 25),
             (Call::Ceiling, 100, 44),
             (Call::Check, 100, 0),
             (Call::Analyse, 100, 1),
@@ -138,14 +148,15 @@ impl Comparison {
         for (list, number) in [
             (&[][..], 5),
             (&[7, 1, 0], 5),
-            (&[7, 1, 0, 0], 2),
-            (&[0, 65, 0, 0], 2),
-            (&[6, 65, -1, 0], 3),
-            (&[1, 1, 129, 0], 4),
-            (&[1, 1, 0, 65], 4),
-            (&[1, 1, 0, 0], 5),
+            (&[7, 1, 0, 0], 5),
+            (&[7, 1, 0, 0, 1], 2),
+            (&[0, 65, 0, 0, 1], 2),
+            (&[6, 65, -1, 0, 1], 3),
+            (&[1, 1, 129, 0, 1], 4),
+            (&[1, 1, 0, 65, 1], 4),
+            (&[1, 1, 0, 0, 1], 5),
         ] {
-            for call in [Call::Ceiling, Call::Check, Call::Analyse, Call::ReadTable, Call::WriteTable, Call::Desk] {
+            for call in Call::ON_WORDS {
                 self.gives("a short list", call, &Input { model: list, ..none }, &lengths, (number, 0))?;
             }
         }
@@ -204,9 +215,10 @@ impl Comparison {
         Ok(())
     }
 
-    /// Every slice of every call, of every length up to three more than is due, on plant P, cut and not.
+    /// Every slice of every call, of every length up to three more than is due, on plant P, cut and not, and on a plant
+    /// of edition 2.
     fn every_length(&mut self) -> Result<(), Difference> {
-        for p in [Whole::p(), Whole::cut_p()] {
+        for p in [Whole::p(), Whole::cut_p(), Whole::at_rest(&examples::set_to([2, 5]))] {
             let more = [1, 0, -1];
             let longer = |list: &[i32]| [list, &more[..]].concat();
             let (model, table) = (longer(&p.model), longer(&p.table));
@@ -241,15 +253,11 @@ impl Comparison {
     }
 
     /// Every word of the water-level model at every edge, in every call that takes model words; the same
-    /// with cuts in two of its locations.
+    /// with cuts in two of its locations, and of a plant of edition 2.
     fn every_word_of_a_model(&mut self) -> Result<(), Difference> {
-        let label = "the water level with another word";
-        for draft in [examples::water_level(20), examples::water_level_cut()] {
-            let words = draft.words();
-            let plant = Plant::from_words(&words).expect("an example passes its questions");
-            let mut table = vec![0; plant.table_words()];
-            crate::generate::close(&plant, &mut table, 1_000);
-            let whole = Whole::new(&draft, table);
+        let label = "a plant with another word";
+        for draft in [examples::water_level(20), examples::water_level_cut(), examples::set_to([2, 5])] {
+            let (words, whole) = (draft.words(), Whole::at_rest(&draft));
             for index in 0..words.len() {
                 for edge in EDGES {
                     let mut changed = words.clone();
@@ -264,9 +272,9 @@ impl Comparison {
         Ok(())
     }
 
-    /// Every word of P's table at every edge, cut and not.
+    /// Every word of P's table at every edge, cut and not, and of the table of a plant of edition 2.
     fn every_word_of_a_table(&mut self) -> Result<(), Difference> {
-        for p in [Whole::p(), Whole::cut_p()] {
+        for p in [Whole::p(), Whole::cut_p(), Whole::at_rest(&examples::set_to([2, 5]))] {
             for index in 0..p.table.len() {
                 for edge in EDGES {
                     let mut changed = p.table.clone();
@@ -281,9 +289,10 @@ impl Comparison {
         Ok(())
     }
 
-    /// P's file and its table file at every length, and every bit of both flipped; the same of P cut.
+    /// P's file and its table file at every length, and every bit of both flipped; the same of P cut and of a plant of
+    /// edition 2.
     fn every_end_and_bit(&mut self) -> Result<(), Difference> {
-        for p in [Whole::p(), Whole::cut_p()] {
+        for p in [Whole::p(), Whole::cut_p(), Whole::at_rest(&examples::set_to([2, 5]))] {
             for call in [Call::ReadModel, Call::ReadTable] {
                 let (whole, lengths) = (p.input(call, 0), p.lengths(call));
                 for length in 0..whole.file.len() {

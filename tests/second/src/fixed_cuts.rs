@@ -3,7 +3,7 @@
 
 use crate::compare::{hex, Comparison, Difference, MOST_ROOM};
 use crate::draft::{Draft, LocationDraft};
-use crate::examples;
+use crate::examples::{self, P_CUT, P_FORBIDDEN, P_LOCATION, P_WORDS};
 use crate::exports::{Call, Input};
 use crate::files::{field, file_of_words, model_file};
 use crate::fixed::{answer, cut_p_file, cut_p_table_file, p_file};
@@ -15,9 +15,6 @@ use crate::model::{Sizes, LEVEL};
 const CUT_P_ROOM: usize = 7 + 8 * (15 + 16);
 
 const LIMIT: u32 = 9;
-
-/// The calls that take model words.
-const ON_WORDS: [Call; 6] = [Call::Ceiling, Call::Check, Call::Analyse, Call::ReadTable, Call::WriteTable, Call::Desk];
 
 /// The water-level plant with these fields behind its boxes.
 fn water_level_with(fields: &[[i32; 3]]) -> Vec<u8> {
@@ -40,7 +37,7 @@ fn files_of_p() -> Vec<(&'static str, Vec<u8>, u32)> {
     let cut = |location, variable, value| field(8, &[location, variable, value]);
     let after = |first: Vec<u8>, more: &[u8]| [&first, more].concat();
     // A level of 1,000,001 (11), and a box of location 1 (19).
-    let (bad_invariant, bad_box) = ([(7, LEVEL + 1)], [(17, 1)]);
+    let (bad_invariant, bad_box) = ([(P_LOCATION + 3, LEVEL + 1)], [(P_FORBIDDEN, 1)]);
     vec![
         ("the first byte of a cut", p(&[8]), 46),
         ("two bytes of a cut", p(&[8, 0]), 46),
@@ -191,7 +188,7 @@ impl Comparison {
         self.decide_gives("P cut, the buffer of P", &p, 7 + 4 * 27, 9, answer(39, 0))?;
         let whole = Whole::cut_p();
         for (call, number, value) in [
-            (Call::ReadModel, 100, 24),
+            (Call::ReadModel, 100, 25),
             // On both walls of x 1 + 10; on both walls of y the two pieces 1 + 5 each.
             (Call::Ceiling, 100, 46),
             (Call::Check, 100, 0),
@@ -246,8 +243,8 @@ impl Comparison {
         let none = Input { model: &[], table: &[], file: &[], limit: 0 };
         for (cut, number) in WORDS_OF_P {
             let mut model = examples::plant_p().words();
-            model[22..].copy_from_slice(&cut);
-            for call in ON_WORDS {
+            model[P_CUT..].copy_from_slice(&cut);
+            for call in Call::ON_WORDS {
                 // With no buffers at all, so that every call stops at 20 if it comes so far.
                 let wanted = match (number, call) {
                     (100, Call::Ceiling) => continue,
@@ -257,14 +254,14 @@ impl Comparison {
                 let input = Input { model: &model, ..none };
                 self.gives("P with a cut", call, &input, &Lengths::default(), (wanted, 0))?;
                 // One word short: 5, whatever the words are.
-                let input = Input { model: &model[..23], ..none };
+                let input = Input { model: &model[..P_WORDS - 1], ..none };
                 self.gives("P with half a cut", call, &input, &Lengths::default(), (5, 0))?;
             }
             // A bad box comes first, and so does a bad invariant.
-            for (place, word, earlier) in [(17, 1, 19), (7, LEVEL + 1, 11)] {
+            for (place, word, earlier) in [(P_FORBIDDEN, 1, 19), (P_LOCATION + 3, LEVEL + 1, 11)] {
                 let mut model = model.clone();
                 model[place] = word;
-                for call in ON_WORDS {
+                for call in Call::ON_WORDS {
                     let input = Input { model: &model, ..none };
                     self.gives("P, wrong before its cut", call, &input, &Lengths::default(), (earlier, 0))?;
                 }

@@ -8,7 +8,7 @@ use crate::exports::{Call, Input};
 use crate::files::{field, file_of_words};
 use crate::fixed::answer;
 use crate::lending::Lengths;
-use crate::model::{Plant, Sizes, LEVEL, RATE};
+use crate::model::{Plant, Sizes, HEAD_WORDS, LEVEL, RATE};
 
 const LIMIT: u32 = 9;
 
@@ -68,7 +68,7 @@ type Changes = Vec<(usize, i32)>;
 /// Changes to the words of the water level's four locations of 13 words each (invariant, rates, flag, start
 /// box) and of its switches, and the number of the first that is asked.
 fn in_order() -> Vec<(&'static str, Changes, u32)> {
-    let at = |location: usize, word: usize| 4 + 13 * location + word;
+    let at = |location: usize, word: usize| HEAD_WORDS + 13 * location + word;
     let (bad_invariant, bad_rates) = (LEVEL + 1, RATE + 1);
     let bad_start = |location: usize| (at(location, 9), LEVEL + 1);
     vec![
@@ -196,7 +196,7 @@ fn tables_of_pieces() -> Vec<OfTable> {
     ]
 }
 
-fn unwanted(label: &str, wanted: impl std::fmt::Debug, found: impl std::fmt::Debug) -> Difference {
+pub(crate) fn unwanted(label: &str, wanted: impl std::fmt::Debug, found: impl std::fmt::Debug) -> Difference {
     Difference { text: format!("{label}: wanted {wanted:?}, both give {found:?}") }
 }
 
@@ -225,8 +225,15 @@ impl Comparison {
         self.one_recipe()
     }
 
-    /// Question 13 in every call on words; a model that passes it has this ceiling and gets 20 without buffers.
-    fn asked_of_words(&mut self, label: &str, words: &[i32], number: u32, ceiling: u64) -> Result<(), Difference> {
+    /// The model's questions in every call on words; a model that passes them has this ceiling and gets 20 without
+    /// buffers.
+    pub(crate) fn asked_of_words(
+        &mut self,
+        label: &str,
+        words: &[i32],
+        number: u32,
+        ceiling: u64,
+    ) -> Result<(), Difference> {
         let input = Input { model: words, table: &[], file: &[], limit: LIMIT };
         let of_ceiling = (number, if number == 100 { ceiling } else { 0 });
         self.gives(label, Call::Ceiling, &input, &Lengths::default(), of_ceiling)?;
@@ -237,8 +244,14 @@ impl Comparison {
         Ok(())
     }
 
-    /// Question 13 in every call on files. A refusal zeroes the word buffer that is read into.
-    fn asked_of_file(&mut self, label: &str, file: &[u8], words: usize, number: u32) -> Result<(), Difference> {
+    /// A question of records in every call on files. A refusal zeroes the word buffer that is read into.
+    pub(crate) fn asked_of_file(
+        &mut self,
+        label: &str,
+        file: &[u8],
+        words: usize,
+        number: u32,
+    ) -> Result<(), Difference> {
         let (decided, _) = self.decide(label, file, MOST_ROOM, LIMIT)?;
         let checked = self.check(label, file, &field(6, &[0]))?;
         self.counts.fixed += 2;

@@ -7,7 +7,7 @@ use crate::analysis::{run_quick, Answer};
 use crate::ceiling;
 use crate::delays::touches;
 use crate::draft::{grid, Draft, LocationDraft, SwitchDraft};
-use crate::model::{Piece, Plant, LEVEL, MAX_FORBIDDEN, MAX_LOCATIONS, MAX_SWITCHES, RATE};
+use crate::model::{Edition, Piece, Plant, LEVEL, MAX_FORBIDDEN, MAX_LOCATIONS, MAX_SWITCHES, RATE};
 use crate::random::Random;
 use crate::starts::{table_of_whole_boxes, whole_box_touches};
 use crate::tables::{pass, Pass};
@@ -16,11 +16,26 @@ use crate::tables::{pass, Pass};
 
 /// A random model that keeps all rules.
 pub fn random_model(random: &mut Random) -> Draft {
-    let mut draft = if random.chance(1, 4) { random_grid(random) } else { random_free(random) };
+    let edition = random_edition(random);
+    let mut draft = if random.chance(1, 4) { random_grid(random, edition) } else { random_free(random, edition) };
     random_starts(random, &mut draft);
     random_forbidden(random, &mut draft);
     random_cuts(random, &mut draft);
     draft
+}
+
+/// Either edition.
+pub(crate) fn random_edition(random: &mut Random) -> Edition {
+    random.pick(&Edition::BOTH)
+}
+
+/// Locations and switches, without a start, a forbidden box and a cut.
+pub(crate) fn random_plant(random: &mut Random, edition: Edition) -> Draft {
+    if random.chance(1, 3) {
+        random_grid(random, edition)
+    } else {
+        random_free(random, edition)
+    }
 }
 
 /// Passes that are made at most to find out what helps a random model: its cuts, its start parts or the cut of its
@@ -34,7 +49,8 @@ const MOST_HELPED: usize = 12;
 pub fn helped_model(random: &mut Random) -> Draft {
     let mut draft = Draft::default();
     for _ in 0..20 {
-        draft = if random.chance(1, 3) { random_grid(random) } else { random_free(random) };
+        let edition = random_edition(random);
+        draft = random_plant(random, edition);
         place_starts(random, &mut draft, (1, 4));
         cut_locations(random, &mut draft, 1, 1);
         if let Some(found) = helped_box(random, &draft) {
@@ -51,7 +67,8 @@ pub fn helped_model(random: &mut Random) -> Draft {
 pub fn crossing_model(random: &mut Random) -> Draft {
     let mut draft = Draft::default();
     for _ in 0..20 {
-        draft = if random.chance(1, 3) { random_grid(random) } else { random_free(random) };
+        let edition = random_edition(random);
+        draft = random_plant(random, edition);
         place_starts(random, &mut draft, (1, 1));
         random_cuts(random, &mut draft);
         if let Some(found) = box_beyond_starts(random, &draft) {
@@ -131,7 +148,7 @@ pub fn extreme_model(random: &mut Random) -> Draft {
     // Now and then so many locations and variables that the ceiling needs more than 32 bits.
     let (n, locations) =
         if random.chance(1, 12) { (6, 40 + random.below(25)) } else { (random_n(random), 1 + random.below(4)) };
-    let mut draft = Draft { n, ..Draft::default() };
+    let mut draft = Draft { n, edition: random_edition(random), ..Draft::default() };
     for _ in 0..locations {
         let mut ends = |list: &[i32]| -> Vec<i32> {
             (0..n)
@@ -175,7 +192,7 @@ pub fn long_model(random: &mut Random) -> Draft {
     let falls = random.chance(1, 2);
     let (first, rates) = if falls { (high, [-flow, 0]) } else { (low, [0, flow]) };
     let start = long_start(random, first, falls);
-    let mut draft = Draft { n: 2, ..Draft::default() };
+    let mut draft = Draft { n: 2, edition: random_edition(random), ..Draft::default() };
     for l in 0..locations {
         draft.locations.push(LocationDraft {
             invariant: vec![0, stroke, low, high],
@@ -278,8 +295,29 @@ fn random_near(random: &mut Random, low: i32, high: i32) -> [i32; 2] {
     }
 }
 
-/// Cells in a grid, with random rates.
-fn random_grid(random: &mut Random) -> Draft {
+/// A reset range near low..high: mostly inside it, now and then all of it, a single value, sticking out on one
+/// side or on both, onto the wall alone, or outside. Where there is no level beyond, it ends at the last one.
+fn random_reset(random: &mut Random, low: i32, high: i32) -> [i32; 2] {
+    let mut beyond = || if random.chance(1, 12) { 2 * LEVEL } else { random.range(1, 6) as i32 };
+    let (below, above) = (low - beyond(), high + beyond());
+    let at = random.range(low as i64, high as i64) as i32;
+    let range = match random.below(16) {
+        0..=5 => random_range(random, low, high),
+        6 => [low, high],
+        7 | 8 => [at, at],
+        9 => [below, at],
+        10 => [at, above],
+        11 => [below, above],
+        12 => [below, low],
+        13 => [high, above],
+        14 => [below, low - 1],
+        _ => [high + 1, above],
+    };
+    range.map(|end| end.clamp(-LEVEL, LEVEL))
+}
+
+/// Cells in a grid, with random rates. In edition 2 some switches more, across the grid.
+fn random_grid(random: &mut Random, edition: Edition) -> Draft {
     let n = random_n(random);
     let width = random.pick(&[1, 2, 3, 5, 8, 50]);
     let mut room = if random.chance(1, 8) { MAX_LOCATIONS } else { 8 };
@@ -293,11 +331,18 @@ fn random_grid(random: &mut Random) -> Draft {
     }
     let mut rates_of = random.clone();
     random.next();
-    grid(&walls, |_| random_rates(&mut rates_of, n))
+    let mut draft = Draft { edition, ..grid(&walls, |_| random_rates(&mut rates_of, n)) };
+    if edition == Edition::Two {
+        for _ in 0..random.below(4).min(MAX_SWITCHES - draft.switches.len()) {
+            let switch = random_switch(random, &draft);
+            draft.switches.push(switch);
+        }
+    }
+    draft
 }
 
 /// Locations and switches thrown together.
-fn random_free(random: &mut Random) -> Draft {
+fn random_free(random: &mut Random, edition: Edition) -> Draft {
     let n = random_n(random);
     let values: Vec<Vec<i32>> = (0..n).map(|_| random_values(random)).collect();
     let locations = match random.below(20) {
@@ -306,7 +351,7 @@ fn random_free(random: &mut Random) -> Draft {
         2..=5 => 1,
         _ => 1 + random.below(6),
     };
-    let mut draft = Draft { n, ..Draft::default() };
+    let mut draft = Draft { n, edition, ..Draft::default() };
     for _ in 0..locations {
         let mut invariant = Vec::new();
         for values in &values {
@@ -332,7 +377,7 @@ fn random_free(random: &mut Random) -> Draft {
     draft
 }
 
-/// A switch that passes its questions.
+/// A switch that passes its questions in the draft's edition.
 pub(crate) fn random_switch(random: &mut Random, draft: &Draft) -> SwitchDraft {
     let n = draft.n;
     let count = draft.locations.len();
@@ -353,7 +398,8 @@ pub(crate) fn random_switch(random: &mut Random, draft: &Draft) -> SwitchDraft {
     let to = &draft.locations[target].invariant;
     let mut mask = 0u32;
     for i in 0..n {
-        if random.chance(1, 5) {
+        let likely = if draft.edition == Edition::Two && i != d { 2 } else { 1 };
+        if random.chance(likely, 5) {
             mask |= 1 << i;
         }
     }
@@ -376,7 +422,9 @@ pub(crate) fn random_switch(random: &mut Random, draft: &Draft) -> SwitchDraft {
             continue;
         }
         guard.extend(random_near(random, from[2 * i], from[2 * i + 1]));
-        if masked {
+        if masked && draft.edition == Edition::Two {
+            reset.extend(random_reset(random, to[2 * i], to[2 * i + 1]));
+        } else if masked {
             let near = random_near(random, to[2 * i], to[2 * i + 1]);
             reset.extend([near[0], near[0]]);
         } else {

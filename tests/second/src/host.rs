@@ -3,11 +3,11 @@
 use crate::analysis::{run, run_quick, Answer};
 use crate::checker::{ask_fixpoint, ask_fixpoint_quick};
 use crate::files::{model_of_file, parse_table, table_file};
-use crate::model::{Plant, MAX_FORBIDDEN, MAX_LOCATIONS, MAX_SWITCHES};
+use crate::model::{Plant, HEAD_WORDS, MAX_FORBIDDEN, MAX_LOCATIONS, MAX_SWITCHES};
 use crate::Refusal;
 
 /// Words of the largest model: the host's own buffer is always long enough.
-pub const MOST_MODEL_WORDS: usize = 4 + MAX_LOCATIONS * (37 + 2) + MAX_SWITCHES * 30 + MAX_FORBIDDEN * 13;
+pub const MOST_MODEL_WORDS: usize = HEAD_WORDS + MAX_LOCATIONS * (37 + 2) + MAX_SWITCHES * 30 + MAX_FORBIDDEN * 13;
 
 type Run = fn(&Plant, u32, &mut [i32], &mut [i32]) -> (Answer, u32);
 type Ask = fn(&Plant, &[i32]) -> Result<(), Refusal>;

@@ -5,12 +5,12 @@ use std::cmp::Ordering;
 
 use crate::compare::{hex, Comparison, Difference};
 use crate::coverage::note;
-use crate::damage::{damage_table, damaged_starts, edited_words, START_DAMAGE};
+use crate::damage::{damage_table, damaged_ranges, damaged_starts, edited_words, RANGE_DAMAGE, START_DAMAGE};
 use crate::desk::Desk;
 use crate::exports::{answer, Call, Input, Lent, Slice};
 use crate::files::{model_file, table_file};
 use crate::generate::{pass_budget, random_limit};
-use crate::model::Plant;
+use crate::model::{Plant, HEAD_WORDS};
 use crate::random::Random;
 
 /// Words or bytes on both sides of a lent buffer that nobody may touch, unless the comparison is tight.
@@ -276,7 +276,7 @@ impl Comparison {
                 Slice::Work => (lengths.work, false),
                 Slice::FileRoom => (lengths.file, false),
             };
-            if read || matches!(left.number, 5 | 20..) {
+            if read || matches!(left.number, 5 | 20..=39 | 100..) {
                 let kind = length_kind(length, due.of(call, slice));
                 note(&mut self.counts.lengths, format!("{} {slice:?} {kind}", call.name()));
             }
@@ -403,13 +403,13 @@ impl Comparison {
     /// Model words, edited, shortened or thrown together.
     fn damaged_words(&mut self, plant: &Plant) -> Vec<i32> {
         let random = &mut self.random;
-        let (words, kind) = match random.below(14) {
+        let (words, kind) = match random.below(18) {
             0 => {
                 let length = random.below(plant.words().len());
                 (of_length(random, plant.words(), length), "ends anywhere")
             }
             1 => {
-                let length = random.below(6);
+                let length = random.below(HEAD_WORDS + 2);
                 (of_length(random, plant.words(), length), "ends at the head")
             }
             2 => ((0..random.below(30)).map(|_| random.range(-1, 3) as i32).collect(), "random words"),
@@ -422,6 +422,16 @@ impl Comparison {
             4 | 5 => {
                 let (words, kind) = damaged_starts(random, plant);
                 (words, START_DAMAGE[kind].0)
+            }
+            6..=8 => {
+                let (words, kind) = damaged_ranges(random, plant);
+                (words, RANGE_DAMAGE[kind].0)
+            }
+            9 => {
+                let length = HEAD_WORDS - random.below(3);
+                let mut words = plant.words()[..length].to_vec();
+                words[random.below(2)] = random.pick(&[0, 65, -1]);
+                (words, "a bad count, and ends at the head")
             }
             _ => (edited_words(random, plant), "words at the edge of a question"),
         };

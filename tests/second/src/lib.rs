@@ -3,7 +3,8 @@
 //! Written from documents 01 and 02 and their readings alone, to be compared with the
 //! program under test. It uses the standard library only.
 //!
-//! * `model`     – sizes and places, model words, questions 2 to 5, 11 to 19 and 46; start parts, pieces of faces
+//! * `model`     – sizes and places, model words, editions, questions 2 to 5, 43, 11 to 19 and 46; start parts,
+//!   pieces of faces
 //! * `fraction`  – exact fractions
 //! * `delays`    – delays to a wall, those that all variables can live with; touching by one delay for all variables
 //! * `steps`     – wall step, switch step, join
@@ -17,12 +18,14 @@
 //! * `generate`  – random models and tables, `pumps` random pump plants, `damage` damaged inputs; `random` is
 //!   their number source
 //! * `starts`    – start boxes that cross the wall: their kinds, trimmed to their start parts, taken whole
+//! * `ranges`    – reset ranges: their kinds, other ranges, random models that hang on them
 //! * `examples`  – document 01's plant P, source 000's examples and more; `samples` names those in `models`
 //! * `exports`   – the C calls beside decide and check: number, value, lent memory
 //! * `compare`   – compares two implementations of the C calls, `lending` those of `exports`;
-//!   `trimming` a model and the same one with its start boxes trimmed; `changes` counts what T-06 changes, and holds
-//!   what it must not; `fixed`, `fixed_calls`, `fixed_starts`,
-//!   `fixed_delays` and `fixed_cuts` have the fixed cases, `coverage` counts what came up
+//!   `trimming` a model and the same one with its start boxes trimmed; `editions` a model in both editions, and with
+//!   narrower ranges; `changes` counts what T-06 changes, and holds what it must not; `fixed`, `fixed_calls`,
+//!   `fixed_starts`, `fixed_delays`, `fixed_cuts` and `fixed_resets` have the fixed cases, `coverage` counts what came
+//!   up
 //! * `host_ffi`  – the C calls of libhost.a (feature `host`), or a stand-in
 
 pub mod analysis;
@@ -37,6 +40,7 @@ pub mod damage;
 pub mod delays;
 pub mod desk;
 pub mod draft;
+pub mod editions;
 pub mod examples;
 pub mod exports;
 pub mod files;
@@ -44,6 +48,7 @@ pub mod fixed;
 pub mod fixed_calls;
 pub mod fixed_cuts;
 pub mod fixed_delays;
+pub mod fixed_resets;
 pub mod fixed_starts;
 pub mod fraction;
 pub mod generate;
@@ -55,6 +60,7 @@ pub mod model;
 pub mod plain;
 pub mod pumps;
 pub mod random;
+pub mod ranges;
 pub mod samples;
 pub mod simulate;
 pub mod starts;

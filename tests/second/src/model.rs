@@ -15,12 +15,51 @@ pub const MAX_FORBIDDEN: usize = 64;
 /// Room for the bounds of one box of the largest n.
 pub const MAX_BOX: usize = 2 * MAX_VARIABLES;
 
+/// Words at the head of a model: n, L, E, B and the edition (document 02, T-10).
+pub const HEAD_WORDS: usize = 5;
+/// Place of the edition, the head's last word.
+pub const EDITION_AT: usize = HEAD_WORDS - 1;
+/// Words of a switch before its boxes: source, target, d, both sides and the mask.
+pub const SWITCH_HEAD: usize = 6;
+
 /// Table words of one location without a cut (document 02, T-04).
 pub fn words_per_location(n: usize) -> usize {
     2 * n * (1 + 2 * n)
 }
 
-/// The four numbers at the head of a model, once they have been allowed.
+/// A model's edition (document 02, T-10). In the first a masked variable has one reset value; in the second one
+/// other than d may have a reset range.
+#[derive(Clone, Copy, Debug, Default, PartialEq, Eq)]
+pub enum Edition {
+    #[default]
+    One,
+    Two,
+}
+
+impl Edition {
+    pub const BOTH: [Edition; 2] = [Edition::One, Edition::Two];
+
+    /// Question 43 of the edition word.
+    pub fn ask(word: i32) -> Result<Edition, Refusal> {
+        Edition::BOTH.into_iter().find(|edition| edition.word() == word).ok_or(43)
+    }
+
+    pub fn word(self) -> i32 {
+        match self {
+            Edition::One => 1,
+            Edition::Two => 2,
+        }
+    }
+
+    pub fn other(self) -> Edition {
+        match self {
+            Edition::One => Edition::Two,
+            Edition::Two => Edition::One,
+        }
+    }
+}
+
+/// The four counts at the head of a model, once they have been allowed.
 #[derive(Clone, Copy, Debug, PartialEq, Eq)]
 pub struct Sizes {
     pub n: usize,
@@ -30,7 +69,7 @@ pub struct Sizes {
 }
 
 impl Sizes {
-    /// Questions 2, 3 and 4 of the head's four words.
+    /// Questions 2, 3 and 4 of the head's four counts.
     pub fn ask(n: i32, l: i32, e: i32, b: i32) -> Result<Sizes, Refusal> {
         if !(1..=MAX_VARIABLES as i32).contains(&n) {
             return Err(2);
@@ -48,18 +87,22 @@ impl Sizes {
         6 * self.n + 1
     }
     pub fn switch_words(&self) -> usize {
-        6 + 4 * self.n
+        SWITCH_HEAD + 4 * self.n
     }
     pub fn forbidden_words(&self) -> usize {
         1 + 2 * self.n
     }
     /// Place of the first word of location l.
     pub fn location_at(&self, l: usize) -> usize {
-        4 + l * self.location_words()
+        HEAD_WORDS + l * self.location_words()
     }
     /// Place of the first word of switch s.
     pub fn switch_at(&self, s: usize) -> usize {
         self.location_at(self.locations) + s * self.switch_words()
+    }
+    /// Place of the low of variable i in switch s's reset box; the high comes behind it.
+    pub fn reset_at(&self, s: usize, i: usize) -> usize {
+        self.switch_at(s) + SWITCH_HEAD + 2 * self.n + 2 * i
     }
     /// Place of the first word of forbidden box f.
     pub fn forbidden_at(&self, f: usize) -> usize {
@@ -103,6 +146,7 @@ pub struct Piece {
 #[derive(Clone, Copy, Debug)]
 pub struct Plant<'a> {
     pub sizes: Sizes,
+    pub edition: Edition,
     words: &'a [i32],
     /// The words of the cuts, at the end of all words.
     cuts: &'a [i32],
@@ -151,7 +195,14 @@ pub struct Switch<'a> {
     pub target_side: usize,
     pub mask: u32,
     pub guard: &'a [i32],
+    /// The reset box: of a masked variable the range that it is set to.
     pub reset: &'a [i32],
+}
+
+impl Switch<'_> {
+    pub fn masked(&self, i: usize) -> bool {
+        self.mask >> i & 1 == 1
+    }
 }
 
 #[derive(Clone, Copy, Debug)]
@@ -163,19 +214,29 @@ pub struct Forbidden<'a> {
 /// A model out of a file, once it has passed its questions.
 pub struct Model {
     pub sizes: Sizes,
+    pub edition: Edition,
     pub words: Vec<i32>,
 }
 
 impl Model {
     pub fn plant(&self) -> Plant<'_> {
-        Plant::new(self.sizes, &self.words)
+        Plant::new(self.sizes, self.edition, &self.words)
     }
+}
+
+/// The questions of the head of a list of words: 5 under five words, then 2 to 4, then 43.
+pub fn ask_head(list: &[i32]) -> Result<(Sizes, Edition), Refusal> {
+    let &[n, l, e, b, edition, ..] = list else {
+        return Err(5);
+    };
+    Ok((Sizes::ask(n, l, e, b)?, Edition::ask(edition)?))
 }
 
 impl<'a> Plant<'a> {
     /// Words that have passed all questions, with their sizes.
-    fn new(sizes: Sizes, words: &'a [i32]) -> Plant<'a> {
-        let mut plant = Plant { sizes, words, cuts: &words[sizes.cut_at(0)..], before: [0; MAX_LOCATIONS + 1] };
+    fn new(sizes: Sizes, edition: Edition, words: &'a [i32]) -> Plant<'a> {
+        let cuts = &words[sizes.cut_at(0)..];
+        let mut plant = Plant { sizes, edition, words, cuts, before: [0; MAX_LOCATIONS + 1] };
         for l in 0..sizes.locations {
             let pieces = sizes.faces() * if plant.cut(l).is_some() { 2 } else { 1 };
             plant.before[l + 1] = plant.before[l] + pieces as u16;
@@ -183,18 +244,15 @@ impl<'a> Plant<'a> {
         plant
     }
 
-    /// All questions of a model given as words: 5 under four words, then 2 to 5, 11 to 19, 46.
+    /// All questions of a model given as words: those of its head, then 5, 11 to 19, 46.
     pub fn from_words(list: &'a [i32]) -> Result<Plant<'a>, Refusal> {
-        if list.len() < 4 {
-            return Err(5);
-        }
-        let sizes = Sizes::ask(list[0], list[1], list[2], list[3])?;
+        let (sizes, edition) = ask_head(list)?;
         if list.len() < sizes.model_words() {
             return Err(5);
         }
         let words = &list[..sizes.model_words()];
-        ask_records(&sizes, words)?;
-        Ok(Plant::new(sizes, words))
+        ask_records(&sizes, edition, words)?;
+        Ok(Plant::new(sizes, edition, words))
     }
 
     /// The model's own words.
@@ -309,8 +367,8 @@ impl<'a> Plant<'a> {
             source_side: record[3] as usize,
             target_side: record[4] as usize,
             mask: record[5] as u32,
-            guard: &record[6..6 + two_n],
-            reset: &record[6 + two_n..],
+            guard: &record[SWITCH_HEAD..SWITCH_HEAD + two_n],
+            reset: &record[SWITCH_HEAD + two_n..],
         }
     }
 
@@ -330,9 +388,16 @@ pub fn ordered_inside(bounds: &[i32], outer: &[i32]) -> bool {
     bounds.chunks_exact(2).zip(outer.chunks_exact(2)).all(|(r, o)| o[0] <= r[0] && r[0] <= r[1] && r[1] <= o[1])
 }
 
+/// Question 16: in edition 1 every masked variable has a single reset value; in edition 2 d has one, if it is
+/// masked.
+fn resets_single(edition: Edition, mask: i32, d: usize, reset: &[i32]) -> bool {
+    let asked = |i: usize| mask >> i & 1 == 1 && (edition == Edition::One || i == d);
+    reset.chunks_exact(2).enumerate().all(|(i, range)| !asked(i) || range[0] == range[1])
+}
+
 /// Questions 11 to 19, record by record, then 46, cut by cut. `words` are the model's words, of the
 /// right length.
-pub fn ask_records(sizes: &Sizes, words: &[i32]) -> Result<(), Refusal> {
+pub fn ask_records(sizes: &Sizes, edition: Edition, words: &[i32]) -> Result<(), Refusal> {
     let n = sizes.n;
     let two_n = 2 * n;
     let invariant_of = |l: usize| &words[sizes.location_at(l)..][..two_n];
@@ -363,8 +428,8 @@ pub fn ask_records(sizes: &Sizes, words: &[i32]) -> Result<(), Refusal> {
         let record = &words[sizes.switch_at(s)..][..sizes.switch_words()];
         let (source, target, d) = (record[0], record[1], record[2]);
         let (source_side, target_side, mask) = (record[3], record[4], record[5]);
-        let guard = &record[6..6 + two_n];
-        let reset = &record[6 + two_n..];
+        let guard = &record[SWITCH_HEAD..SWITCH_HEAD + two_n];
+        let reset = &record[SWITCH_HEAD + two_n..];
         let location_exists = |l: i32| 0 <= l && (l as usize) < sizes.locations;
         let side_exists = |side: i32| side == 0 || side == 1;
         if !(location_exists(source)
@@ -381,10 +446,10 @@ pub fn ask_records(sizes: &Sizes, words: &[i32]) -> Result<(), Refusal> {
         if !ordered_in_range(guard, -LEVEL, LEVEL) || !ordered_in_range(reset, -LEVEL, LEVEL) {
             return Err(15);
         }
-        if (0..n).any(|i| mask >> i & 1 == 1 && reset[2 * i] != reset[2 * i + 1]) {
+        let d = d as usize;
+        if !resets_single(edition, mask, d, reset) {
             return Err(16);
         }
-        let d = d as usize;
         let source_wall = invariant_of(source as usize)[2 * d + source_side as usize];
         let target_wall = invariant_of(target as usize)[2 * d + target_side as usize];
         if guard[2 * d] != source_wall || guard[2 * d + 1] != source_wall {

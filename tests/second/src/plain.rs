@@ -178,7 +178,7 @@ pub fn parts(plant: &Plant, faces: &Faces, l: usize) -> Vec<Ranges> {
 }
 
 /// What a switch step gives from one part on the source's face.
-fn switch_step(plant: &Plant, part: &Ranges, s: usize) -> Option<Ranges> {
+pub fn switch_step(plant: &Plant, part: &Ranges, s: usize) -> Option<Ranges> {
     let switch = plant.switch(s);
     let mut moved = cut(part, &ranges(switch.guard))?;
     let reset = ranges(switch.reset);

@@ -4,7 +4,8 @@
 use crate::before;
 use crate::draft::{Draft, LocationDraft};
 use crate::generate::{
-    close, close_by, find_box, place_starts, random_cuts, random_forbidden, random_switch, touched_in, HELP_PASSES,
+    close, close_by, find_box, place_starts, random_cuts, random_edition, random_forbidden, random_switch, touched_in,
+    HELP_PASSES,
 };
 use crate::model::Plant;
 use crate::random::Random;
@@ -31,7 +32,7 @@ pub fn pump_model(random: &mut Random) -> Draft {
 fn random_pumps(random: &mut Random) -> Draft {
     let n = random.pick(&[2, 2, 2, 3, 3, 3, 4, 5, 6]);
     let width = random.pick(&[3, 10, 10, 10, 40, 1_000]);
-    let mut draft = Draft { n, ..Draft::default() };
+    let mut draft = Draft { n, edition: random_edition(random), ..Draft::default() };
     let mut walls = random_walls(random, n, width);
     for _ in 0..1 + random.below(4) {
         if random.chance(1, 3) {

@@ -4,12 +4,12 @@ use crate::analysis::{run, Answer};
 use crate::before;
 use crate::draft::Draft;
 use crate::examples::{
-    all_cut, box_ends, dosing, figure_1, guarded_box, heated_vat, large_grid, plant_p, plant_p_behind, plant_p_cut,
-    plant_p_cut_table, plant_p_from, plant_p_table, plant_p_unknown, plant_p_wider, standing_pump, three_tanks,
-    two_tank, water_level, worn_pump, RUNS_DRY, RUNS_OVER,
+    all_cut, box_ends, dosing, figure_1, guarded_box, hand_filled, heated_vat, large_grid, plant_p, plant_p_behind,
+    plant_p_cut, plant_p_cut_table, plant_p_from, plant_p_table, plant_p_unknown, plant_p_wider, standing_pump,
+    three_tanks, two_tank, water_level, worn_pump, AT_THE_STIRRER, BY_HAND, OVER_THE_RIM, RUNS_DRY, RUNS_OVER,
 };
 use crate::files::{field, model_file, table_file, FACE, TABLE_HEAD};
-use crate::model::Plant;
+use crate::model::{Edition, Plant};
 
 /// Every sample by name.
 pub fn all() -> Vec<(&'static str, Vec<u8>)> {
@@ -47,6 +47,8 @@ fn answered() -> Vec<(&'static str, Draft)> {
         ("standing-pump", standing_pump()),
         ("worn-pump", worn_pump(RUNS_DRY)),
         ("worn-pump-over", worn_pump(RUNS_OVER)),
+        ("hand-filled", hand_filled(BY_HAND, OVER_THE_RIM)),
+        ("hand-filled-stirrer", hand_filled(BY_HAND, AT_THE_STIRRER)),
     ]
 }
 
@@ -59,6 +61,7 @@ fn refused() -> Vec<(&'static str, Vec<u8>)> {
     trailing.push(0);
     let too_far = plant_p_from([0, 0, 2, 1_000_001]);
     let at_wall = Draft { cuts: vec![(0, 0, 10)], ..plant_p() };
+    let range = Draft { edition: Edition::One, ..hand_filled(BY_HAND, OVER_THE_RIM) };
     vec![
         ("refused-empty", vec![]),
         ("refused-cut", p[..p.len() - 1].to_vec()),
@@ -66,6 +69,7 @@ fn refused() -> Vec<(&'static str, Vec<u8>)> {
         ("refused-level", model_file(&too_high.words())),
         ("refused-start", model_file(&too_far.words())),
         ("refused-at-wall", model_file(&at_wall.words())),
+        ("refused-range", model_file(&range.words())),
     ]
 }
 
@@ -102,6 +106,9 @@ pub fn tables() -> Vec<(&'static str, Vec<u8>, u64)> {
         ("worn-pump.wider", table_of_before(&worn_pump(RUNS_OVER)), 34),
         ("worn-pump-over", answers_table(&worn_pump(RUNS_OVER)), 100),
         ("worn-pump-over.wider", table_of_before(&worn_pump(RUNS_OVER)), 100),
+        ("hand-filled", answers_table(&hand_filled(BY_HAND, OVER_THE_RIM)), 100),
+        ("hand-filled.low", answers_table(&hand_filled([2, 2], OVER_THE_RIM)), 33),
+        ("hand-filled-stirrer", answers_table(&hand_filled(BY_HAND, OVER_THE_RIM)), 34),
     ]
 }
 

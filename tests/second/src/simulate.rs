@@ -1,4 +1,4 @@
-//! Runs, from document 01's section "Runs" alone.
+//! Runs, from document 01's section "Runs" alone, with document 02's reset ranges (T-10).
 //!
 //! Levels and delays are whole numbers over a common denominator D; only the numerators
 //! are held. The questions at the top say whether a piece of a run is allowed. The maker
@@ -6,7 +6,7 @@
 
 use crate::delays::some_delay_meets;
 use crate::fraction::{down, up};
-use crate::model::{Plant, MAX_BOX};
+use crate::model::{Plant, Switch, MAX_BOX};
 use crate::random::Random;
 
 /// A location, and for each variable the numerator of its level over D.
@@ -70,12 +70,12 @@ pub fn may_move(plant: &Plant, denominator: i64, from: &Configuration, step: Mov
                 && in_box(&from.levels, denominator, switch.guard)
                 && in_box(&to.levels, denominator, switch.reset)
                 && (0..n).all(|i| {
-                    let wanted = if switch.mask >> i & 1 == 1 {
-                        switch.reset[2 * i] as i64 * denominator
+                    if switch.masked(i) {
+                        // Any value of its reset range, a fraction too.
+                        in_box(&to.levels[i..=i], denominator, &switch.reset[2 * i..2 * i + 2])
                     } else {
-                        from.levels[i]
-                    };
-                    to.levels[i] == wanted
+                        to.levels[i] == from.levels[i]
+                    }
                 })
         }
     };
@@ -181,6 +181,9 @@ pub struct Travelled {
     pub forbidden: u64,
     /// Configurations that no part of the table reaches.
     pub unreached: u64,
+    /// Switches that set a variable to a level strictly inside its reset range, and to a fraction.
+    pub inside_ranges: u64,
+    pub fractions: u64,
 }
 
 impl Travelled {
@@ -191,6 +194,19 @@ impl Travelled {
         self.configurations += other.configurations;
         self.forbidden += other.forbidden;
         self.unreached += other.unreached;
+        self.inside_ranges += other.inside_ranges;
+        self.fractions += other.fractions;
+    }
+
+    /// Counts a switch by where in its reset ranges it set its variables.
+    fn note_switch(&mut self, denominator: i64, switch: &Switch, left: &Configuration) {
+        let inside = |&i: &usize| {
+            let ends = [switch.reset[2 * i], switch.reset[2 * i + 1]].map(|end| end as i64 * denominator);
+            switch.masked(i) && ends[0] < left.levels[i] && left.levels[i] < ends[1]
+        };
+        let set: Vec<usize> = (0..left.levels.len()).filter(inside).collect();
+        self.inside_ranges += !set.is_empty() as u64;
+        self.fractions += set.iter().any(|&i| left.levels[i] % denominator != 0) as u64;
     }
 }
 
@@ -205,9 +221,15 @@ pub fn travel(plant: &Plant, table: &[i32], random: &mut Random, runs: u64) -> T
         };
         assert!(is_run(plant, &run), "the maker of random runs made none: {run:?}");
         travelled.runs += 1;
-        let switches = run.moves.iter().filter(|(step, _)| matches!(step, Move::Switch(_))).count();
-        travelled.switches += switches as u64;
-        travelled.delays += (run.moves.len() - switches) as u64;
+        for (step, left) in &run.moves {
+            match step {
+                Move::Delay(_) => travelled.delays += 1,
+                Move::Switch(s) => {
+                    travelled.switches += 1;
+                    travelled.note_switch(denominator, &plant.switch(*s), left);
+                }
+            }
+        }
         for at in std::iter::once(&run.first).chain(run.moves.iter().map(|(_, left)| left)) {
             travelled.configurations += 1;
             travelled.forbidden += is_forbidden(plant, denominator, at) as u64;
@@ -215,6 +237,34 @@ pub fn travel(plant: &Plant, table: &[i32], random: &mut Random, runs: u64) -> T
         }
     }
     travelled
+}
+
+/// The levels with those of the masked variables set: each to a value of its reset range inside the target's
+/// invariant, often one of the ends of what is left of it, often a fraction, now and then inside a forbidden box of the
+/// target. None where nothing is left.
+fn set_levels(
+    plant: &Plant,
+    random: &mut Random,
+    denominator: i64,
+    switch: &Switch,
+    levels: &[i64],
+) -> Option<Vec<i64>> {
+    let both = |[low, high]: [i32; 2], bounds: &[i32], i: usize| [low.max(bounds[2 * i]), high.min(bounds[2 * i + 1])];
+    let invariant = plant.location(switch.target).invariant;
+    let aimed_at = (plant.sizes.forbidden > 0 && random.chance(1, 3))
+        .then(|| plant.forbidden(random.below(plant.sizes.forbidden)))
+        .filter(|forbidden| forbidden.location == switch.target);
+    let mut levels = levels.to_vec();
+    for i in (0..levels.len()).filter(|&i| switch.masked(i)) {
+        let mut range = both([switch.reset[2 * i], switch.reset[2 * i + 1]], invariant, i);
+        if range[0] > range[1] {
+            return None;
+        }
+        let aimed = aimed_at.map(|forbidden| both(range, forbidden.bounds, i));
+        range = aimed.filter(|aimed| aimed[0] <= aimed[1]).unwrap_or(range);
+        levels[i] = leaning(random, range[0] as i64 * denominator, range[1] as i64 * denominator);
+    }
+    Some(levels)
 }
 
 /// One of the switches that are allowed here.
@@ -230,12 +280,9 @@ fn propose_switch(
         if switch.source != at.location {
             continue;
         }
-        let mut levels = at.levels.clone();
-        for (i, level) in levels.iter_mut().enumerate() {
-            if switch.mask >> i & 1 == 1 {
-                *level = switch.reset[2 * i] as i64 * denominator;
-            }
-        }
+        let Some(levels) = set_levels(plant, random, denominator, &switch, &at.levels) else {
+            continue;
+        };
         let next = Configuration { location: switch.target, levels };
         if may_move(plant, denominator, at, Move::Switch(s), &next) {
             open.push((Move::Switch(s), next));

@@ -79,7 +79,8 @@ fn after((p, q): (i64, i64), (a, c): (i64, i64), times: &Delays, room: (i64, i64
     (low, high)
 }
 
-/// Switch step from the box of the source's face; the landed box in `out`, or false.
+/// Switch step from the box of the source's face; the landed box in `out`, or false. A masked variable is set to
+/// its whole reset range.
 #[inline]
 pub fn switch_step(
     n: usize,
@@ -94,9 +95,9 @@ pub fn switch_step(
         if low > high {
             return false;
         }
-        if switch.mask >> i & 1 == 1 {
+        if switch.masked(i) {
             low = switch.reset[2 * i];
-            high = switch.reset[2 * i];
+            high = switch.reset[2 * i + 1];
         }
         low = low.max(switch.reset[2 * i]).max(target_invariant[2 * i]);
         high = high.min(switch.reset[2 * i + 1]).min(target_invariant[2 * i + 1]);

@@ -11,7 +11,7 @@ use crate::starts::trimmed;
 
 /// What a call gave.
 #[derive(Default, PartialEq)]
-struct Gave {
+pub(crate) struct Gave {
     call: &'static str,
     number: u64,
     value: u64,
@@ -26,13 +26,24 @@ impl Comparison {
         self.counts.trimmed += 1;
         let words = trimmed(plant);
         let other = Plant::from_words(&words).expect("start parts are start boxes that pass their question");
-        let as_it_is = self.all_calls("start boxes as they are", plant, limit, tables)?;
-        let trimmed = self.all_calls("start boxes trimmed", &other, limit, tables)?;
-        let Some((gave, _)) = as_it_is.iter().zip(&trimmed).find(|(one, other)| one != other) else {
+        self.answered_alike("start boxes trimmed", [plant, &other], limit, tables)
+    }
+
+    /// All calls on two models, which must give the same.
+    pub(crate) fn answered_alike(
+        &mut self,
+        label: &str,
+        [plant, other]: [&Plant; 2],
+        limit: u32,
+        tables: [&[i32]; 2],
+    ) -> Result<(), Difference> {
+        let as_it_is = self.all_calls("a model as it is", plant, limit, tables)?;
+        let changed = self.all_calls(label, other, limit, tables)?;
+        let Some((gave, _)) = as_it_is.iter().zip(&changed).find(|(one, other)| one != other) else {
             return Ok(());
         };
         let model = hex(&model_file(plant.words()));
-        Err(Difference { text: format!("{}: another outcome with trimmed start boxes\nmodel {model}", gave.call) })
+        Err(Difference { text: format!("{}: another outcome with {label}\nmodel {model}", gave.call) })
     }
 
     fn all_calls(

@@ -6,18 +6,19 @@ use second::ceiling;
 use second::checker::ask_table;
 use second::damage::damage_table;
 use second::delays::{delays, delays_inside, touches, touches_quick, Delays, End};
-use second::draft::{Draft, LocationDraft};
+use second::draft::{Draft, LocationDraft, SwitchDraft};
 use second::fraction::Fraction;
 use second::generate::{close, close_by, crossing_model, helped_model, pass_budget, random_model, random_table};
-use second::model::{ordered_inside, Piece, Plant, MAX_BOX};
+use second::model::{ordered_inside, Edition, Piece, Plant, MAX_BOX};
 use second::plain;
 use second::pumps::pump_model;
 use second::random::Random;
+use second::ranges::{any_range, highs_alone, in_other_edition, inside_alone, lows_alone, ranged_model, with_ranges};
 use second::simulate::{
-    is_forbidden, is_reached, is_run, may_move, may_start, random_run, travel, Configuration, Move,
+    is_forbidden, is_reached, is_run, may_move, may_start, random_run, travel, Configuration, Move, Travelled,
 };
 use second::starts::{any_crosses, table_of_whole_boxes, touched_by_whole_boxes, trimmed};
-use second::steps::wall_step;
+use second::steps::{switch_step, wall_step};
 use second::tables::{forbidden_touched, pass, well_formed};
 
 /// The delay rule against its meaning: t is a delay exactly if p + a·t ≤ b ≤ q + c·t.
@@ -581,9 +582,13 @@ fn accepted_tables(plant: &Plant, random: &mut Random, most: u64) -> Option<[u64
 fn every_table_of_very_small_models() {
     let mut random = Random::new(5);
     let (mut models, mut cut, mut crossing, mut tables, mut runs, mut safe, mut unknown) = (0, 0, 0, 0, 0, 0, 0);
-    let (mut still, mut newly) = (0, 0);
-    while models < 400 || cut < 150 || crossing < 150 {
-        let draft = if random.chance(1, 3) { pump_model(&mut random) } else { random_model(&mut random) };
+    let (mut still, mut newly, mut ranged, mut unknown_by_ranges) = (0, 0, 0, 0);
+    while models < 400 || cut < 150 || crossing < 150 || ranged < 100 {
+        let draft = match random.below(4) {
+            0 => pump_model(&mut random),
+            1 => ranged_model(&mut random),
+            _ => random_model(&mut random),
+        };
         if draft.n > 3 || draft.locations.len() > 3 || draft.forbidden.is_empty() {
             continue;
         }
@@ -608,6 +613,10 @@ fn every_table_of_very_small_models() {
         models += 1;
         cut += plant.any_cut() as u32;
         crossing += any_crosses(&plant) as u32;
+        ranged += any_range(&plant) as u32;
+        let lows = with_ranges(&plant, lows_alone);
+        let of_lows = run(&Plant::from_words(&lows).unwrap(), limit, &mut table, &mut work).0;
+        unknown_by_ranges += (any_range(&plant) && answer == Answer::Unknown && of_lows == Answer::Safe) as u32;
         tables += tried;
         runs += travelled;
         safe += (accepted > 0) as u32;
@@ -616,8 +625,177 @@ fn every_table_of_very_small_models() {
     let counts =
         format!("{models} models, {crossing} crossing, {safe} safe, {unknown} unknown, {tables} tables, {runs} runs");
     println!("{counts}, {still} tables accepted before and still, {newly} newly");
+    println!("{ranged} models with a reset range, {unknown_by_ranges} unknown by it");
+    assert!(unknown_by_ranges > 10, "{unknown_by_ranges}");
     assert!(safe > 50 && unknown > 50 && runs > 1_000, "{counts}");
     assert!(still > 150 && newly > 40, "{still} tables accepted before and still, {newly} newly");
+}
+
+/// Every ordered range of the levels 0..3.
+fn small_ranges() -> Vec<[i32; 2]> {
+    (0..=3).flat_map(|low| (low..=3).map(move |high| [low, high])).collect()
+}
+
+/// Mask, guard, reset range and target of y, each of them of every kind.
+fn every_small_switch() -> Vec<(u32, [i32; 2], [i32; 2], [i32; 2])> {
+    let mut all = Vec::new();
+    for mask in [0b00, 0b10] {
+        for guard in small_ranges() {
+            for reset in small_ranges() {
+                all.extend(small_ranges().into_iter().map(|room| (mask, guard, reset, room)));
+            }
+        }
+    }
+    all
+}
+
+/// A switch at x = 1 from a location with y 0..3 to one with y in `room`, x 0..1 in both.
+fn small_switch(mask: u32, guard: [i32; 2], reset: [i32; 2], room: [i32; 2]) -> Draft {
+    let location = |y: [i32; 2]| LocationDraft { invariant: vec![0, 1, y[0], y[1]], rates: vec![0; 4], start: None };
+    let on_the_wall = |y: [i32; 2]| vec![1, 1, y[0], y[1]];
+    let switch = SwitchDraft {
+        source: 0,
+        target: 1,
+        d: 0,
+        source_side: 1,
+        target_side: 1,
+        mask,
+        guard: on_the_wall(guard),
+        reset: on_the_wall(reset),
+    };
+    let locations = vec![location([0, 3]), location(room)];
+    Draft { n: 2, edition: Edition::Two, locations, switches: vec![switch], ..Draft::default() }
+}
+
+/// T-10: a switch step lands exactly on the levels that runs have after the switch, from every level of the part, for
+/// every guard, reset range and target of one variable, masked or not. Levels are halves.
+#[test]
+fn switch_steps_hold_what_runs_reach() {
+    let at = |location: usize, y: i64| Configuration { location, levels: vec![2, y] };
+    let (mut landed, mut nothing, mut wide) = (0, 0, 0);
+    for (mask, guard, reset, room) in every_small_switch() {
+        let words = small_switch(mask, guard, reset, room).words();
+        let plant = Plant::from_words(&words).unwrap();
+        for part in small_ranges() {
+            let from = 2 * part[0] as i64..=2 * part[1] as i64;
+            let may = |to: &i64| from.clone().any(|y| may_move(&plant, 2, &at(0, y), Move::Switch(0), &at(1, *to)));
+            let reached: Vec<i64> = (0..=6).filter(may).collect();
+            let mut out = [0; MAX_BOX];
+            let bounds = [1, 1, part[0], part[1]];
+            let found = switch_step(2, &bounds, &plant.switch(0), plant.location(1).invariant, &mut out);
+            let of_step: Vec<i64> = if found { (2 * out[2] as i64..=2 * out[3] as i64).collect() } else { vec![] };
+            assert_eq!(reached, of_step, "{mask:b} {part:?} {guard:?} {reset:?} {room:?}");
+            let plainly = plain::switch_step(&plant, &plain::ranges(&bounds), 0);
+            assert_eq!(plainly, found.then(|| plain::ranges(&out[..4])));
+            landed += found as u32;
+            nothing += !found as u32;
+            wide += (found && mask != 0 && out[2] < out[3] && part[0] == part[1]) as u32;
+        }
+    }
+    assert!(landed > 5_000 && nothing > 5_000 && wide > 300, "{landed} landed, {nothing} not, {wide} wider");
+}
+
+/// T-10: pass by pass, the tables with narrower reset ranges lie inside those with the ranges; a table that is accepted
+/// for a model is accepted with narrower ranges; so a safe model stays safe. Some are unknown by their ranges alone.
+#[test]
+fn narrower_ranges_only_narrow() {
+    let mut random = Random::new(41);
+    let (mut compared, mut other_tables, mut unknown_by_ranges, mut accepted) = (0, 0, 0, 0);
+    while compared < 500 {
+        let draft = if random.chance(1, 2) { ranged_model(&mut random) } else { random_model(&mut random) };
+        let words = draft.words();
+        let plant = Plant::from_words(&words).unwrap();
+        if !any_range(&plant) {
+            continue;
+        }
+        compared += 1;
+        let change = random.pick(&[lows_alone, highs_alone, inside_alone]);
+        let narrower = with_ranges(&plant, change);
+        let narrow = Plant::from_words(&narrower).unwrap();
+        let (mut inner, mut outer) = (vec![0; plant.table_words()], vec![0; plant.table_words()]);
+        for _ in 0..12 {
+            close(&narrow, &mut inner, 1);
+            close(&plant, &mut outer, 1);
+            assert!(lies_inside(&plant, &inner, &outer), "{words:?}");
+        }
+        other_tables += (inner != outer) as u32;
+        let mut other = random_table(&mut random, &plant);
+        close(&plant, &mut other, 60);
+        for table in [&outer, &other] {
+            if ask_table(&plant, table).is_ok() {
+                assert_eq!(ask_table(&narrow, table), Ok(()), "{words:?}");
+                accepted += 1;
+            }
+        }
+        let answer = |plant: &Plant| {
+            let (mut table, mut work) = (vec![0; plant.table_words()], vec![0; plant.table_words()]);
+            run_quick(plant, pass_budget(plant).min(100), &mut table, &mut work).0
+        };
+        match (answer(&plant), answer(&narrow)) {
+            (Answer::Unknown, Answer::Safe) => unknown_by_ranges += 1,
+            (Answer::Safe, narrow) => assert_ne!(narrow, Answer::Unknown, "{words:?}"),
+            _ => {}
+        }
+    }
+    let counts =
+        format!("{other_tables} other tables, {unknown_by_ranges} unknown by their ranges, {accepted} accepted");
+    assert!(other_tables > 150 && unknown_by_ranges > 50 && accepted > 100, "{counts}");
+}
+
+/// T-10: runs of safe models take levels inside reset ranges, fractions too, meet nothing forbidden and stay where the
+/// table reaches; where only the lows of the ranges do, some of them leave it.
+#[test]
+fn runs_through_ranges() {
+    let mut random = Random::new(42);
+    let (mut travelled, mut of_lows) = (Travelled::default(), Travelled::default());
+    let mut safe = 0;
+    while safe < 300 {
+        let draft = if random.chance(1, 2) { ranged_model(&mut random) } else { random_model(&mut random) };
+        let words = draft.words();
+        let plant = Plant::from_words(&words).unwrap();
+        let (mut table, mut work) = (vec![0; plant.table_words()], vec![0; plant.table_words()]);
+        let budget = pass_budget(&plant).min(60);
+        if !any_range(&plant) || run_quick(&plant, budget, &mut table, &mut work).0 != Answer::Safe {
+            continue;
+        }
+        safe += 1;
+        travelled.add(&travel(&plant, &table, &mut random, 6));
+        let lows = with_ranges(&plant, lows_alone);
+        let mut narrower = vec![0; plant.table_words()];
+        close(&Plant::from_words(&lows).unwrap(), &mut narrower, budget);
+        of_lows.add(&travel(&plant, &narrower, &mut random, 6));
+    }
+    assert_eq!((travelled.forbidden, travelled.unreached), (0, 0));
+    assert!(travelled.inside_ranges > 300 && travelled.fractions > 200, "{travelled:?}");
+    assert!(of_lows.unreached > 100, "{of_lows:?}");
+}
+
+/// T-10: a model without a range has the same answer, k and table in both editions, and the same tables are accepted;
+/// one with a range is refused by 16 in edition 1.
+#[test]
+fn both_editions_agree() {
+    let mut random = Random::new(43);
+    let (mut alike, mut refused) = (0, 0);
+    for _ in 0..1_500 {
+        let words = random_model(&mut random).words();
+        let plant = Plant::from_words(&words).unwrap();
+        let other = in_other_edition(&plant);
+        match Plant::from_words(&other) {
+            Ok(other) => {
+                let (mut rest, random_one) = (vec![0; plant.table_words()], random_table(&mut random, &plant));
+                close(&plant, &mut rest, 60);
+                assert_eq!(outcome(&plant, [&rest, &random_one]), outcome(&other, [&rest, &random_one]), "{words:?}");
+                assert!(!any_range(&plant));
+                alike += 1;
+            }
+            Err(number) => {
+                assert_eq!((number, plant.edition), (16, Edition::Two), "{words:?}");
+                assert!(any_range(&plant));
+                refused += 1;
+            }
+        }
+    }
+    assert!(alike > 500 && refused > 200, "{alike} alike, {refused} refused");
 }
 
 /// Each piece of the table of a plant with cuts lies inside the face of the same plant without them, pass by

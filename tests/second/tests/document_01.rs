@@ -10,7 +10,7 @@ use second::examples::*;
 use second::files::{field, model_file};
 use second::fraction::{down, up, Fraction};
 use second::listing::listing;
-use second::model::{Plant, MAX_BOX};
+use second::model::{Plant, HEAD_WORDS, MAX_BOX};
 use second::steps::wall_step;
 
 fn buffers(table: usize, work: usize) -> Buffers {
@@ -134,9 +134,9 @@ fn tables_for_p() {
 #[test]
 fn levels_and_sizes_at_their_edges() {
     let mut model = plant_p().words();
-    model[7] = 1_000_000;
+    model[P_LOCATION + 3] = 1_000_000;
     assert!(calls::ceiling(&model).is_ok());
-    model[7] = 1_000_001;
+    model[P_LOCATION + 3] = 1_000_001;
     assert_eq!(calls::ceiling(&model), Err(11));
     let mut model = at_rest(6).words();
     assert!(calls::ceiling(&model).is_ok());
@@ -146,13 +146,14 @@ fn levels_and_sizes_at_their_edges() {
 
 #[test]
 fn short_lists() {
-    assert_eq!(calls::ceiling(&[7, 1, 0]), Err(5));
-    assert_eq!(calls::ceiling(&[7, 1, 0, 0]), Err(2));
-    assert_eq!(calls::ceiling(&[1, 1, 0, 0]), Err(5));
+    // With the edition as the head's fifth word (document 02, T-10).
+    assert_eq!(calls::ceiling(&[7, 1, 0, 0]), Err(5));
+    assert_eq!(calls::ceiling(&[7, 1, 0, 0, 1]), Err(2));
+    assert_eq!(calls::ceiling(&[1, 1, 0, 0, 1]), Err(5));
     assert_eq!(calls::ceiling(&[]), Err(5));
-    assert_eq!(calls::ceiling(&[1, 65, 200, 0]), Err(3));
-    assert_eq!(calls::ceiling(&[1, 64, 128, 65]), Err(4));
-    assert_eq!(calls::ceiling(&[1, 64, 129, 0]), Err(4));
+    assert_eq!(calls::ceiling(&[1, 65, 200, 0, 1]), Err(3));
+    assert_eq!(calls::ceiling(&[1, 64, 128, 65, 1]), Err(4));
+    assert_eq!(calls::ceiling(&[1, 64, 129, 0, 1]), Err(4));
 }
 
 #[test]
@@ -166,9 +167,10 @@ fn questions_are_asked_record_by_record() {
 
     // Flag 0 wants zeros.
     let mut words = draft(vec![good.clone()]).words();
-    words[8] = 0;
+    let flag = HEAD_WORDS + 4;
+    words[flag] = 0;
     assert_eq!(calls::ceiling(&words), Ok(2));
-    words[10] = 1;
+    words[flag + 2] = 1;
     assert_eq!(calls::ceiling(&words), Err(13));
 }
 
@@ -193,7 +195,7 @@ fn two_locations() -> Draft {
             reset: vec![4, 4],
         }],
         forbidden: vec![],
-        cuts: vec![],
+        ..Draft::default()
     }
 }
 
@@ -286,7 +288,7 @@ fn model_files_cut_short_and_long() {
     assert_eq!(read(&[]), (Err(1), unchanged.clone()));
     assert_eq!(read(&file[..18]), (Err(1), unchanged.clone()));
     let mut other = file.clone();
-    other[0] = 9;
+    other[0] = 7;
     assert_eq!(read(&other), (Err(1), unchanged.clone()));
     let mut other = file.clone();
     other[2] = 20; // the right tag with another length

@@ -3,17 +3,19 @@
 use second::analysis::Answer;
 use second::before;
 use second::calls::{self, Buffers};
-use second::damage::{damaged_starts, START_DAMAGE};
+use second::damage::{damaged_ranges, damaged_starts, RANGE_DAMAGE, START_DAMAGE};
 use second::draft::{Draft, LocationDraft};
 use second::examples::*;
-use second::files::{field, model_file};
+use second::files::{field, file_of_words, model_file};
+use second::fixed_resets::{short_lists, NO_EDITION};
 use second::fixed_starts::STARTS_OF_P;
 use second::generate::random_model;
+use second::host::MOST_MODEL_WORDS;
 use second::listing::listing;
-use second::model::{words_per_location, Plant, MAX_BOX};
+use second::model::{words_per_location, Edition, Plant, EDITION_AT, HEAD_WORDS, MAX_BOX};
 use second::plain;
 use second::random::Random;
-use second::simulate::{may_start, Configuration};
+use second::simulate::{may_move, may_start, Configuration, Move};
 use second::steps::wall_step;
 
 fn buffers(words: usize) -> Buffers {
@@ -38,18 +40,20 @@ fn start_boxes_are_asked_in_their_place() {
         calls::ceiling(&words).err()
     };
     // Of each location 4 words of the invariant, 4 of the rates, the flag, 4 of the start box.
-    let (out_of_order, behind) = ((4 + 9, 200), [(4 + 9, 200), (4 + 10, 300)]);
+    let at = |location: usize, word: usize| HEAD_WORDS + 13 * location + word;
+    let (out_of_order, behind) = ((at(0, 9), 200), [(at(0, 9), 200), (at(0, 10), 300)]);
     assert_eq!(number(&[out_of_order]), Some(13));
-    assert_eq!(number(&[out_of_order, (4, 1_000_001)]), Some(11));
-    assert_eq!(number(&[out_of_order, (8, 1_001)]), Some(12));
-    assert_eq!(number(&[out_of_order, (17, 1_000_001)]), Some(13));
+    assert_eq!(number(&[out_of_order, (at(0, 0), 1_000_001)]), Some(11));
+    assert_eq!(number(&[out_of_order, (at(0, 4), 1_001)]), Some(12));
+    assert_eq!(number(&[out_of_order, (at(1, 0), 1_000_001)]), Some(13));
     assert_eq!(number(&behind), None);
-    assert_eq!(number(&[behind[0], behind[1], (17, 1_000_001)]), Some(11));
+    assert_eq!(number(&[behind[0], behind[1], (at(1, 0), 1_000_001)]), Some(11));
     let mut bad = plant_p_from([0, 0, 2, 1_000_001]);
-    assert_eq!(calls::read_model(&model_file(&bad.words()), vec![3; 26]), (Err(13), vec![0; 26]));
+    let read = |words: &[i32]| calls::read_model(&model_file(words), vec![3; P_WORDS + 2]);
+    assert_eq!(read(&bad.words()), (Err(13), vec![0; P_WORDS + 2]));
     bad.locations[0].start = Some(vec![0, 0, 2, 1_000_000]);
     let words = bad.words();
-    assert_eq!(calls::read_model(&model_file(&words), vec![3; 26]), (Ok(24), [&words[..], &[3, 3]].concat()));
+    assert_eq!(read(&words), (Ok(P_WORDS), [&words[..], &[3, 3]].concat()));
 }
 
 /// T-02: what each kind of damage to a start box is refused by; of random models, and of P with a start box
@@ -298,14 +302,198 @@ fn the_end_that_binds() {
     assert_eq!(fall([10, 20], [-3, -3]), 7);
 }
 
+/// T-10: the head's fifth word is the edition, 1 or 2; all records move by one. Under five words gets 5, and 43 is
+/// asked after 4, before 5 of the whole.
+#[test]
+fn edition_words() {
+    let words = plant_p().words();
+    assert_eq!(words[..HEAD_WORDS], [2, 1, 0, 1, 1]);
+    assert_eq!(words[HEAD_WORDS..][..4], [0, 10, 0, 10]);
+    assert_eq!(words.len(), 25);
+    assert_eq!(Draft { edition: Edition::Two, ..plant_p() }.words()[..HEAD_WORDS], [2, 1, 0, 1, 2]);
+    assert_eq!(calls::ceiling(&[1, 1, 0, 0, 3]), Err(43));
+    for (list, number) in short_lists() {
+        assert_eq!(calls::ceiling(&list), Err(number), "{list:?}");
+        assert_eq!(calls::checker(&list, &[]), Err(number), "{list:?}");
+    }
+    let number = |edition: i32, changes: &[(usize, i32)]| {
+        let mut words = plant_p().words();
+        words[EDITION_AT] = edition;
+        changes.iter().for_each(|&(place, word)| words[place] = word);
+        let lent = buffers(7);
+        let (outcome, after) = calls::analysis(&words, 9, lent.clone());
+        assert_eq!(after, lent);
+        outcome.unwrap_err()
+    };
+    for edition in NO_EDITION {
+        assert_eq!(number(edition, &[]), 43);
+        assert_eq!(number(edition, &[(P_LOCATION, 1_000_001)]), 43);
+        assert_eq!(number(edition, &[(P_CUT, 2)]), 43);
+        assert_eq!(number(edition, &[(3, 65)]), 4);
+        assert_eq!(number(edition, &[(1, 0)]), 3);
+        assert_eq!(number(edition, &[(0, 7)]), 2);
+    }
+    for edition in [1, 2] {
+        assert_eq!(number(edition, &[]), 20);
+        assert_eq!(number(edition, &[(P_LOCATION, 1_000_001)]), 11);
+        assert_eq!(number(edition, &[(P_CUT, 2)]), 46);
+    }
+}
+
+/// T-10: the first tag, 1 or 9, gives the edition word, and is written back as it. The head field is as it was.
+#[test]
+fn editions_in_files() {
+    let read = |file: &[u8]| calls::read_model(file, vec![3; P_WORDS + 1]);
+    for (edition, tag) in [(Edition::One, 1), (Edition::Two, 9)] {
+        let words = Draft { edition, ..plant_p() }.words();
+        let file = model_file(&words);
+        assert_eq!(file[..19], field(tag, &[2, 1, 0, 1]));
+        assert_eq!(file.len(), 97);
+        assert_eq!(read(&file), (Ok(P_WORDS), [&words[..], &[3]].concat()));
+        assert_eq!(listing(&file), "safe 1 2\n0 0 0 0 2 5\n0 3 2 8 10 10\n");
+    }
+    let file = model_file(&plant_p().words());
+    let unchanged = |number| (Err(number), vec![3; P_WORDS + 1]);
+    for tag in (0..=255).filter(|tag| ![1, 9].contains(tag)) {
+        assert_eq!(read(&[&[tag], &file[1..]].concat()), unchanged(1));
+    }
+    // Another length, half a head, other counts.
+    assert_eq!(read(&[&field(9, &[2, 1, 0]), &file[19..]].concat()), unchanged(1));
+    assert_eq!(read(&[&field(9, &[2, 1, 0, 1, 2]), &file[19..]].concat()), unchanged(1));
+    assert_eq!(read(&field(9, &[2, 1, 0, 1])[..18]), unchanged(1));
+    assert_eq!(read(&field(9, &[7, 1, 0, 1])), unchanged(2));
+    assert_eq!(read(&field(9, &[2, 65, 0, 1])), unchanged(3));
+    assert_eq!(read(&field(9, &[2, 1, 0, 65])), unchanged(4));
+    assert_eq!(calls::read_model(&field(9, &[2, 1, 0, 1]), vec![3; 24]), (Err(5), vec![3; 24]));
+    assert_eq!(read(&field(9, &[2, 1, 0, 1])), (Err(6), vec![0; P_WORDS + 1]));
+}
+
+/// T-10: in edition 2 question 16 looks at d alone, in edition 1 at every masked variable.
+#[test]
+fn resets_in_both_editions() {
+    let number = |edition: Edition, mask: u32, x: [i32; 2], y: [i32; 2]| {
+        let mut draft = Draft { edition, ..set_to(y) };
+        draft.switches[0].mask = mask;
+        draft.switches[0].reset[..2].copy_from_slice(&x);
+        calls::ceiling(&draft.words()).err()
+    };
+    // d is x, at 10 in both locations.
+    for (mask, x, y, in_1, in_2) in [
+        (0b10, [10, 10], [2, 5], Some(16), None),
+        (0b10, [10, 10], [4, 4], None, None),
+        (0b10, [8, 12], [4, 4], None, None),
+        (0b10, [8, 12], [2, 5], Some(16), None),
+        (0b11, [10, 10], [2, 5], Some(16), None),
+        (0b11, [10, 10], [4, 4], None, None),
+        (0b11, [8, 12], [4, 4], Some(16), Some(16)),
+        (0b11, [10, 12], [2, 5], Some(16), Some(16)),
+        (0b01, [10, 11], [2, 5], Some(16), Some(16)),
+        (0b01, [10, 10], [2, 5], None, None),
+        (0b00, [8, 12], [2, 5], None, None),
+        // 15 before 16, 18 after it.
+        (0b10, [10, 10], [5, 2], Some(15), Some(15)),
+        (0b10, [10, 10], [2, 1_000_001], Some(15), Some(15)),
+        (0b11, [10, 12], [5, 2], Some(15), Some(15)),
+        (0b11, [9, 9], [2, 5], Some(16), Some(18)),
+        (0b11, [9, 10], [2, 5], Some(16), Some(16)),
+    ] {
+        assert_eq!(number(Edition::One, mask, x, y), in_1, "{mask:b} {x:?} {y:?}");
+        assert_eq!(number(Edition::Two, mask, x, y), in_2, "{mask:b} {x:?} {y:?}");
+    }
+}
+
+/// T-10: the switch step sets a masked variable to its whole range, then cuts it to the target's invariant.
+#[test]
+fn ranges_are_set_whole() {
+    let landed = |draft: Draft| {
+        let words = draft.words();
+        let plant = Plant::from_words(&words).unwrap();
+        let (_, after) = calls::analysis(&words, 9, buffers(plant.table_words()));
+        after.table[plant.face_places(1, 1)].to_vec()
+    };
+    assert_eq!(landed(set_to([2, 5])), [1, 10, 10, 2, 5]);
+    assert_eq!(landed(set_to([-7, 5])), [1, 10, 10, 0, 5]);
+    assert_eq!(landed(set_to([2, 50])), [1, 10, 10, 2, 10]);
+    assert_eq!(landed(set_to([10, 50])), [1, 10, 10, 10, 10]);
+    assert_eq!(landed(set_to([11, 50])), [0; 5]);
+    // Cut at y = 3, the range lands on both pieces, each with the value.
+    let cut = |range| Draft { cuts: vec![(1, 1, 3)], ..set_to(range) };
+    assert_eq!(landed(cut([2, 5])), [1, 10, 10, 2, 3, 1, 10, 10, 3, 5]);
+    assert_eq!(landed(cut([3, 3])), [1, 10, 10, 3, 3, 1, 10, 10, 3, 3]);
+    assert_eq!(landed(cut([4, 5])), [0, 0, 0, 0, 0, 1, 10, 10, 4, 5]);
+    assert_eq!(landed(cut([1, 2])), [1, 10, 10, 1, 2, 0, 0, 0, 0, 0]);
+}
+
+/// T-10: after the switch a masked variable has any value of its range, fractions too; the others are unchanged.
+#[test]
+fn runs_take_any_value_of_a_range() {
+    let words = set_to([2, 5]).words();
+    let plant = Plant::from_words(&words).unwrap();
+    let at = |location: usize, x: i64, y: i64| Configuration { location, levels: vec![x, y] };
+    let may = |denominator: i64, x: i64, y: i64| {
+        may_move(&plant, denominator, &at(0, 10 * denominator, 0), Move::Switch(0), &at(1, x, y))
+    };
+    assert!(may(1, 10, 2) && may(1, 10, 3) && may(1, 10, 5) && may(3, 30, 7) && may(7, 70, 35));
+    assert!(!may(1, 10, 1) && !may(1, 10, 6) && !may(3, 30, 5) && !may(3, 30, 16) && !may(1, 9, 3) && !may(1, 10, 0));
+    // What of the range lies outside the target is no configuration.
+    let words = set_to([8, 12]).words();
+    let plant = Plant::from_words(&words).unwrap();
+    let may = |y: i64| may_move(&plant, 2, &at(0, 20, 0), Move::Switch(0), &at(1, 20, y));
+    assert!(may(16) && may(19) && may(20) && !may(21) && !may(15));
+}
+
+/// T-10: a table must hold the whole range.
+#[test]
+fn tables_hold_whole_ranges() {
+    let words = set_to([2, 5]).words();
+    let number = |y: [i32; 2]| {
+        let mut table = [[1, 0, 0, 0, 0], [1, 10, 10, 0, 0], [1, 0, 10, 0, 0], [0; 5], [0; 5]].concat();
+        table.extend([1, 10, 10, y[0], y[1]]);
+        table.extend([0; 10]);
+        calls::checker(&words, &table).err()
+    };
+    assert_eq!(number([2, 5]), None);
+    assert_eq!(number([1, 9]), None);
+    for y in [[2, 2], [5, 5], [3, 4], [3, 5], [2, 4]] {
+        assert_eq!(number(y), Some(33));
+    }
+}
+
+/// T-10: a forbidden box that only a value strictly inside the range meets, at neither end, as a plant.
+#[test]
+fn hand_filled_cups() {
+    let mut file = model_file(&hand_filled(BY_HAND, OVER_THE_RIM).words());
+    assert!(file[0] == 9 && listing(&file).starts_with("safe 4"));
+    file[0] = 1;
+    assert_eq!(listing(&file), "refused 16\n");
+}
+
+/// T-10: what each kind of damage to an edition or to a reset range is refused by, in words and in files.
+#[test]
+fn damaged_editions_and_ranges() {
+    let mut random = Random::new(22);
+    let mut seen = [0; RANGE_DAMAGE.len()];
+    for _ in 0..6_000 {
+        let words = random_model(&mut random).words();
+        let plant = Plant::from_words(&words).unwrap();
+        let (damaged, kind) = damaged_ranges(&mut random, &plant);
+        let (name, in_words, in_a_file) = RANGE_DAMAGE[kind];
+        assert_eq!(calls::ceiling(&damaged).err(), in_words, "{name}");
+        let file = file_of_words(&plant.sizes, &damaged);
+        assert_eq!(calls::read_model(&file, vec![0; MOST_MODEL_WORDS]).0.err(), in_a_file, "{name}");
+        seen[kind] += 1;
+    }
+    assert!(seen.iter().all(|&count| count > 80), "{seen:?}");
+}
+
 /// T-12: P without a cut is what it was, in its file, its table, its table file and its listing.
 #[test]
 fn p_is_unchanged() {
     let words = plant_p().words();
-    assert_eq!(words[22..], [-1, 0]);
+    assert_eq!(words[P_CUT..], [-1, 0]);
     let file = model_file(&words);
     assert_eq!(file.len(), 97);
-    assert_eq!(calls::read_model(&file, vec![3; 26]), (Ok(24), [&words[..], &[3, 3]].concat()));
+    assert_eq!(calls::read_model(&file, vec![3; P_WORDS + 2]), (Ok(P_WORDS), [&words[..], &[3, 3]].concat()));
     assert_eq!(calls::ceiling(&words), Ok(44));
     let (outcome, after) = calls::analysis(&words, 1_000, buffers(20));
     assert_eq!((outcome, after.table), (Ok((Answer::Safe, 1)), plant_p_table()));
@@ -324,10 +512,10 @@ fn p_is_unchanged() {
 #[test]
 fn p_cut() {
     let words = plant_p_cut().words();
-    assert_eq!(words[22..], [0, 5]);
+    assert_eq!(words[P_CUT..], [0, 5]);
     let file = model_file(&words);
     assert_eq!(file[97..], field(8, &[0, 0, 5]));
-    assert_eq!(calls::read_model(&file, vec![3; 24]), (Ok(24), words.clone()));
+    assert_eq!(calls::read_model(&file, vec![3; P_WORDS]), (Ok(P_WORDS), words.clone()));
     // 2 × (1 + 10) on the walls of x, 2 × 2 × (1 + 5) on those of y.
     assert_eq!(calls::ceiling(&words), Ok(46));
     let (outcome, after) = calls::analysis(&words, 1_000, buffers(41));
@@ -375,7 +563,7 @@ fn a_start_part_and_its_halves() {
 fn cuts_in_words() {
     let number = |cut: [i32; 2]| {
         let mut words = plant_p().words();
-        words[22..].copy_from_slice(&cut);
+        words[P_CUT..].copy_from_slice(&cut);
         calls::ceiling(&words).err()
     };
     for cut in [[-1, 0], [0, 1], [0, 9], [1, 1], [1, 9]] {
@@ -386,15 +574,15 @@ fn cuts_in_words() {
     }
     // 5 counts two words for each location.
     let words = plant_p_cut().words();
-    assert_eq!(calls::ceiling(&words[..23]), Err(5));
-    assert_eq!(calls::ceiling(&words[..22]), Err(5));
+    assert_eq!(calls::ceiling(&words[..P_CUT + 1]), Err(5));
+    assert_eq!(calls::ceiling(&words[..P_CUT]), Err(5));
     // 19 comes first, and 46 before 20.
     let mut words = plant_p_cut().words();
-    words[23] = 10;
+    words[P_CUT + 1] = 10;
     assert_eq!(calls::checker(&words, &[]), Err(46));
     let lent = buffers(3);
     assert_eq!(calls::analysis(&words, 5, lent.clone()), (Err(46), lent));
-    words[17] = 1;
+    words[P_FORBIDDEN] = 1;
     assert_eq!(calls::checker(&words, &[]), Err(19));
 }
 
@@ -402,10 +590,10 @@ fn cuts_in_words() {
 #[test]
 fn cuts_in_files() {
     let p = model_file(&plant_p().words());
-    let read = |bytes: &[u8]| calls::read_model(&[&p, bytes].concat(), vec![3; 26]);
-    let refused = |number| (Err(number), vec![0; 26]);
+    let read = |bytes: &[u8]| calls::read_model(&[&p, bytes].concat(), vec![3; P_WORDS + 2]);
+    let refused = |number| (Err(number), vec![0; P_WORDS + 2]);
     let cut = |location, variable, value| field(8, &[location, variable, value]);
-    assert_eq!(read(&cut(0, 0, 5)).0, Ok(24));
+    assert_eq!(read(&cut(0, 0, 5)).0, Ok(P_WORDS));
     // Wholeness and length.
     for length in 1..15 {
         assert_eq!(read(&cut(0, 0, 5)[..length]), refused(46));
@@ -429,11 +617,11 @@ fn cuts_in_files() {
     let mut too_high = plant_p();
     too_high.locations[0].invariant[3] = 1_000_001;
     let too_high = model_file(&too_high.words());
-    let read = |bytes: &[u8]| calls::read_model(&[&too_high, bytes].concat(), vec![3; 26]);
+    let read = |bytes: &[u8]| calls::read_model(&[&too_high, bytes].concat(), vec![3; P_WORDS + 2]);
     assert_eq!(read(&cut(0, -1, 5)), refused(46));
     assert_eq!(read(&cut(0, -2, 5)), refused(11));
     // 5 comes before the cuts, and changes nothing.
-    let short = vec![3; 23];
+    let short = vec![3; P_WORDS - 1];
     assert_eq!(calls::read_model(&[&p[..], &[8]].concat(), short.clone()), (Err(5), short));
 }
 
@@ -533,8 +721,8 @@ fn switches_from_every_piece() {
 #[test]
 fn the_largest_sizes() {
     let words = all_cut(large_grid(6, 3)).words();
-    assert_eq!(words.len(), 7_172);
-    assert_eq!(words.len(), second::host::MOST_MODEL_WORDS);
+    assert_eq!(words.len(), 7_173);
+    assert_eq!(words.len(), MOST_MODEL_WORDS);
     assert_eq!(model_file(&words).len(), 29_907);
     let plant = Plant::from_words(&words).unwrap();
     assert_eq!(plant.table_words(), 19_968);

@@ -3,13 +3,16 @@
 use second::analysis::{run, Answer};
 use second::before;
 use second::draft::Draft;
-use second::examples::{heated_vat, three_tanks, water_level, worn_pump, RUNS_DRY, RUNS_OVER};
+use second::examples::{
+    hand_filled, heated_vat, three_tanks, water_level, worn_pump, AT_THE_STIRRER, BY_HAND, OVER_THE_RIM, RUNS_DRY,
+    RUNS_OVER,
+};
 use second::files::{model_file, model_of_file, parse_table};
 use second::listing::{listing, LIMIT};
 use second::model::Plant;
 use second::random::Random;
 use second::samples;
-use second::simulate::{travel, Travelled};
+use second::simulate::{is_forbidden, is_run, random_run, travel, Configuration, Move, Run as OneRun, Travelled};
 use second::starts::{table_of_whole_boxes, touched_by_whole_boxes};
 
 type Run = fn(&Plant, u32, &mut [i32], &mut [i32]) -> (Answer, u32);
@@ -42,12 +45,15 @@ fn first_lines() {
         ("standing-pump", "safe 6 5"),
         ("worn-pump", "safe 3 5"),
         ("worn-pump-over", "safe 3 5"),
+        ("hand-filled", "safe 4 4"),
+        ("hand-filled-stirrer", "unknown 2 3"),
         ("refused-empty", "refused 1"),
         ("refused-cut", "refused 7"),
         ("refused-trailing", "refused 8"),
         ("refused-level", "refused 11"),
         ("refused-start", "refused 13"),
         ("refused-at-wall", "refused 46"),
+        ("refused-range", "refused 16"),
     ];
     let found: Vec<_> = samples::all().into_iter().map(|(name, file)| (name, listing(&file))).collect();
     assert_eq!(found.len(), expected.len());
@@ -151,6 +157,34 @@ fn heated_vat_below_the_rim() {
     // A heat of up to 285 in the empty vat, instead of 225.
     assert_eq!(whole[..5], [1, 0, 0, 60, 285]);
     assert_eq!(listing(&model_file(&heated_vat(130).words())), "unknown 0 0\n");
+}
+
+/// The cup filled by hand: below the rim with a dose of 2 to 5, and over it with one of 6. A run is at the stirrer only
+/// with a dose of 7/2, which is strictly inside the range, and no whole number: the plant is unknown though it is safe
+/// with the least dose alone and with the most alone.
+#[test]
+fn a_cup_filled_by_hand() {
+    let text = |dose, forbidden| listing(&model_file(&hand_filled(dose, forbidden).words()));
+    assert_eq!(text(BY_HAND, OVER_THE_RIM), "safe 4 4\n0 0 0 0 0 0\n0 2 0 10 0 0\n1 0 0 0 2 5\n1 2 4 10 0 0\n");
+    assert_eq!(text([2, 6], OVER_THE_RIM), "unknown 2 3\n0 0 0 0 0 0\n0 2 0 8 0 0\n1 0 0 0 2 6\n");
+    assert_eq!(text(BY_HAND, AT_THE_STIRRER), "unknown 2 3\n0 0 0 0 0 0\n0 2 0 8 0 0\n1 0 0 0 2 5\n");
+    for dose in [[2, 2], [3, 3], [4, 4], [5, 5], [2, 3], [4, 5]] {
+        assert!(text(dose, AT_THE_STIRRER).starts_with("safe"), "{dose:?}");
+    }
+    let words = hand_filled(BY_HAND, AT_THE_STIRRER).words();
+    let plant = Plant::from_words(&words).unwrap();
+    let at = |location: usize, vat: i64, cup: i64| Configuration { location, levels: vec![vat, cup] };
+    let moves = vec![(Move::Delay(16), at(0, 0, 0)), (Move::Switch(0), at(1, 0, 7)), (Move::Delay(7), at(1, 14, 0))];
+    let run = OneRun { denominator: 2, first: at(0, 16, 0), moves };
+    assert!(is_run(&plant, &run));
+    let met: Vec<bool> = run.moves.iter().map(|(_, at)| is_forbidden(&plant, 2, at)).collect();
+    assert_eq!(met, [false, false, true]);
+    // In whole numbers no run meets it.
+    let mut random = Random::new(44);
+    for _ in 0..500 {
+        let run = random_run(&plant, &mut random, 1, 12).unwrap();
+        assert!(run.moves.iter().all(|(_, at)| !is_forbidden(&plant, 1, at)));
+    }
 }
 
 /// Runs of the water-level plant against its answer's table, or against no faces at all.

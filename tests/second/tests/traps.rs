@@ -1,6 +1,6 @@
 //! Does the comparison find wrong programs? A third, literal decider in which one mistake
-//! at a time can be switched on (document 01's traps, T-02's start parts, T-06's delays, T-12's pieces and
-//! others); each must be found within 6,000 random models, and the decider without a mistake must agree. So
+//! at a time can be switched on (document 01's traps, T-02's start parts, T-06's delays, T-10's reset ranges, T-12's
+//! pieces and others); each must be found within 6,000 random models, and the decider without a mistake must agree. So
 //! must some other ways to compute, of which T-06 makes no mistakes.
 
 use std::cell::Cell;
@@ -8,9 +8,9 @@ use std::cell::Cell;
 use second::compare::{Comparison, Tested};
 use second::damage::field_places;
 use second::exports::answer;
-use second::files::{file_of_words, model_of_file, parse_table, table_file, CUT};
+use second::files::{file_of_words, model_of_file, parse_table, table_file, CUT, HEAD, HEAD_2};
 use second::host;
-use second::model::{Model, Plant, Sizes, Switch, LEVEL};
+use second::model::{ask_head, Edition, Model, Plant, Switch, EDITION_AT, LEVEL, SWITCH_HEAD};
 use second::starts::any_crosses;
 
 const NONE: u8 = 0;
@@ -62,7 +62,23 @@ const CUT_AT_A_WHOLE_DELAY: u8 = 45;
 const STARTS_ALONE_CUT: u8 = 46;
 const PIECES_ALONE_CUT: u8 = 47;
 const CHECKS_WITHOUT_THE_CUT: u8 = 48;
-const TRAPS: u8 = 48;
+const LOW_OF_A_RANGE_ALONE: u8 = 49;
+const HIGH_OF_A_RANGE_ALONE: u8 = 50;
+const INSIDE_OF_A_RANGE_ALONE: u8 = 51;
+const RANGE_OUTSIDE_TARGET: u8 = 52;
+const RANGE_CUT_TO_THE_SOURCE: u8 = 53;
+const RANGE_AND_OLD_LEVELS: u8 = 54;
+const RANGE_OF_AN_UNMASKED_D: u8 = 55;
+const RANGE_ON_THE_PIECE_OF_ITS_LOW: u8 = 56;
+const MASKED_WITHOUT_GUARD: u8 = 57;
+const CHECKS_WITH_LOWS_ALONE: u8 = 58;
+const D_NOT_ASKED_IN_EDITION_2: u8 = 59;
+const UNMASKED_D_ASKED_IN_EDITION_2: u8 = 60;
+const D_ALONE_ASKED_IN_EDITION_1: u8 = 61;
+const TAG_9_AS_EDITION_1: u8 = 62;
+const TAG_9_REFUSED: u8 = 63;
+const FIRST_TAG_NOT_ASKED: u8 = 64;
+const TRAPS: u8 = 64;
 
 // No mistakes. An exact low is never above the invariant's high, nor a high below its low: the order of cutting
 // and rounding is not seen. What a part reaches is what its two halves reach. A delay at which a box inside the
@@ -362,20 +378,65 @@ fn switch_steps(plant: &Plant, before: &Faces, new: &mut Faces) {
             if on(LANDS_ON_FIRST_PIECE_ALONE) {
                 join(&mut new[switch.target][face * count(plant, switch.target)], landed);
             } else {
-                give(plant, new, switch.target, face, landed);
+                let low = if on(RANGE_ON_THE_PIECE_OF_ITS_LOW) { of_its_low(plant, &switch, &landed) } else { None };
+                give(plant, new, switch.target, face, low.unwrap_or(landed));
             }
         }
     }
 }
 
+/// What is below the value of the target's cut, if a range of the cut variable reaches it.
+fn of_its_low(plant: &Plant, switch: &Switch, landed: &Ranges) -> Option<Ranges> {
+    let at = plant.cut(switch.target)?;
+    let (low, high) = landed[at.variable];
+    let value = at.value as i64;
+    let mut below = landed.clone();
+    below[at.variable].1 = value - 1;
+    (switch.masked(at.variable) && low < value && value <= high).then_some(below)
+}
+
+/// What a masked variable is set to, of its reset range.
+fn set_to(range: (i64, i64), old: (i64, i64)) -> (i64, i64) {
+    if on(LOW_OF_A_RANGE_ALONE) || on(CHECKS_WITH_LOWS_ALONE) && CHECKING.get() {
+        (range.0, range.0)
+    } else if on(HIGH_OF_A_RANGE_ALONE) {
+        (range.1, range.1)
+    } else if on(INSIDE_OF_A_RANGE_ALONE) && range.0 + 1 < range.1 {
+        (range.0 + 1, range.1 - 1)
+    } else if on(RANGE_AND_OLD_LEVELS) {
+        (range.0.min(old.0), range.1.max(old.1))
+    } else {
+        range
+    }
+}
+
 /// What a switch lands from one part of the source's face.
 fn switch_step(plant: &Plant, switch: &Switch, part: Ranges) -> Option<Ranges> {
-    let guard = ranges(switch.guard);
+    let mut guard = ranges(switch.guard);
+    let mut reset = ranges(switch.reset);
+    let mut room = ranges(plant.location(switch.target).invariant);
+    let source = ranges(plant.location(switch.source).invariant);
+    for i in (0..plant.sizes.n).filter(|&i| i != switch.d && switch.masked(i)) {
+        if on(MASKED_WITHOUT_GUARD) {
+            guard[i] = part[i];
+        }
+        if on(RANGE_OUTSIDE_TARGET) {
+            room[i] = reset[i];
+        }
+        if on(RANGE_CUT_TO_THE_SOURCE) {
+            room[i] = source[i];
+        }
+    }
     let mut moved = if on(LANDS_WITHOUT_GUARD) { part } else { cut(&part, &guard)? };
-    let reset = ranges(switch.reset);
     for i in 0..plant.sizes.n {
-        if switch.mask >> i & 1 == 1 && !on(FORGETS_MASK) {
+        if switch.masked(i) && !on(FORGETS_MASK) {
+            moved[i] = set_to(reset[i], moved[i]);
+        }
+        if i == switch.d && !switch.masked(i) && on(RANGE_OF_AN_UNMASKED_D) {
             moved[i] = reset[i];
+        }
+        if on(RANGE_AND_OLD_LEVELS) && switch.masked(i) {
+            reset[i] = moved[i];
         }
     }
     if !on(LANDS_WITHOUT_RESET_BOX) {
@@ -384,7 +445,7 @@ fn switch_step(plant: &Plant, switch: &Switch, part: Ranges) -> Option<Ranges> {
     if on(LANDS_OUTSIDE_TARGET) {
         return Some(moved);
     }
-    cut(&moved, &ranges(plant.location(switch.target).invariant))
+    cut(&moved, &room)
 }
 
 /// The t from `from` to `until` (None: no end) that satisfy both conditions of one variable.
@@ -457,6 +518,7 @@ fn words_of_file(file: &[u8]) -> Vec<i32> {
         let list = if tag == CUT { &mut cuts } else { &mut words };
         list.extend(payload.chunks_exact(4).map(word));
     }
+    words.insert(EDITION_AT, if file[0] == HEAD_2 { 2 } else { 1 });
     let first = words.len();
     words.extend([-1, 0].repeat(words[1] as usize));
     cuts.chunks_exact(3).for_each(|cut| words[first + 2 * cut[0] as usize..][..2].copy_from_slice(&cut[1..]));
@@ -467,7 +529,7 @@ fn words_of_file(file: &[u8]) -> Vec<i32> {
 /// is out of order is no start.
 fn put_right(file: &[u8]) -> Vec<u8> {
     let mut words = words_of_file(file);
-    let sizes = Sizes::ask(words[0], words[1], words[2], words[3]).expect("13 comes after 2 to 4");
+    let (sizes, _) = ask_head(&words).expect("13 comes after the head's questions");
     for l in 0..sizes.locations {
         let start = &mut words[sizes.location_at(l) + 4 * sizes.n..sizes.location_at(l + 1)];
         let out_of_order = start[1..].chunks_exact(2).any(|r| r[0] > r[1]);
@@ -480,12 +542,57 @@ fn put_right(file: &[u8]) -> Vec<u8> {
     file_of_words(&sizes, &words)
 }
 
-/// The model of a file, with the mistakes that question 13 can have.
+/// The file with every range of a masked d replaced by its low.
+fn with_single_d(file: &[u8]) -> Vec<u8> {
+    let mut words = words_of_file(file);
+    let (sizes, _) = ask_head(&words).expect("16 comes after the head's questions");
+    for s in 0..sizes.switches {
+        let (d, mask) = (words[sizes.switch_at(s) + 2], words[sizes.switch_at(s) + SWITCH_HEAD - 1]);
+        if (0..sizes.n as i32).contains(&d) && mask >> d & 1 == 1 {
+            let at = sizes.reset_at(s, d as usize);
+            words[at + 1] = words[at];
+        }
+    }
+    file_of_words(&sizes, &words)
+}
+
+/// Some switch has no single reset value for its d, which is unmasked.
+fn range_of_an_unmasked_d(plant: &Plant) -> bool {
+    let mut switches = (0..plant.sizes.switches).map(|s| plant.switch(s));
+    switches.any(|s| !s.masked(s.d) && s.reset[2 * s.d] < s.reset[2 * s.d + 1])
+}
+
+/// The file with another first tag.
+fn with_tag(tag: u8, file: &[u8]) -> Vec<u8> {
+    [&[tag], &file[1..]].concat()
+}
+
+/// The model of a file, with the mistakes that the first tag can have.
 fn model_of(file: &[u8]) -> Result<Model, u32> {
+    match file.first() {
+        Some(&HEAD_2) if on(TAG_9_REFUSED) => Err(1),
+        Some(&HEAD_2) if on(TAG_9_AS_EDITION_1) => asked_of(&with_tag(HEAD, file)),
+        Some(&tag) if on(FIRST_TAG_NOT_ASKED) && tag != HEAD_2 => asked_of(&with_tag(HEAD, file)),
+        _ => asked_of(file),
+    }
+}
+
+/// The model of a file, with the mistakes that the questions 13 and 16 can have.
+fn asked_of(file: &[u8]) -> Result<Model, u32> {
     let read = model_of_file(file);
+    let first = file.first().copied();
     match &read {
         Ok(model) if on(START_INSIDE_STILL_ASKED) && any_crosses(&model.plant()) => Err(13),
         Err(13) if on(START_RANGE_NOT_ASKED) || on(START_ORDER_NOT_ASKED) => model_of_file(&put_right(file)),
+        Err(16) if on(D_NOT_ASKED_IN_EDITION_2) && first == Some(HEAD_2) => model_of_file(&with_single_d(file)),
+        Err(16) if on(D_ALONE_ASKED_IN_EDITION_1) && first == Some(HEAD) => model_of_file(&with_tag(HEAD_2, file)),
+        Ok(model) if on(UNMASKED_D_ASKED_IN_EDITION_2) && model.edition == Edition::Two => {
+            if range_of_an_unmasked_d(&model.plant()) {
+                Err(16)
+            } else {
+                read
+            }
+        }
         _ => read,
     }
 }

@@ -4,8 +4,10 @@
 use second::before;
 use second::compare::{Comparison, Tested};
 use second::exports::{answer, Call, Input, Lent};
+use second::files::{HEAD, HEAD_2};
 use second::host;
-use second::model::{ordered_inside, words_per_location, Piece, Plant, Sizes, LEVEL};
+use second::model::{ask_head, ordered_inside, words_per_location, Edition, Piece, Plant, Sizes, EDITION_AT, LEVEL};
+use second::ranges::{highs_alone, lows_alone, with_ranges};
 use second::starts::{any_crosses, table_of_whole_boxes, touched_by_whole_boxes};
 use second::tables::well_formed;
 
@@ -257,7 +259,7 @@ fn counters_asked_first(call: Call, input: &Input, lent: &mut Lent) -> u32 {
 
 /// The number of the model's words with forbidden boxes that are right.
 fn number_beside_boxes(model: &[i32]) -> Option<u32> {
-    let sizes = Sizes::ask(model[0], model[1], model[2], model[3]).ok()?;
+    let (sizes, _) = ask_head(model).ok()?;
     let mut words = model[..sizes.model_words()].to_vec();
     words[sizes.forbidden_at(0)..sizes.cut_at(0)].fill(0);
     Plant::from_words(&words).err()
@@ -418,8 +420,7 @@ fn thirty_six_for_thirty_seven_of_pieces(call: Call, input: &Input, lent: &mut L
 /// The model's words with something done to the start flag and start box of each location; None if there are
 /// too few words.
 fn with_starts(model: &[i32], change: fn(&mut [i32])) -> Option<Vec<i32>> {
-    let head = model.get(..4)?;
-    let sizes = Sizes::ask(head[0], head[1], head[2], head[3]).ok()?;
+    let (sizes, _) = ask_head(model).ok()?;
     let mut words = model.get(..sizes.model_words())?.to_vec();
     for l in 0..sizes.locations {
         change(&mut words[sizes.location_at(l) + 4 * sizes.n..sizes.location_at(l + 1)]);
@@ -554,6 +555,196 @@ fn checked_with_all_delays(call: Call, input: &Input, lent: &mut Lent) -> u32 {
     number
 }
 
+/// The model's words with another edition word.
+fn of_edition(model: &[i32], edition: i32) -> Vec<i32> {
+    let mut words = model.to_vec();
+    words[EDITION_AT] = edition;
+    words
+}
+
+/// The call on the same words with another edition word.
+fn answer_of_edition(call: Call, input: &Input, lent: &mut Lent, edition: i32) -> u32 {
+    answer(call, &Input { model: &of_edition(input.model, edition), ..*input }, lent)
+}
+
+fn edition_asked_before_4(call: Call, input: &Input, lent: &mut Lent) -> u32 {
+    let number = answer(call, input, lent);
+    if call == Call::Ceiling && number == 4 && Edition::ask(input.model[EDITION_AT]).is_err() {
+        return 43;
+    }
+    number
+}
+
+fn edition_asked_after_the_whole(call: Call, input: &Input, lent: &mut Lent) -> u32 {
+    let number = answer(call, input, lent);
+    if call == Call::Analyse && number == 43 {
+        let (sizes, _) = ask_head(&of_edition(input.model, 1)).expect("43 comes after 2 to 4");
+        if input.model.len() < sizes.model_words() {
+            return 5;
+        }
+    }
+    number
+}
+
+fn edition_asked_after_the_records(call: Call, input: &Input, lent: &mut Lent) -> u32 {
+    let number = answer(call, input, lent);
+    if call == Call::Check && number == 43 {
+        return match Plant::from_words(&of_edition(input.model, 2)).err() {
+            Some(other) if other >= 11 => other,
+            _ => 43,
+        };
+    }
+    number
+}
+
+fn edition_not_asked(call: Call, input: &Input, lent: &mut Lent) -> u32 {
+    let number = answer(call, input, lent);
+    if call == Call::WriteTable && number == 43 {
+        return answer_of_edition(call, input, lent, 1);
+    }
+    number
+}
+
+fn edition_0_taken(call: Call, input: &Input, lent: &mut Lent) -> u32 {
+    let number = answer(call, input, lent);
+    if call == Call::ReadTable && number == 43 && input.model[EDITION_AT] == 0 {
+        return answer_of_edition(call, input, lent, 1);
+    }
+    number
+}
+
+fn edition_3_taken(call: Call, input: &Input, lent: &mut Lent) -> u32 {
+    let number = answer(call, input, lent);
+    if call == Call::Desk && number == 43 && input.model[EDITION_AT] == 3 {
+        return answer_of_edition(call, input, lent, 2);
+    }
+    number
+}
+
+fn edition_by_its_last_byte(call: Call, input: &Input, lent: &mut Lent) -> u32 {
+    let number = answer(call, input, lent);
+    if call == Call::Ceiling && number == 43 {
+        return answer_of_edition(call, input, lent, input.model[EDITION_AT] & 255);
+    }
+    number
+}
+
+fn edition_of_the_word_before(call: Call, input: &Input, lent: &mut Lent) -> u32 {
+    if call == Call::Check && input.model.len() > EDITION_AT {
+        return answer_of_edition(call, input, lent, input.model[EDITION_AT - 1]);
+    }
+    answer(call, input, lent)
+}
+
+fn four_words_are_a_head(call: Call, input: &Input, lent: &mut Lent) -> u32 {
+    let number = answer(call, input, lent);
+    if let (Call::Ceiling, &[n, l, e, b]) = (call, input.model) {
+        return Sizes::ask(n, l, e, b).err().unwrap_or(5);
+    }
+    number
+}
+
+fn read_as_edition_1(call: Call, input: &Input, lent: &mut Lent) -> u32 {
+    let number = answer(call, input, lent);
+    if call == Call::ReadModel && number == 100 {
+        lent.words[EDITION_AT] = 1;
+    }
+    number
+}
+
+fn tag_as_edition(call: Call, input: &Input, lent: &mut Lent) -> u32 {
+    let number = answer(call, input, lent);
+    if call == Call::ReadModel && number == 100 {
+        lent.words[EDITION_AT] = input.file[0] as i32;
+    }
+    number
+}
+
+fn forty_three_of_a_file(call: Call, input: &Input, lent: &mut Lent) -> u32 {
+    let number = answer(call, input, lent);
+    let of_a_tag = input.file.first().is_some_and(|tag| *tag != HEAD && *tag != HEAD_2);
+    if call == Call::ReadModel && number == 1 && of_a_tag {
+        return 43;
+    }
+    number
+}
+
+fn tag_9_refused(call: Call, input: &Input, lent: &mut Lent) -> u32 {
+    if call == Call::ReadModel && input.file.first() == Some(&HEAD_2) {
+        *lent.value = 0;
+        return 1;
+    }
+    answer(call, input, lent)
+}
+
+fn buffer_kept_on_16(call: Call, input: &Input, lent: &mut Lent) -> u32 {
+    after_reading(call, input, lent, |number, before, words| {
+        if number == 16 {
+            words.copy_from_slice(before);
+        }
+    })
+}
+
+fn every_masked_variable_asked(call: Call, input: &Input, lent: &mut Lent) -> u32 {
+    if call == Call::Analyse && input.model.get(EDITION_AT) == Some(&2) {
+        return answer_of_edition(call, input, lent, 1);
+    }
+    answer(call, input, lent)
+}
+
+fn d_alone_asked_in_edition_1(call: Call, input: &Input, lent: &mut Lent) -> u32 {
+    let number = answer(call, input, lent);
+    if call == Call::Ceiling && number == 16 && input.model[EDITION_AT] == 1 {
+        return answer_of_edition(call, input, lent, 2);
+    }
+    number
+}
+
+fn d_not_asked_in_edition_2(call: Call, input: &Input, lent: &mut Lent) -> u32 {
+    let number = answer(call, input, lent);
+    if call == Call::Ceiling && number == 16 && input.model[EDITION_AT] == 2 {
+        let mut words = input.model.to_vec();
+        let (sizes, _) = ask_head(&words).expect("16 comes after the head's questions");
+        for s in 0..sizes.switches {
+            let d = words[sizes.switch_at(s) + 2];
+            if (0..sizes.n as i32).contains(&d) {
+                let at = sizes.reset_at(s, d as usize);
+                words[at + 1] = words[at];
+            }
+        }
+        return answer(call, &Input { model: &words, ..*input }, lent);
+    }
+    number
+}
+
+/// The call on the same model with other reset ranges, where its own is answered.
+fn answered_with(call: Call, input: &Input, lent: &mut Lent, wrong: Call, change: fn([i32; 2]) -> [i32; 2]) -> u32 {
+    match Plant::from_words(input.model) {
+        Ok(plant) if call == wrong => answer(call, &Input { model: &with_ranges(&plant, change), ..*input }, lent),
+        _ => answer(call, input, lent),
+    }
+}
+
+fn analysed_with_lows_alone(call: Call, input: &Input, lent: &mut Lent) -> u32 {
+    answered_with(call, input, lent, Call::Analyse, lows_alone)
+}
+
+fn analysed_with_highs_alone(call: Call, input: &Input, lent: &mut Lent) -> u32 {
+    answered_with(call, input, lent, Call::Analyse, highs_alone)
+}
+
+fn charged_with_lows_alone(call: Call, input: &Input, lent: &mut Lent) -> u32 {
+    answered_with(call, input, lent, Call::Desk, lows_alone)
+}
+
+fn checked_with_lows_alone(call: Call, input: &Input, lent: &mut Lent) -> u32 {
+    answered_with(call, input, lent, Call::Check, lows_alone)
+}
+
+fn checked_with_highs_alone(call: Call, input: &Input, lent: &mut Lent) -> u32 {
+    answered_with(call, input, lent, Call::Check, highs_alone)
+}
+
 fn fifteen_for_fourteen(call: Call, input: &Input, lent: &mut Lent) -> u32 {
     let number = answer(call, input, lent);
     if number == 14 {
@@ -563,7 +754,7 @@ fn fifteen_for_fourteen(call: Call, input: &Input, lent: &mut Lent) -> u32 {
     }
 }
 
-const WRONG: [(&str, Answer); 49] = [
+const WRONG: [(&str, Answer); 71] = [
     ("value not written on a refusal", value_not_written_on_a_refusal),
     ("the limit as an unknown answer's value", limit_as_value_of_unknown),
     ("ceiling of 32 bits", ceiling_of_32_bits),
@@ -613,6 +804,28 @@ const WRONG: [(&str, Answer); 49] = [
     ("32 without the side", sides_not_asked),
     ("32 with second pieces on own walls", second_pieces_taken_on_own_walls),
     ("36 for 37 with pieces", thirty_six_for_thirty_seven_of_pieces),
+    ("43 before 4", edition_asked_before_4),
+    ("43 after 5 of the whole", edition_asked_after_the_whole),
+    ("43 after 11 to 46", edition_asked_after_the_records),
+    ("43 not asked", edition_not_asked),
+    ("edition 0 as 1", edition_0_taken),
+    ("edition 3 as 2", edition_3_taken),
+    ("the edition's last byte", edition_by_its_last_byte),
+    ("the word before as the edition", edition_of_the_word_before),
+    ("four words as a head", four_words_are_a_head),
+    ("every file read as edition 1", read_as_edition_1),
+    ("the tag as the edition", tag_as_edition),
+    ("43 of a file", forty_three_of_a_file),
+    ("tag 9 refused", tag_9_refused),
+    ("buffer kept on 16", buffer_kept_on_16),
+    ("16 of every masked variable in edition 2", every_masked_variable_asked),
+    ("16 of d alone in edition 1", d_alone_asked_in_edition_1),
+    ("16 without d in edition 2", d_not_asked_in_edition_2),
+    ("the analysis with the lows of ranges", analysed_with_lows_alone),
+    ("the analysis with the highs of ranges", analysed_with_highs_alone),
+    ("the desk with the lows of ranges", charged_with_lows_alone),
+    ("33 with the lows of ranges", checked_with_lows_alone),
+    ("33 with the highs of ranges", checked_with_highs_alone),
 ];
 
 /// How many random models were compared until the mistake was found; None if it was not.

@@ -3,9 +3,10 @@
 //!     HOST_LIB_DIR=<directory of libhost.a> \
 //!         cargo run --release --offline --features host --bin compare [models] [damaged] [seed]
 //!
-//! Exit status: 0 no difference; 1 a difference, printed with its input; 2 some number that a call
-//! can give, or some kind of input, came up never or too seldom under the full counts; 3 built
-//! without the library (then only `--dry` runs: the second implementation against itself).
+//! Exit status: 0 no difference; 1 a difference, printed with its input, or a number that a call cannot
+//! give; 2 some number that a call can give, or some kind of input, came up never or too seldom under
+//! the full counts; 3 built without the library (then only `--dry` runs: the second implementation
+//! against itself).
 //!
 //! `--trace` prints every input to standard error before the tested call, for a program that stops
 //! within one. `--tight` lends buffers that end where their heap block ends, for a run under a
@@ -48,13 +49,21 @@ fn print_changes(changes: &Changes) {
 fn print_counts(counts: &Counts) {
     println!("fixed cases compared: {}", counts.fixed);
     println!(
-        "random models compared: {} (by n: {:?}; with cuts: {:?})",
+        "random models compared: {} (by n: {:?}; with cuts: {:?}; with reset ranges: {:?})",
         counts.models,
         &counts.by_n[1..],
-        &counts.cut_by_n[1..]
+        &counts.cut_by_n[1..],
+        &counts.ranged_by_n[1..]
     );
     println!("  with {}", listed(&counts.model_kinds));
     println!("  start boxes {}; compared trimmed too {}", listed(&counts.start_kinds), counts.trimmed);
+    println!(
+        "  {}; compared in both editions {}, refused in edition 1 {}, tables checked with narrower ranges {}",
+        listed(&counts.range_kinds),
+        counts.both_editions,
+        counts.refused_editions,
+        counts.narrowed
+    );
     println!("  under limits {}", listed(&counts.limits));
     println!("  most passes of an answer: {}", counts.most_passes);
     println!("damaged inputs compared: {} of decide and check, {} of the others", counts.damaged, counts.damaged_calls);
@@ -80,6 +89,10 @@ fn print_counts(counts: &Counts) {
     println!(
         "runs of safe models: {}, with {} delays and {} switches; of {} configurations {} forbidden, {} unreached",
         safe.runs, safe.delays, safe.switches, safe.configurations, safe.forbidden, safe.unreached
+    );
+    println!(
+        "  switches of them to a level strictly inside a reset range {}, to a fraction {}",
+        safe.inside_ranges, safe.fractions
     );
     println!(
         "runs of unknown models: {}; of {} configurations {} forbidden",
@@ -118,6 +131,11 @@ fn main() {
     print_counts(counts);
     if let Err(difference) = outcome {
         println!("DIFFERENCE\n{difference:?}");
+        std::process::exit(1);
+    }
+    let not_due = counts.numbers_not_due();
+    if !not_due.is_empty() {
+        println!("DIFFERENCE\nnumbers that a call cannot give: {}", not_due.join(", "));
         std::process::exit(1);
     }
     let full = models >= MODELS && damaged >= DAMAGED;

@@ -26,10 +26,11 @@ use second::desk::Desk;
 use second::files::{model_file, table_file};
 use second::generate::*;
 use second::host::{self, MOST_MODEL_WORDS};
-use second::model::Plant;
+use second::model::{Edition, Plant, HEAD_WORDS};
 use second::plain;
 use second::pumps::pump_model;
 use second::random::Random;
+use second::ranges::{any_range, ranged_model};
 use second::simulate::{travel, Travelled};
 use second::starts::any_crosses;
 
@@ -45,6 +46,9 @@ struct Counts {
     by_n: [u64; 7],
     /// Models with a start box that sticks out of its invariant.
     crossing: u64,
+    /// Models of edition 2, and models with a reset range.
+    second_edition: u64,
+    ranged: u64,
     passes: u64,
     most_passes: u32,
     /// Answers by k: 0, 1, 2, 3 to 5, 6 to 10, 11 to 100, more.
@@ -107,7 +111,7 @@ fn read_table(random: &mut Random, counts: &mut Counts, model: &[i32], file: &[u
         }
         Err(32 | 35..=38) => assert!(after.iter().all(|&w| w == 0)),
         Err(number) => {
-            assert!(matches!(number, 2..=5 | 11..=20 | 46));
+            assert!(matches!(number, 2..=5 | 11..=20 | 43 | 46));
             assert_eq!(after, before);
         }
     }
@@ -117,11 +121,14 @@ fn one_model(random: &mut Random, counts: &mut Counts) {
     let draft = match random.below(8) {
         0 => crossing_model(random),
         1 => pump_model(random),
+        2 => ranged_model(random),
         _ => random_model(random),
     };
     let words = draft.words();
     let plant = Plant::from_words(&words).expect("a random model passes its questions");
     counts.crossing += any_crosses(&plant) as u64;
+    counts.second_edition += (plant.edition == Edition::Two) as u64;
+    counts.ranged += any_range(&plant) as u64;
     let sizes = plant.sizes;
     let size = plant.table_words();
     counts.by_n[sizes.n] += 1;
@@ -250,7 +257,7 @@ fn damaged_inputs(random: &mut Random, counts: &mut Counts, plant: &Plant, file:
         }
         match random.below(6) {
             0 => list.truncate(random.below(list.len() + 1)),
-            1 => list.truncate(random.below(6)),
+            1 => list.truncate(random.below(HEAD_WORDS + 2)),
             2 => list.extend([1, 2, 3]),
             _ => {}
         }
@@ -357,11 +364,11 @@ fn possible(call: &str) -> Vec<u32> {
     let words: Vec<u32> = [0].into_iter().chain(2..=5).chain(11..=19).chain([46]).collect();
     let more: &[u32] = match call {
         "read model" => &[1, 6, 7, 8],
-        "ceiling" => &[],
-        "checker" => &[20, 32, 33, 34],
-        "analysis" => &[20, 21],
-        "read table" => &[20, 35, 36, 37, 38, 32],
-        "write table" => &[20, 32, 39],
+        "ceiling" => &[43],
+        "checker" => &[43, 20, 32, 33, 34],
+        "analysis" => &[43, 20, 21],
+        "read table" => &[43, 20, 35, 36, 37, 38, 32],
+        "write table" => &[43, 20, 32, 39],
         // The desk's model questions are the analysis's; here it is called on whole models.
         "desk" => return vec![0, 20, 22],
         _ => unreachable!(),
@@ -391,7 +398,13 @@ fn main() {
     let seed = arguments.get(1).copied().unwrap_or(SEED);
     println!("seed {seed}, {models} random models");
     let counts = run(models, seed);
-    println!("models by n: {:?}; with a start box that crosses the wall: {}", &counts.by_n[1..], counts.crossing);
+    println!(
+        "models by n: {:?}; with a start box that crosses the wall: {}; of edition 2: {}; with a reset range: {}",
+        &counts.by_n[1..],
+        counts.crossing,
+        counts.second_edition,
+        counts.ranged
+    );
     println!("answers: {:?}", counts.answers);
     println!(
         "passes answered {} (at most {} in one answer), literal passes compared {}",
@@ -400,9 +413,12 @@ fn main() {
     println!("answers by k (0, 1, 2, 3-5, 6-10, 11-100, more): {:?}", counts.by_passes);
     let runs = &counts.travelled;
     println!(
-        "runs {}, configurations {}, delays {}, switches {}; in a forbidden box (of models not safe) {}",
-        runs.runs, runs.configurations, runs.delays, runs.switches, runs.forbidden
+        "runs {}, configurations {}, delays {}, switches {} ({} to a level strictly inside a reset range, {} to a \
+         fraction); in a forbidden box (of models not safe) {}",
+        runs.runs, runs.configurations, runs.delays, runs.switches, runs.inside_ranges, runs.fractions, runs.forbidden
     );
+    let into_ranges = counts.ranged > 0 && runs.inside_ranges > 0 && runs.fractions > 0;
+    assert!(models < 1_000 || into_ranges, "no model with a reset range, or no run to the inside of one");
     println!("further tables refused on unknown models {}, desk calls {}", counts.tables_refused, counts.desk_calls);
     let mut missing = Vec::new();
     for (call, numbers) in &counts.seen {
