@@ -66,12 +66,13 @@
  *     rate in -1,000..1,000. A box is a low and a high for each variable, ends included: low 0,
  *     high 0, low 1, high 1, ..; it is ordered if no low is above its high.
  *
- *     Model     n, L, E, B, then the records, one after the other:
+ *     Model     n, L, E, B and the edition, 1 or 2; then the records, one after the other:
  *                 location    invariant box, rate box, start flag (1 or 0), start box (zeros if
  *                             the flag is 0; it may stick out of the invariant)
  *                 switch      source location, target location, wall variable d, source side,
  *                             target side (0 low, 1 high), reset mask (2^i for variable i), guard
- *                             box, reset box
+ *                             box, reset box (for a masked variable a single value; in edition 2
+ *                             it may be a range, but for d)
  *                 forbidden   location, box
  *                 cut         one for each location: variable and value, or -1 and 0 where the
  *                             location is not cut (always there: two zeros are a cut, not none)
@@ -89,10 +90,11 @@
  *     Run       Starts in the start part of a location. A delay of t stays in its location and
  *               moves each level by at least t times its low rate and at most t times its high
  *               rate. A switch leads from its source location, with levels in its guard, to its
- *               target location, with levels in its reset box: the masked variables set to their
- *               reset value, the others unchanged. The levels always lie in the location's
- *               invariant. Levels and delays need not be whole numbers. A run meets a forbidden box
- *               if it starts in one of its location, or a delay or switch of it ends in one.
+ *               target location, with levels in its reset box: each masked variable set to any
+ *               level of its reset range, the others unchanged. The levels always lie in the
+ *               location's invariant. Levels and delays need not be whole numbers. A run meets a
+ *               forbidden box if it starts in one of its location, or a delay or switch of it ends
+ *               in one.
  *     Table     For each location the pieces of its 2n faces, face by face: its piece, or piece 0
  *               and then piece 1. A piece is a flag and a box: 1 and the reached part of it, or all
  *               zeros where none is reached.
@@ -102,10 +104,10 @@
  *
  *     Words past the end of a model or of a table are not part of it: a list may be longer.
  *
- *     A plant of one location with the levels x and y, in 24 words:
+ *     A plant of one location with the levels x and y, in 25 words:
  *
  *         static const int32_t model[] = {
- *             2, 1, 0, 1,            n, L, E, B
+ *             2, 1, 0, 1, 1,         n, L, E, B, edition 1
  *             0, 10, 0, 10,          location 0: invariant x 0..10, y 0..10
  *             1, 1, 1, 2,                        rates x 1..1, y 1..2
  *             1, 0, 0, 2, 5,                     start flag 1, start box x 0..0, y 2..5
@@ -132,8 +134,9 @@
  *     that many bytes, words of four bytes each, in two's complement; the highest byte comes first
  *     everywhere.
  *
- *     Model     tag 1: n, L, E, B; then L of tag 2, E of tag 3, B of tag 4, each one record; then
- *               for each location that is cut a tag 8: location, variable, value; by location.
+ *     Model     tag 1, or tag 9 in edition 2: n, L, E, B; then L of tag 2, E of tag 3, B of tag 4,
+ *               each one record; then for each location that is cut a tag 8: location, variable,
+ *               value; by location.
  *     Table     tag 6: the number of present pieces; then for each a tag 5: location, face, box; by
  *               location, then by face, then by piece. If any location of the model is cut, every
  *               tag 5 has the piece, 0 or 1, after the face.
@@ -225,8 +228,8 @@ uint32_t qii_read_model(const uint8_t *file, size_t file_len, int32_t *words, si
 
 /*
  * THE MODEL'S QUESTIONS, which every call below asks first of the model's words, in this order: are
- * there four words (5); 2, 3, 4; are there all the model's words (5); 11 to 13 of each location in
- * turn, 14 to 18 of each switch, 19 of each forbidden box, 46 of each location's cut.
+ * there five words (5); 2, 3, 4; 43; are there all the model's words (5); 11 to 13 of each location
+ * in turn, 14 to 18 of each switch, 19 of each forbidden box, 46 of each location's cut.
  */
 
 /*
@@ -363,11 +366,11 @@ enum qii_answer {
 #define QII_DONE QII_SAFE
 
 /*
- * The refusals: the first question that is not yes. The numbers 9, 10, 23 to 31 and 40 to 45 are
- * not in use.
+ * The refusals: the first question that is not yes. The numbers 9, 10, 23 to 31, 40 to 42, 44 and
+ * 45 are not in use.
  */
 enum qii_refusal {
-    /* The model file does not begin with a whole field of tag 1 and length 16. */
+    /* The model file does not begin with a whole field of tag 1 or 9 and length 16. */
     QII_MODEL_HEAD = 1,
     /* n is not 1 to 6. */
     QII_VARIABLES = 2,
@@ -397,7 +400,8 @@ enum qii_refusal {
     QII_SWITCH_PLACE = 14,
     /* A switch's guard or reset box is not ordered, or has an end that is no level. */
     QII_SWITCH_BOXES = 15,
-    /* A switch's reset range of a masked variable is not a single value. */
+    /* A switch's reset range of a masked variable is not a single value. In edition 2 this is asked
+       of d alone. */
     QII_SWITCH_RESET = 16,
     /* A switch's guard of d is not the source wall. */
     QII_SWITCH_SOURCE = 17,
@@ -438,6 +442,10 @@ enum qii_refusal {
     /* The buffer for the table file has fewer than QII_CUT_TABLE_BYTES(L, C, n) bytes. */
     QII_TABLE_ROOM = 39,
 
+    /* The edition, the fifth word of a model, is neither 1 nor 2. Never given of a file: its first
+       tag gives the edition, and any but 1 and 9 gets QII_MODEL_HEAD. */
+    QII_EDITION = 43,
+
     /* A cut's field of the model file is not whole, not of length 12, of a location that does not
        exist or does not come after the one before, or of variable -1; or a location's variable and
        value are neither -1 and 0, nor a variable of 0 to n - 1 and a value strictly inside the
@@ -453,10 +461,10 @@ enum qii_refusal {
 
 /* The words of a model (5), and of the largest. A macro here uses its parameters more than once. */
 #define QII_MODEL_WORDS(n, L, E, B)                                                      \
-    (4 + QII_AS(size_t, L) * (6 * QII_AS(size_t, n) + 3) +                               \
+    (5 + QII_AS(size_t, L) * (6 * QII_AS(size_t, n) + 3) +                               \
      QII_AS(size_t, E) * (6 + 4 * QII_AS(size_t, n)) +                                   \
      QII_AS(size_t, B) * (1 + 2 * QII_AS(size_t, n)))
-#define QII_MODEL_WORDS_MAX 7172
+#define QII_MODEL_WORDS_MAX 7173
 
 /* The pieces of a table, for L locations, C of them cut, and n variables (35). */
 #define QII_TABLE_PIECES(L, C, n) \
@@ -573,7 +581,8 @@ static inline const char *qii_meaning(uint32_t number)
     case QII_SWITCH_BOXES:
         return "a switch's guard or reset box is not ordered or not in the range of levels";
     case QII_SWITCH_RESET:
-        return "a switch's reset range of a masked variable is not a single value";
+        return "a switch's reset range of a masked variable, in edition 2 of the wall variable, is "
+               "not a single value";
     case QII_SWITCH_SOURCE:
         return "a switch's guard is not on the source wall";
     case QII_SWITCH_TARGET:
@@ -603,6 +612,8 @@ static inline const char *qii_meaning(uint32_t number)
         return "the table file goes on after its last piece";
     case QII_TABLE_ROOM:
         return "the byte buffer is too short for the longest table file of the model";
+    case QII_EDITION:
+        return "the model's edition is neither 1 nor 2";
     case QII_CUT:
         return "a cut is not whole or not in order, or its variable or value does not fit";
     default:
