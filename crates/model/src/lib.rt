@@ -5,7 +5,6 @@ ghost use Prim.Native.Nat.{_+_, _*_, _≤_, _<_};
 ghost use lib.ListN.{length};
 ghost use lib.IntN.{natAbs};
 ghost use lib.Signed.{leZ};
-ghost use Rattle.integers.specs.Words as W;
 ghost use Rattle.integers.specs.Counted.{allBelow};
 ghost use Rattle.plant.specs.Ask as S;
 ghost use Rattle.plant.specs.Ask.{_then_};

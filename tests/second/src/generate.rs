@@ -42,18 +42,21 @@ pub(crate) fn random_plant(random: &mut Random, edition: Edition) -> Draft {
 /// delays.
 pub(crate) const HELP_PASSES: u32 = 60;
 /// Locations that such a model has at most.
-const MOST_HELPED: usize = 12;
+pub(crate) const MOST_HELPED: usize = 12;
+/// How many drafts are tried for one with a box that tells.
+const DRAFTS: usize = 20;
 
-/// A random model with cuts and one forbidden box: one that a part would touch without the cuts and none
-/// touches with them, if such a box is found soon.
-pub fn helped_model(random: &mut Random) -> Draft {
+/// The first of some random drafts for which a box is found, with this one forbidden; if none is found soon, the last
+/// of them, with random boxes.
+pub(crate) fn with_found_box(
+    random: &mut Random,
+    draw: fn(&mut Random) -> Draft,
+    find: fn(&mut Random, &Draft) -> Option<(usize, Vec<i32>)>,
+) -> Draft {
     let mut draft = Draft::default();
-    for _ in 0..20 {
-        let edition = random_edition(random);
-        draft = random_plant(random, edition);
-        place_starts(random, &mut draft, (1, 4));
-        cut_locations(random, &mut draft, 1, 1);
-        if let Some(found) = helped_box(random, &draft) {
+    for _ in 0..DRAFTS {
+        draft = draw(random);
+        if let Some(found) = find(random, &draft) {
             draft.forbidden = vec![found];
             return draft;
         }
@@ -62,22 +65,38 @@ pub fn helped_model(random: &mut Random) -> Draft {
     draft
 }
 
+/// A draft with starts, those of one draft in three across walls now and then, and with random cuts.
+pub(crate) fn with_starts_and_cuts(random: &mut Random, mut draft: Draft) -> Draft {
+    let crossing = random.pick(&[(0, 1), (0, 1), (1, 2)]);
+    place_starts(random, &mut draft, crossing);
+    random_cuts(random, &mut draft);
+    draft
+}
+
+/// A random model with cuts and one forbidden box: one that a part would touch without the cuts and none
+/// touches with them, if such a box is found soon.
+pub fn helped_model(random: &mut Random) -> Draft {
+    let draw = |random: &mut Random| {
+        let edition = random_edition(random);
+        let mut draft = random_plant(random, edition);
+        place_starts(random, &mut draft, (1, 4));
+        cut_locations(random, &mut draft, 1, 1);
+        draft
+    };
+    with_found_box(random, draw, helped_box)
+}
+
 /// A random model with start boxes that cross walls and one forbidden box: one that would be touched if start
 /// boxes were taken whole and is not touched as it is, if such a box is found soon.
 pub fn crossing_model(random: &mut Random) -> Draft {
-    let mut draft = Draft::default();
-    for _ in 0..20 {
+    let draw = |random: &mut Random| {
         let edition = random_edition(random);
-        draft = random_plant(random, edition);
+        let mut draft = random_plant(random, edition);
         place_starts(random, &mut draft, (1, 1));
         random_cuts(random, &mut draft);
-        if let Some(found) = box_beyond_starts(random, &draft) {
-            draft.forbidden = vec![found];
-            return draft;
-        }
-    }
-    random_forbidden(random, &mut draft);
-    draft
+        draft
+    };
+    with_found_box(random, draw, box_beyond_starts)
 }
 
 /// Location and box that no part touches, though one would if start boxes were taken whole.
@@ -445,7 +464,7 @@ fn random_starts(random: &mut Random, draft: &mut Draft) {
 }
 
 /// Start boxes, of which that part crosses a wall.
-pub(crate) fn place_starts(random: &mut Random, draft: &mut Draft, (part, whole): (u64, u64)) {
+fn place_starts(random: &mut Random, draft: &mut Draft, (part, whole): (u64, u64)) {
     let sure = random.below(draft.locations.len());
     for (l, location) in draft.locations.iter_mut().enumerate() {
         if l != sure && !random.chance(1, 8) {
@@ -510,7 +529,7 @@ fn place_behind(random: &mut Random, invariant: &[i32], start: &mut [i32], i: us
     start[2 * i..2 * i + 2].copy_from_slice(&[x.min(y), x.max(y)]);
 }
 
-pub(crate) fn random_forbidden(random: &mut Random, draft: &mut Draft) {
+fn random_forbidden(random: &mut Random, draft: &mut Draft) {
     let boxes = match random.below(20) {
         0 => random.below(MAX_FORBIDDEN + 1),
         1 => MAX_FORBIDDEN,
@@ -543,7 +562,7 @@ pub(crate) fn random_forbidden(random: &mut Random, draft: &mut Draft) {
 }
 
 /// Cuts in no location, in one, in some or in all of those that can be cut.
-pub(crate) fn random_cuts(random: &mut Random, draft: &mut Draft) {
+fn random_cuts(random: &mut Random, draft: &mut Draft) {
     match random.below(8) {
         0..=2 => {}
         3 => {

@@ -4,7 +4,7 @@
 use crate::before;
 use crate::draft::{Draft, LocationDraft};
 use crate::generate::{
-    close, close_by, find_box, place_starts, random_cuts, random_edition, random_forbidden, random_switch, touched_in,
+    close, close_by, find_box, random_edition, random_switch, touched_in, with_found_box, with_starts_and_cuts,
     HELP_PASSES,
 };
 use crate::model::Plant;
@@ -13,19 +13,11 @@ use crate::random::Random;
 /// A random pump plant with one forbidden box: one that a part touches with the steps of before and none touches
 /// with those of now, if such a box is found soon.
 pub fn pump_model(random: &mut Random) -> Draft {
-    let mut draft = Draft::default();
-    for _ in 0..20 {
-        draft = random_pumps(random);
-        let crossing = random.pick(&[(0, 1), (0, 1), (1, 2)]);
-        place_starts(random, &mut draft, crossing);
-        random_cuts(random, &mut draft);
-        if let Some(found) = box_of_before(random, &draft) {
-            draft.forbidden = vec![found];
-            return draft;
-        }
-    }
-    random_forbidden(random, &mut draft);
-    draft
+    let draw = |random: &mut Random| {
+        let draft = random_pumps(random);
+        with_starts_and_cuts(random, draft)
+    };
+    with_found_box(random, draw, box_of_before)
 }
 
 /// Locations with the same walls, or with walls of their own, and switches between them.

@@ -3,9 +3,9 @@
 
 use crate::draft::Draft;
 use crate::generate::{
-    close, find_box, place_starts, random_cuts, random_forbidden, random_plant, touched_in, HELP_PASSES,
+    close, find_box, random_plant, touched_in, with_found_box, with_starts_and_cuts, HELP_PASSES, MOST_HELPED,
 };
-use crate::model::{Edition, Location, Plant, Switch, EDITION_AT, LEVEL};
+use crate::model::{Cut, Edition, Location, Plant, Switch, EDITION_AT, LEVEL};
 use crate::random::Random;
 
 /// How the reset ranges of a model lie; each must come up in a comparison. A range is one of a masked variable
@@ -61,7 +61,7 @@ fn kinds_of_one([low, high]: [i32; 2], target: &Location, i: usize) -> ([bool; 9
     let outside = high < from || to < low;
     let meets = (low < from && high == from) || (high > to && low == to);
     let sticks_out = !outside && !meets;
-    let across = |cut: crate::model::Cut| cut.variable == i && low.max(from) < cut.value && cut.value < high.min(to);
+    let across = |cut: Cut| cut.variable == i && low.max(from) < cut.value && cut.value < high.min(to);
     let kinds = [
         from <= low && high <= to,
         (low, high) == (from, to),
@@ -156,27 +156,16 @@ pub fn one_wider([low, high]: [i32; 2]) -> [i32; 2] {
 /// their lows, beyond their highs or beyond both, or is not touched and would be if they were wider, if such a box is
 /// found soon.
 pub fn ranged_model(random: &mut Random) -> Draft {
-    let mut draft = Draft::default();
-    for _ in 0..20 {
-        draft = random_plant(random, Edition::Two);
-        let crossing = random.pick(&[(0, 1), (0, 1), (1, 2)]);
-        place_starts(random, &mut draft, crossing);
-        random_cuts(random, &mut draft);
-        if let Some(found) = telling_box(random, &draft) {
-            draft.forbidden = vec![found];
-            return draft;
-        }
-    }
-    random_forbidden(random, &mut draft);
-    draft
+    let draw = |random: &mut Random| {
+        let draft = random_plant(random, Edition::Two);
+        with_starts_and_cuts(random, draft)
+    };
+    with_found_box(random, draw, telling_box)
 }
-
-/// Locations that such a model has at most.
-const MOST_LOCATIONS: usize = 12;
 
 /// Location and box of which the ranges tell whether it is touched.
 fn telling_box(random: &mut Random, draft: &Draft) -> Option<(usize, Vec<i32>)> {
-    if draft.locations.len() > MOST_LOCATIONS {
+    if draft.locations.len() > MOST_HELPED {
         return None;
     }
     let words = draft.words();

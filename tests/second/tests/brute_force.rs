@@ -695,6 +695,12 @@ fn switch_steps_hold_what_runs_reach() {
     assert!(landed > 5_000 && nothing > 5_000 && wide > 300, "{landed} landed, {nothing} not, {wide} wider");
 }
 
+/// What the analysis answers within some passes.
+fn answered(plant: &Plant) -> Answer {
+    let (mut table, mut work) = (vec![0; plant.table_words()], vec![0; plant.table_words()]);
+    run_quick(plant, pass_budget(plant).min(100), &mut table, &mut work).0
+}
+
 /// T-10: pass by pass, the tables with narrower reset ranges lie inside those with the ranges; a table that is accepted
 /// for a model is accepted with narrower ranges; so a safe model stays safe. Some are unknown by their ranges alone.
 #[test]
@@ -727,11 +733,7 @@ fn narrower_ranges_only_narrow() {
                 accepted += 1;
             }
         }
-        let answer = |plant: &Plant| {
-            let (mut table, mut work) = (vec![0; plant.table_words()], vec![0; plant.table_words()]);
-            run_quick(plant, pass_budget(plant).min(100), &mut table, &mut work).0
-        };
-        match (answer(&plant), answer(&narrow)) {
+        match (answered(&plant), answered(&narrow)) {
             (Answer::Unknown, Answer::Safe) => unknown_by_ranges += 1,
             (Answer::Safe, narrow) => assert_ne!(narrow, Answer::Unknown, "{words:?}"),
             _ => {}
@@ -827,11 +829,7 @@ fn cuts_only_narrow() {
             }
         }
         narrower += (forbidden_touched(&whole, &faces) && !forbidden_touched(&plant, &table)) as u32;
-        let answer = |plant: &Plant| {
-            let (mut table, mut work) = (vec![0; plant.table_words()], vec![0; plant.table_words()]);
-            run_quick(plant, pass_budget(plant).min(100), &mut table, &mut work).0
-        };
-        match (answer(&plant), answer(&whole)) {
+        match (answered(&plant), answered(&whole)) {
             (Answer::Safe, Answer::Unknown) => helped += 1,
             (Answer::Unknown, whole) => assert_eq!(whole, Answer::Unknown),
             _ => {}
