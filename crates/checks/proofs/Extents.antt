@@ -18,7 +18,6 @@ use Rattle.plant.proofs.Passed.{Passed, IsCut}
 use Rattle.plant.proofs.Pieces.{per-face-most}
 use Rattle.records.proofs.Positions.{length-invariant}
 use Rattle.model.proofs.Passing.{whole-passed}
-use Rattle.passes.proofs.PartWords.{invariant-in}
 use Rattle.checks.specs.Ready.{LocationReady}
 
 -- ---- the side
@@ -74,19 +73,15 @@ some-piece (cutBy v x) = omega arith
 
 module _ (m : List ℤ) (ok : Passed m) (l : ℕ) (u : l < L# m) where
   -- a variable that is not -1 is that of a cut
-  cut-words : eqZ (cutVariable m l) (negsuc 0) ≡ false → IsCut m l
+  pub cut-words : eqZ (cutVariable m l) (negsuc 0) ≡ false → IsCut m l
   cut-words e = ⊎-elim (λ h. no-true (sym e ∙ is-true (eqZ-intro (h .no-variable)))) (λ h. h) (ok .of-cut l u .words)
 
-  pub location-ready : {n : ℕ} {inv : List ℤ} {c : ℕ} {variable value : ℤ} → LocationRead m l n inv c variable value → LocationReady n inv c variable value
+  pub location-ready : {n : ℕ} {inv : List ℤ} {c : ℕ} {variable value : ℤ} → LocationRead m l n inv c variable value → LocationReady n inv c variable
   unfolding perFace
-  location-ready r = rw (r .n-is, r .inv-is, r .c-is, r .variable-is, r .value-is) (record {
+  location-ready r = rw (r .n-is, r .inv-is, r .c-is, r .variable-is) (record {
     n-small = ok .n-small;
     inv-length = length-invariant m (whole-passed m ok) l u;
-    inv-in = invariant-in m ok l u;
-    inv-ordered = ok .of-location l u .invariant-ordered;
     some-piece = some-piece (cutOf m l);
     two-most = per-face-most m l;
     named = record { not-negative = λ e. cut-words e .not-negative; there = λ e. omega (arith, cut-words e .inside .0) };
-    above = λ e. cut-words e .inside .1;
-    below = λ e. cut-words e .inside .2;
   })

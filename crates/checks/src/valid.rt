@@ -52,7 +52,7 @@ fn piece_ok(
     q: usize,
     piece: &[i32],
 ) -> bool
-    requires { ⌜ LocationReady n (now inv) c variable value × (q < 2 * n * c) × (length (now piece) ≡ faceSize n) ⌝ }
+    requires { ⌜ LocationReady n (now inv) c variable × (q < 2 * n * c) × (length (now piece) ≡ faceSize n) ⌝ }
     ensures { λ r. ⌜ r ≡ (absentOk n (now (piece .entry)) || presentOk n (now (inv .entry)) (variableOf (q / c)) (wall (now (inv .entry)) (variableOf (q / c)) (sideOf (q / c))) (extentBy (cutFrom variable value) (variableOf (q / c)) (q % c)) (now (piece .entry))) ⌝ }
 {
     let flag = piece[0];

@@ -15,7 +15,7 @@ use Rattle.plant.specs.Questions.{boxOk, insideOk, zerosOk, startOk, loc
 use Rattle.plant.specs.Delays.{delaysInto, bothDelays, hasDelay, orNever}
 use Rattle.plant.specs.Steps.{delaysIntoBox, touches, lowAt, highAt, lowAfter, highAfter, boxAfter, wallDelays, wallStep, setMasked, guarded, landed, switchStep}
 use Rattle.plant.specs.Pieces.{extentBy, keepsTo, boxUpTo, boxFrom, cutToExtent, piecesPerFace, perFace, pieces, pieceNumber, pieceFace, pieceIndex, pieceVariable, pieceWall, pieceExtent, pieceRange}
-use Rattle.plant.specs.Tables.{piecesBefore, pieceCount, tableSize, pieceAt, tableBy, faceRead, pieceOf, onWall, absentOk, presentOk, pieceOk, tableOk, startPart, partOf, toPiece, wallStepAt, wallFrom, sourcePiece, switchStepAt, switchOnto, wallsJoined, switchesJoined, newPiece, pass, tableAfter, partTouches, touching, widths, faceCount, ceilingOf}
+use Rattle.plant.specs.Tables.{piecesBefore, pieceCount, tableSize, pieceAt, tableBy, faceRead, pieceOf, onWall, absentOk, presentOk, pieceOk, tableOk, startPart, partOf, toPiece, wallStepAt, wallFrom, sourcePiece, switchStepAt, switchOnto, wallsJoined, switchesJoined, newPiece, pass, tableAfter, partTouches, touching, width, allWidths, otherWidths, ceilingPerLocation, locationCeiling, ceilingOf}
 use Rattle.plant.specs.Calls.{unchanged, certificateQuestions, tableQuestions, checkerQuestions, search, analysis}
 use Rattle.plant.specs.Cases.{box₂}
 use Rattle.plant.proofs.CutCases.{gone, there, no-cut}
@@ -139,7 +139,7 @@ pub record ResetCases : Type 0 where
       ++ there 0 0 5 6 ++ there 0 0 6 8 ++ there 10 10 5 6 ++ there 10 10 6 8 ++ gone ++ gone ++ gone ++ gone
 
 pub reset-cases : ResetCases
-unfolding floorZ ceilZ maxZ minZ equal cat allBelow anyBelow sumBelow _then_ first low high boxBy boxAt ordered cut hull unlessEmpty faceWords join joins locationAt invariant rate startFlag startBox switchAt source target wallVariable sourceSide targetSide resetMask masked guard reset forbiddenAt forbiddenLocation forbiddenBox cutAt cutVariable cutValue cutFrom cutOf modelSize wall faceWall boxOk insideOk zerosOk startOk locationQuestions placesOk boxesOk singleAt singleOk sourceWall targetWall guardOk levelAfter landsOk switchQuestions forbiddenQuestion strictlyInside cutOk cutQuestion rangesQuestions editionQuestion recordsQuestions modelQuestions delaysInto bothDelays hasDelay orNever delaysIntoBox touches lowAt highAt lowAfter highAfter boxAfter wallDelays wallStep setMasked guarded landed switchStep extentBy keepsTo boxUpTo boxFrom cutToExtent piecesPerFace perFace pieces pieceNumber pieceFace pieceIndex pieceVariable pieceWall pieceExtent pieceRange piecesBefore pieceCount tableSize pieceAt tableBy faceRead pieceOf onWall absentOk presentOk pieceOk tableOk startPart partOf toPiece wallStepAt wallFrom sourcePiece switchStepAt switchOnto wallsJoined switchesJoined newPiece pass tableAfter partTouches touching widths faceCount ceilingOf unchanged certificateQuestions tableQuestions checkerQuestions search analysis dosing dose kept tableOfDose stirred
+unfolding floorZ ceilZ maxZ minZ equal cat allBelow anyBelow sumBelow _then_ first low high boxBy boxAt ordered cut hull unlessEmpty faceWords join joins locationAt invariant rate startFlag startBox switchAt source target wallVariable sourceSide targetSide resetMask masked guard reset forbiddenAt forbiddenLocation forbiddenBox cutAt cutVariable cutValue cutFrom cutOf modelSize wall faceWall boxOk insideOk zerosOk startOk locationQuestions placesOk boxesOk singleAt singleOk sourceWall targetWall guardOk levelAfter landsOk switchQuestions forbiddenQuestion strictlyInside cutOk cutQuestion rangesQuestions editionQuestion recordsQuestions modelQuestions delaysInto bothDelays hasDelay orNever delaysIntoBox touches lowAt highAt lowAfter highAfter boxAfter wallDelays wallStep setMasked guarded landed switchStep extentBy keepsTo boxUpTo boxFrom cutToExtent piecesPerFace perFace pieces pieceNumber pieceFace pieceIndex pieceVariable pieceWall pieceExtent pieceRange piecesBefore pieceCount tableSize pieceAt tableBy faceRead pieceOf onWall absentOk presentOk pieceOk tableOk startPart partOf toPiece wallStepAt wallFrom sourcePiece switchStepAt switchOnto wallsJoined switchesJoined newPiece pass tableAfter partTouches touching width allWidths otherWidths ceilingPerLocation locationCeiling ceilingOf unchanged certificateQuestions tableQuestions checkerQuestions search analysis dosing dose kept tableOfDose stirred
 reset-cases = record {
   range-2 = refl;
   range-1 = refl;

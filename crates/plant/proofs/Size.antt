@@ -15,7 +15,7 @@ use Rattle.integers.proofs.Counted.{sum-le, sum-back}
 use Rattle.plant.specs.Box.{low, high, Ordered, Inside, Face, absent, present, faceWords, FaceIn}
 use Rattle.plant.specs.Model.{n#, L#, invariant}
 use Rattle.plant.specs.Pieces.{pieces, pieceVariable, pieceExtent, pieceRange}
-use Rattle.plant.specs.Tables.{pieceOf, newPiece, pass, tableAfter, widths, faceCount, ceilingOf}
+use Rattle.plant.specs.Tables.{pieceOf, newPiece, pass, tableAfter, width, otherWidths, faceCount, ceilingByPieces}
 use Rattle.plant.proofs.Boxes.{FaceAll, box-ext, face-trans, all-map}
 use Rattle.plant.proofs.Passed.{Passed}
 use Rattle.plant.proofs.Pieces.{extent-range}
@@ -46,23 +46,24 @@ module _ (a b c d : ℤ) (ordered : a ≤ℤ b) (lower : c ≤ℤ a) (higher : b
       (omega (arithZ, # b ⊟ # a, # d ⊟ # c), omega (arithZ, # b ⊟ # a, # d ⊟ # c))
 
 module _ (n d : ℕ) (a b : List ℤ) (o : Ordered n a) (p : Inside n a b) where
-  abbrev width : List ℤ → ℕ → ℕ
-  width x i = cond (eqb i d) 0 (natAbs (high x i -ℤ low x i))
+  abbrev widthBut : List ℤ → ℕ → ℕ
+  widthBut x i = cond (eqb i d) 0 (width x i)
 
-  each-width : (i : ℕ) → i < n → width a i ≤ width b i
+  each-width : (i : ℕ) → i < n → widthBut a i ≤ widthBut b i
+  unfolding width
   each-width i u = by-test₂ _≤_ (eqb i d) (λ _. omega arith) (λ _. width-mono (low a i) (high a i) (low b i) (high b i) (o i u) (p .lower i u) (p .higher i u))
 
-  widths-mono : widths n d a ≤ widths n d b
-  unfolding widths
-  widths-mono = sum-le n (width a) (width b) each-width
+  widths-mono : otherWidths n d a ≤ otherWidths n d b
+  unfolding otherWidths
+  widths-mono = sum-le n (widthBut a) (widthBut b) each-width
 
   -- no wider, so the same ends, but for d
-  widths-back : widths n d b ≤ widths n d a → (i : ℕ) → i < n → T (not (eqb i d)) → (low b i ≡ low a i) × (high b i ≡ high a i)
-  unfolding widths
+  widths-back : otherWidths n d b ≤ otherWidths n d a → (i : ℕ) → i < n → T (not (eqb i d)) → (low b i ≡ low a i) × (high b i ≡ high a i)
+  unfolding otherWidths width
   widths-back h i u k =
       width-back (low a i) (high a i) (low b i) (high b i) (o i u) (p .lower i u) (p .higher i u)
       (subst (λ (z : Bool). cond z 0 (natAbs (high b i -ℤ low b i)) ≤ cond z 0 (natAbs (high a i -ℤ low a i))) (is-false {b = eqb i d} k)
-      (sum-back n (width a) (width b) each-width h i u))
+      (sum-back n (widthBut a) (widthBut b) each-width h i u))
 
 -- ---- pieces
 
@@ -121,8 +122,8 @@ locationSum m t l = sumBelow (pieces m l) (pieceSum m t l)
 unfoldable pub size : List ℤ → List ℤ → ℕ
 size m t = sumBelow (L# m) (locationSum m t)
 
-pub size-le-ceiling : (m t : List ℤ) → Valid m t → size m t ≤ ceilingOf m
-unfolding size ceilingOf
+pub size-le-ceiling : (m t : List ℤ) → Valid m t → size m t ≤ ceilingByPieces m
+unfolding size ceilingByPieces
 size-le-ceiling m t good = sum-le (L# m) (locationSum m t) _ (λ l u. sum-le (pieces m l) (pieceSum m t l) _ (λ q v. count-ceiling m l q (pieceOf m t l q) (good .valid l q u v)))
 
 -- a pass only adds

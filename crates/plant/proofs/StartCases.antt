@@ -15,7 +15,7 @@ use Rattle.plant.specs.Questions.{boxOk, insideOk, zerosOk, startOk, loc
 use Rattle.plant.specs.Delays.{delaysInto, bothDelays, hasDelay, orNever}
 use Rattle.plant.specs.Steps.{delaysIntoBox, touches, lowAt, highAt, lowAfter, highAfter, boxAfter, wallDelays, wallStep, setMasked, guarded, landed, switchStep}
 use Rattle.plant.specs.Pieces.{extentBy, keepsTo, boxUpTo, boxFrom, cutToExtent, piecesPerFace, perFace, pieces, pieceNumber, pieceFace, pieceIndex, pieceVariable, pieceWall, pieceExtent, pieceRange}
-use Rattle.plant.specs.Tables.{piecesBefore, pieceCount, tableSize, pieceAt, tableBy, faceRead, pieceOf, onWall, absentOk, presentOk, pieceOk, tableOk, startPart, partOf, toPiece, wallStepAt, wallFrom, sourcePiece, switchStepAt, switchOnto, wallsJoined, switchesJoined, newPiece, pass, tableAfter, partTouches, touching, widths, faceCount, ceilingOf}
+use Rattle.plant.specs.Tables.{piecesBefore, pieceCount, tableSize, pieceAt, tableBy, faceRead, pieceOf, onWall, absentOk, presentOk, pieceOk, tableOk, startPart, partOf, toPiece, wallStepAt, wallFrom, sourcePiece, switchStepAt, switchOnto, wallsJoined, switchesJoined, newPiece, pass, tableAfter, partTouches, touching, width, allWidths, otherWidths, ceilingPerLocation, locationCeiling, ceilingOf}
 use Rattle.plant.specs.Calls.{unchanged, certificateQuestions, tableQuestions, checkerQuestions, search, analysis}
 use Rattle.plant.specs.StartsInside as before
 use Rattle.plant.specs.Cases.{box₂}
@@ -116,7 +116,7 @@ pub record StartCases : Type 0 where
   pub cut-part : startPart cutQ 0 ≡ present (box₂ 0 0 2 10)
 
 pub start-cases : StartCases
-unfolding floorZ ceilZ maxZ minZ equal cat allBelow anyBelow sumBelow _then_ first low high boxBy boxAt ordered cut hull unlessEmpty faceWords join joins locationAt invariant rate startFlag startBox switchAt source target wallVariable sourceSide targetSide resetMask masked guard reset forbiddenAt forbiddenLocation forbiddenBox cutAt cutVariable cutValue cutFrom cutOf modelSize wall faceWall boxOk insideOk zerosOk startOk locationQuestions placesOk boxesOk singleAt singleOk sourceWall targetWall guardOk levelAfter landsOk switchQuestions forbiddenQuestion strictlyInside cutOk cutQuestion rangesQuestions editionQuestion recordsQuestions modelQuestions delaysInto bothDelays hasDelay orNever delaysIntoBox touches lowAt highAt lowAfter highAfter boxAfter wallDelays wallStep setMasked guarded landed switchStep extentBy keepsTo boxUpTo boxFrom cutToExtent piecesPerFace perFace pieces pieceNumber pieceFace pieceIndex pieceVariable pieceWall pieceExtent pieceRange piecesBefore pieceCount tableSize pieceAt tableBy faceRead pieceOf onWall absentOk presentOk pieceOk tableOk startPart partOf toPiece wallStepAt wallFrom sourcePiece switchStepAt switchOnto wallsJoined switchesJoined newPiece pass tableAfter partTouches touching widths faceCount ceilingOf unchanged certificateQuestions tableQuestions checkerQuestions search analysis before.startOk before.locationQuestions before.modelQuestions before.startPart before.partOf before.wallFrom before.switchesJoined before.pass before.tableAfter before.touching before.search before.analysis plantQ startingP startingY falling overhang overhangTable two cutQ
+unfolding floorZ ceilZ maxZ minZ equal cat allBelow anyBelow sumBelow _then_ first low high boxBy boxAt ordered cut hull unlessEmpty faceWords join joins locationAt invariant rate startFlag startBox switchAt source target wallVariable sourceSide targetSide resetMask masked guard reset forbiddenAt forbiddenLocation forbiddenBox cutAt cutVariable cutValue cutFrom cutOf modelSize wall faceWall boxOk insideOk zerosOk startOk locationQuestions placesOk boxesOk singleAt singleOk sourceWall targetWall guardOk levelAfter landsOk switchQuestions forbiddenQuestion strictlyInside cutOk cutQuestion rangesQuestions editionQuestion recordsQuestions modelQuestions delaysInto bothDelays hasDelay orNever delaysIntoBox touches lowAt highAt lowAfter highAfter boxAfter wallDelays wallStep setMasked guarded landed switchStep extentBy keepsTo boxUpTo boxFrom cutToExtent piecesPerFace perFace pieces pieceNumber pieceFace pieceIndex pieceVariable pieceWall pieceExtent pieceRange piecesBefore pieceCount tableSize pieceAt tableBy faceRead pieceOf onWall absentOk presentOk pieceOk tableOk startPart partOf toPiece wallStepAt wallFrom sourcePiece switchStepAt switchOnto wallsJoined switchesJoined newPiece pass tableAfter partTouches touching width allWidths otherWidths ceilingPerLocation locationCeiling ceilingOf unchanged certificateQuestions tableQuestions checkerQuestions search analysis before.startOk before.locationQuestions before.modelQuestions before.startPart before.partOf before.wallFrom before.switchesJoined before.pass before.tableAfter before.touching before.search before.analysis plantQ startingP startingY falling overhang overhangTable two cutQ
 start-cases = record {
   crossing = refl;
   crossing-part = refl;

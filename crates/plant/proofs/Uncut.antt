@@ -1,5 +1,5 @@
 -- Where no location is cut: pieces are faces, and a table's words, its longest file and the ceiling are those of document 01.
-use mathlib.Core.Path.{_≡_, refl, ap, _∙_, subst}
+use mathlib.Core.Path.{_≡_, refl, sym, ap, _∙_, subst}
 use mathlib.Core.Bool.{Bool, true, false, cond}
 use mathlib.Core.List.{List}
 use Prim.Native.Nat.{ℕ, _+_, _*_, _/_, _<_}
@@ -8,12 +8,12 @@ use lib.Dec.{T, eqb}
 use lib.IntN.{ℤ}
 use Rattle.integers.specs.Counted.{sumBelow}
 use Rattle.integers.proofs.Counted.{Some, any-some, sum-ext, sum-same}
-use Rattle.plant.specs.Box.{Face, present}
 use Rattle.plant.specs.Model.{n#, L#, invariant, cutOf, variableOf}
-use Rattle.plant.specs.Pieces.{Extent, wholeFace, extentBy, cutToExtent, perFace, anyCut, pieces, pieceFace, pieceIndex, pieceVariable, pieceExtent, pieceRange}
-use Rattle.plant.specs.Tables.{wordsPerLocation, piecesBefore, pieceCount, tableSize, longestTableFile, widths, faceCount, ceilingOf}
+use Rattle.plant.specs.Pieces.{perFace, anyCut, pieces}
+use Rattle.plant.specs.Tables.{wordsPerLocation, piecesBefore, pieceCount, tableSize, longestTableFile, allWidths, otherWidths, ceilingPerLocation, locationCeiling, ceilingOf}
 use Rattle.plant.specs.Meaning.{Uncut, UncutMeans}
-use Rattle.plant.proofs.PieceCases.{one-per-face, extent-uncut}
+use Rattle.plant.proofs.PieceCases.{one-per-face}
+use Rattle.plant.proofs.ByLocation.{faces-uncut}
 use Rattle.plant.proofs.Tables.{table-words}
 
 module _ (m : List ℤ) (none : Uncut m) where
@@ -24,25 +24,6 @@ module _ (m : List ℤ) (none : Uncut m) where
     pub all-pieces : pieces m l ≡ 2 * n# m
     unfolding pieces
     all-pieces = ap (λ (x : ℕ). 2 * n# m * x) one-piece ∙ omega arith
-
-    variable-is : (f : ℕ) → pieceVariable m l f ≡ variableOf f
-    unfolding pieceVariable pieceFace
-    variable-is f = ap (λ (x : ℕ). variableOf (f / x)) one-piece ∙ ap variableOf (omega arith)
-
-    range-is : (f : ℕ) → pieceRange m l f ≡ present (invariant m l)
-    unfolding pieceRange pieceExtent cutToExtent
-    range-is f =
-        (λ i. cutToExtent (n# m) (extentBy (none l u i) (pieceVariable m l f) (pieceIndex m l f)) (invariant m l))
-        ∙ ap (λ (e : Extent). cutToExtent (n# m) e (invariant m l)) (extent-uncut (pieceVariable m l f) (pieceIndex m l f))
-
-    share-is : (f : ℕ) → faceCount (n# m) (pieceVariable m l f) (pieceRange m l f) ≡ 1 + widths (n# m) (variableOf f) (invariant m l)
-    unfolding faceCount
-    share-is f = λ i. faceCount (n# m) (variable-is f i) (range-is f i)
-
-    ceiling-at : sumBelow (pieces m l) (λ q. faceCount (n# m) (pieceVariable m l q) (pieceRange m l q)) ≡ sumBelow (2 * n# m) (λ f. 1 + widths (n# m) (variableOf f) (invariant m l))
-    ceiling-at =
-        ap (λ (k : ℕ). sumBelow k (λ q. faceCount (n# m) (pieceVariable m l q) (pieceRange m l q))) all-pieces
-        ∙ sum-ext (2 * n# m) (λ q. faceCount (n# m) (pieceVariable m l q) (pieceRange m l q)) (λ f. 1 + widths (n# m) (variableOf f) (invariant m l)) (λ f v. share-is f)
 
   words : tableSize m ≡ L# m * wordsPerLocation (n# m)
   words =
@@ -68,11 +49,17 @@ module _ (m : List ℤ) (none : Uncut m) where
   unfolding longestTableFile
   bytes = λ i. 7 + count-is i * cond (not-any i) (15 + 8 * n# m) (11 + 8 * n# m)
 
+  by-location : ceilingOf m ≡ sumBelow (L# m) (λ l. ceilingPerLocation (n# m) (allWidths (n# m) (invariant m l)))
+  unfolding ceilingOf locationCeiling
+  by-location = sum-ext (L# m) (λ l. locationCeiling (n# m) (invariant m l) (cutOf m l)) (λ l. ceilingPerLocation (n# m) (allWidths (n# m) (invariant m l)))
+      (λ l u. ap (locationCeiling (n# m) (invariant m l)) (none l u))
+
   pub no-cuts : UncutMeans m
-  unfolding ceilingOf
+  unfolding ceilingPerLocation
   no-cuts = record {
     words = words;
     bytes = bytes;
-    ceiling = sum-ext (L# m) (λ l. sumBelow (pieces m l) (λ q. faceCount (n# m) (pieceVariable m l q) (pieceRange m l q)))
-        (λ l. sumBelow (2 * n# m) (λ f. 1 + widths (n# m) (variableOf f) (invariant m l))) ceiling-at;
+    ceiling = by-location ∙ sum-ext (L# m) (λ l. ceilingPerLocation (n# m) (allWidths (n# m) (invariant m l)))
+        (λ l. sumBelow (2 * n# m) (λ f. 1 + otherWidths (n# m) (variableOf f) (invariant m l))) (λ l u. sym (faces-uncut (n# m) (invariant m l)));
+    by-location = by-location;
   }

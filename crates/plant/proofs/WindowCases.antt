@@ -18,7 +18,7 @@ use Rattle.plant.specs.Questions.{boxOk, insideOk, zerosOk, startOk, loc
 use Rattle.plant.specs.Delays.{delaysInto, bothDelays, hasDelay, orNever}
 use Rattle.plant.specs.Steps.{delaysIntoBox, touches, lowAt, highAt, lowAfter, highAfter, boxAfter, wallDelays, wallStep, setMasked, guarded, landed, switchStep}
 use Rattle.plant.specs.Pieces.{extentBy, keepsTo, boxUpTo, boxFrom, cutToExtent, piecesPerFace, perFace, pieces, pieceNumber, pieceFace, pieceIndex, pieceVariable, pieceWall, pieceExtent, pieceRange}
-use Rattle.plant.specs.Tables.{piecesBefore, pieceCount, tableSize, pieceAt, tableBy, faceRead, pieceOf, onWall, absentOk, presentOk, pieceOk, tableOk, startPart, partOf, toPiece, wallStepAt, wallFrom, sourcePiece, switchStepAt, switchOnto, wallsJoined, switchesJoined, newPiece, pass, tableAfter, partTouches, touching, widths, faceCount, ceilingOf}
+use Rattle.plant.specs.Tables.{piecesBefore, pieceCount, tableSize, pieceAt, tableBy, faceRead, pieceOf, onWall, absentOk, presentOk, pieceOk, tableOk, startPart, partOf, toPiece, wallStepAt, wallFrom, sourcePiece, switchStepAt, switchOnto, wallsJoined, switchesJoined, newPiece, pass, tableAfter, partTouches, touching, width, allWidths, otherWidths, ceilingPerLocation, locationCeiling, ceilingOf}
 use Rattle.plant.specs.Calls.{unchanged, certificateQuestions, tableQuestions, checkerQuestions, search, analysis}
 use Rattle.plant.specs.WithoutWindow as before
 use Rattle.plant.specs.Cases.{P, plantP, tableP, widerTable, box₂, from, upTo}
@@ -103,7 +103,7 @@ pub record WindowCases : Type 0 where
   pub cut-before : take 7 (drop 42 (before.tableAfter plantS 1)) ≡ pos 1 ∷ box₃ 0 2 2 2 1 1
 
 pub window-cases : WindowCases
-unfolding floorZ ceilZ maxZ minZ equal cat allBelow anyBelow sumBelow _then_ first low high boxBy boxAt ordered cut hull unlessEmpty faceWords join joins locationAt invariant rate startFlag startBox switchAt source target wallVariable sourceSide targetSide resetMask masked guard reset forbiddenAt forbiddenLocation forbiddenBox cutAt cutVariable cutValue cutFrom cutOf modelSize wall faceWall boxOk insideOk zerosOk startOk locationQuestions placesOk boxesOk singleAt singleOk sourceWall targetWall guardOk levelAfter landsOk switchQuestions forbiddenQuestion strictlyInside cutOk cutQuestion rangesQuestions editionQuestion recordsQuestions modelQuestions delaysInto bothDelays hasDelay orNever delaysIntoBox touches lowAt highAt lowAfter highAfter boxAfter wallDelays wallStep setMasked guarded landed switchStep extentBy keepsTo boxUpTo boxFrom cutToExtent piecesPerFace perFace pieces pieceNumber pieceFace pieceIndex pieceVariable pieceWall pieceExtent pieceRange piecesBefore pieceCount tableSize pieceAt tableBy faceRead pieceOf onWall absentOk presentOk pieceOk tableOk startPart partOf toPiece wallStepAt wallFrom sourcePiece switchStepAt switchOnto wallsJoined switchesJoined newPiece pass tableAfter partTouches touching widths faceCount ceilingOf unchanged certificateQuestions tableQuestions checkerQuestions search analysis before.wallDelays before.wallStep before.wallFrom before.switchesJoined before.pass before.tableAfter before.checkerQuestions P plantP tableP widerTable cutC plantC tableC plantD pump tableOfPump plantS
+unfolding floorZ ceilZ maxZ minZ equal cat allBelow anyBelow sumBelow _then_ first low high boxBy boxAt ordered cut hull unlessEmpty faceWords join joins locationAt invariant rate startFlag startBox switchAt source target wallVariable sourceSide targetSide resetMask masked guard reset forbiddenAt forbiddenLocation forbiddenBox cutAt cutVariable cutValue cutFrom cutOf modelSize wall faceWall boxOk insideOk zerosOk startOk locationQuestions placesOk boxesOk singleAt singleOk sourceWall targetWall guardOk levelAfter landsOk switchQuestions forbiddenQuestion strictlyInside cutOk cutQuestion rangesQuestions editionQuestion recordsQuestions modelQuestions delaysInto bothDelays hasDelay orNever delaysIntoBox touches lowAt highAt lowAfter highAfter boxAfter wallDelays wallStep setMasked guarded landed switchStep extentBy keepsTo boxUpTo boxFrom cutToExtent piecesPerFace perFace pieces pieceNumber pieceFace pieceIndex pieceVariable pieceWall pieceExtent pieceRange piecesBefore pieceCount tableSize pieceAt tableBy faceRead pieceOf onWall absentOk presentOk pieceOk tableOk startPart partOf toPiece wallStepAt wallFrom sourcePiece switchStepAt switchOnto wallsJoined switchesJoined newPiece pass tableAfter partTouches touching width allWidths otherWidths ceilingPerLocation locationCeiling ceilingOf unchanged certificateQuestions tableQuestions checkerQuestions search analysis before.wallDelays before.wallStep before.wallFrom before.switchesJoined before.pass before.tableAfter before.checkerQuestions P plantP tableP widerTable cutC plantC tableC plantD pump tableOfPump plantS
 window-cases = record {
   document-delays = refl;
   document-step = refl;

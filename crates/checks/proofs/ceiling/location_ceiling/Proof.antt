@@ -1,137 +1,166 @@
--- The sum over the pieces passed.
-use mathlib.Core.Path.{_≡_, sym}
+-- The first word of the location's cut decides whether the other variables add as much as a location of their own.
+use mathlib.Core.Path.{_≡_, sym, ap, ap₂, _∙_, subst}
 use mathlib.Core.List.{List}
-use Prim.Native.Nat.{_*_, _-_, _<_, _≤_}
+use Prim.Native.Nat.{ℕ, _+_, _-_, _<_, _≤_}
 use native.Mathlib.Omega.{arith}
-use lib.IntN.{ℤ}
-use Rattle.integers.specs.Counted.{sumBelow}
+use lib.Dec.{T}
+use lib.IntN.{ℤ, negsuc, natAbs}
+use lib.Signed.{nonNeg}
+use Rattle.integers.specs.Words.{eqZ}
 use Rattle.integers.proofs.Signed.{got32}
-use Rattle.plant.specs.Pieces.{pieces}
-use Rattle.plant.proofs.Passed.{Passed, passed}
-use Rattle.plant.proofs.Tables.{pieces-most}
-use Rattle.passes.proofs.PartWords.{whole}
-use Rattle.checks.proofs.Loops.{sum-none, sum-more}
-use Rattle.checks.proofs.Extents.{LocationRead, count-is, location-ready}
-use Rattle.checks.proofs.Counts.{pieceCeiling, piece-adds}
+use Rattle.delays.specs.Ranges.{Levels}
+use Rattle.plant.specs.Model.{n#, L#, invariant, cutVariable}
+use Rattle.plant.specs.Tables.{width, allWidths, otherWidths, ceilingPerLocation}
+use Rattle.plant.proofs.Passed.{Passed, passed, IsCut}
+use Rattle.passes.proofs.PartWords.{whole, invariant-in}
+use Rattle.checks.proofs.Extents.{cut-words}
+use Rattle.checks.proofs.Widths.{widths-small}
+use Rattle.checks.proofs.Counts.{with-others, adds-uncut, adds-cut}
+use borrow.Author.Needs.{needs}
 use Rattle.checks.proofs.ceiling.location_ceiling.Statement.{statement}
 use Rattle.checks.proofs.ceiling.location_ceiling.Tie as tie
 
-abbrev Inv-loop : tie.InvT-loop
-Inv-loop model l n inv c variable value count sum₀ q₀ sum q = (q ≤ pieces model l) × (sum ≡ sumBelow q (pieceCeiling model l)) × (sum ≤ q * 12000001)
+levels-of : {n n′ : ℕ} {b b′ : List ℤ} → n ≡ n′ → b ≡ b′ → Levels n′ b′ → Levels n b
+levels-of e h k = rw (e, h) k
 
-abbrev μ-loop : tie.MeasureT-loop
-μ-loop model l n inv c variable value count sum₀ q₀ sum q = count - q
+-- ---- the location, once its cut was read
 
--- ---- after the location was read, and at a piece
-
-abbrev Read : Type 0
-Read = tie.After-cut-value Inv-loop μ-loop
-
-abbrev Piece : Type 0
-Piece = tie.In-loop Inv-loop μ-loop
-
-module _ (c : Read) where
-  abbrev start : tie.Start Inv-loop μ-loop
-  start = c .before .before .before .before .before
+module _ (c : tie.After-cut-variable) where
+  abbrev start : tie.Start
+  start = c .before .before .before
 
   abbrev model : List ℤ
   model = start .args .model .now
 
+  abbrev l : ℕ
+  l = start .args .l
+
   model-ok : Passed model
   model-ok = passed model (start .pre .0)
 
-  few : pieces model (start .args .l) ≤ 24
-  few = pieces-most model (start .args .l) (model-ok .n-small)
+  n-is : c .before .before .variables .result ≡ n# model
+  n-is = c .before .before .variables .ensures
 
-  read : LocationRead model (start .args .l) (c .before .before .before .before .variables .result) (c .before .before .before .invariant .result .now) (c .before .before .per-face .result) (c .before .cut-variable .result) (c .cut-value .result)
-  read = record {
-    n-is = c .before .before .before .before .variables .ensures;
-    inv-is = c .before .before .before .invariant .ensures;
-    c-is = c .before .before .per-face .ensures;
-    variable-is = c .before .cut-variable .ensures;
-    value-is = c .cut-value .ensures;
-  }
+  inv-is : c .before .invariant .result .now ≡ invariant model l
+  inv-is = c .before .invariant .ensures
 
-is-piece : (c : Piece) → c .before .loop .q < pieces (model (c .before .before)) (start (c .before .before) .args .l)
-is-piece c = omega (arith, c .loop-test .taken, count-is (read (c .before .before)))
+  -- the words read are levels
+  levels : Levels (c .before .before .variables .result) (c .before .invariant .result .now)
+  levels = levels-of n-is inv-is (invariant-in model model-ok l (start .pre .1))
 
--- what it adds
-adds : (c : tie.After-piece-count Inv-loop μ-loop) → let r = c .before .before .before in c .piece-count .result ≡ pieceCeiling (model r) (start r .args .l) (c .before .before .loop .q)
-adds c =
-    let r = c .before .before .before in
-    let v = r .before .cut-variable in
-    let x = r .cut-value in
-    piece-adds (model r) (start r .args .l) _ (read r) (simp (got32 (v .result) (v .ok), got32 (x .result) (x .ok)) at (c .piece-count .ensures .0))
-
-variables-requires : tie.Need-variables-requires Inv-loop μ-loop
+variables-requires : tie.Need-variables-requires
 variables-requires c κs = whole (c .args .model .now) (c .pre .0) .head
 
-invariant-requires : tie.Need-invariant-requires Inv-loop μ-loop
+invariant-requires : tie.Need-invariant-requires
 invariant-requires c κs = let s = c .before in (whole (s .args .model .now) (s .pre .0), s .pre .1)
 
-per-face-requires : tie.Need-per-face-requires Inv-loop μ-loop
-per-face-requires c κs = let s = c .before .before in (whole (s .args .model .now) (s .pre .0), s .pre .1)
+cut-variable-requires : tie.Need-cut-variable-requires
+cut-variable-requires c κs = let s = c .before .before in (whole (s .args .model .now) (s .pre .0), s .pre .1)
 
-cut-variable-requires : tie.Need-cut-variable-requires Inv-loop μ-loop
-cut-variable-requires c κs = let s = c .before .before .before in (whole (s .args .model .now) (s .pre .0), s .pre .1)
+all-widths-requires : tie.Need-all-widths-requires
+all-widths-requires c κs = (omega (arith, n-is c, model-ok c .n-small), levels c)
 
-cut-value-requires : tie.Need-cut-value-requires Inv-loop μ-loop
-cut-value-requires c κs = let s = c .before .before .before .before in (whole (s .args .model .now) (s .pre .0), s .pre .1)
+-- ---- its widths
 
-mul-count : tie.Need-mul-count Inv-loop μ-loop
-mul-count c = record { fits = omega (arith, read c .n-is, model-ok c .n-small) }
+module _ (c : tie.After-all-widths) where
+  widths-is : c .all-widths .result ≡ allWidths (n# (model (c .before))) (invariant (model (c .before)) (l (c .before)))
+  widths-is = c .all-widths .ensures ∙ ap₂ allWidths (n-is (c .before)) (inv-is (c .before))
 
-mul-count-2 : tie.Need-mul-count-2 Inv-loop μ-loop
-mul-count-2 c = record { fits = omega (arith, count-is (read c), few c) }
+  small : c .all-widths .result ≤ 12000000
+  small =
+      let r = c .before in
+      omega (arith, widths-is, widths-small (invariant (model r) (l r)) (n# (model r)) (invariant-in (model r) (model-ok r) (l r) (start r .pre .1)), model-ok r .n-small)
 
-loop-holds : tie.Need-loop-holds Inv-loop μ-loop
-loop-holds c = (omega arith, sym (sum-none (pieceCeiling (model c) (start c .args .l))), omega arith)
+ceiling-per-location-requires : tie.Need-ceiling-per-location-requires
+ceiling-per-location-requires c κs = (omega (arith, n-is (c .before), model-ok (c .before) .n-small), small c)
 
-piece-count-requires : tie.Need-piece-count-requires Inv-loop μ-loop
-piece-count-requires c κs =
-    let r = c .before .before in
-    let v = r .before .cut-variable in
-    let x = r .cut-value in
-    (simp (got32 (v .result) (v .ok), got32 (x .result) (x .ok)) (location-ready (model r) (model-ok r) (start r .args .l) (start r .pre .1) (read r)), c .loop-test .taken)
+same-requires : tie.Need-same-requires
+same-requires c κs = search needs
 
-add-sum : tie.Need-add-sum Inv-loop μ-loop
-add-sum c = let r = c .before .before .before in record { fits = omega (arith, c .before .before .loop .inv .2, c .piece-count .ensures .1, is-piece (c .before), few r) }
+-- ---- its cut
 
-add-q : tie.Need-add-q Inv-loop μ-loop
-add-q c = let r = c .before .before .before in record { fits = omega (arith, is-piece (c .before), few r) }
+module _ (c : tie.After-same) where
+  abbrev read : tie.After-cut-variable
+  read = c .before .before .before
 
-loop-less : tie.Need-loop-less Inv-loop μ-loop
-loop-less c = omega (arith, c .before .loop-test .taken)
+  flag : c .same .result ≡ eqZ (cutVariable (model read) (l read)) (negsuc 0)
+  flag = let v = read .cut-variable in (simp (got32 (v .result) (v .ok)) at (c .same .ensures)) ∙ ap (λ (z : ℤ). eqZ z (negsuc 0)) (v .ensures)
 
-loop-again : tie.Need-loop-again Inv-loop μ-loop
-loop-again c =
-    let r = c .before .before .before in
-    let q = c .before .before .loop in
-    (omega (arith, is-piece (c .before)), omega (arith, q .inv .1, adds c, sum-more (pieceCeiling (model r) (start r .args .l)) (q .q)), omega (arith, q .inv .2, c .piece-count .ensures .1))
-
-returns : tie.Need-returns Inv-loop μ-loop
+returns : tie.Need-returns
 returns c =
-    let r = c .before .before in
-    let e : c .before .loop .q ≡ pieces (model r) (start r .args .l) = omega (arith, c .loop-test .left, count-is (read r)) in
-    (rw e at (c .before .loop .inv .1), omega (arith, c .before .loop .inv .2, e, few r))
+    let p = c .before .before in
+    let r = p .before .before in
+    (p .ceiling-per-location .ensures .0 ∙ ap₂ ceilingPerLocation (n-is r) (widths-is (p .before)) ∙ adds-uncut (model r) (l r) (sym (flag (c .before)) ∙ c .if1 .taken), omega (arith, p .ceiling-per-location .ensures .1))
+
+-- ---- a cut location
+
+module _ (c : tie.Else1) where
+  is-cut : IsCut (model (read (c .before))) (l (read (c .before)))
+  is-cut = let r = read (c .before) in cut-words (model r) (model-ok r) (l r) (start r .pre .1) (sym (flag (c .before)) ∙ c .if1 .left)
+
+natural-requires : tie.Need-natural-requires
+natural-requires c κs =
+    let v = read (c .before) .cut-variable in
+    simp (got32 (v .result) (v .ok)) (subst (λ (z : ℤ). T (nonNeg z)) (sym (v .ensures)) (is-cut c .not-negative))
+
+module _ (c : tie.After-natural) where
+  abbrev located : tie.After-cut-variable
+  located = read (c .before .before)
+
+  v-is : c .natural .result ≡ natAbs (cutVariable (model located) (l located))
+  v-is = let v = located .cut-variable in (simp (got32 (v .result) (v .ok)) at (c .natural .ensures)) ∙ ap natAbs (v .ensures)
+
+  is-variable : c .natural .result < n# (model located)
+  is-variable = omega (arith, v-is, is-cut (c .before) .inside .0)
+
+width-requires : tie.Need-width-requires
+width-requires c κs = levels (located c) (c .natural .result) (omega (arith, n-is (located c), is-variable c))
+
+-- the width read is the variable's, and with the others' it makes all
+together : (c : tie.After-width) → let r = located (c .before) in otherWidths (n# (model r)) (natAbs (cutVariable (model r) (l r))) (invariant (model r) (l r)) + c .width .result ≡ c .before .before .before .before .before .all-widths .result
+together c =
+    let r = located (c .before) in
+    let v = natAbs (cutVariable (model r) (l r)) in
+    omega (arith, c .width .ensures, ap₂ width (inv-is r) (v-is (c .before)), with-others (n# (model r)) v (invariant (model r) (l r)) (is-cut (c .before .before) .inside .0), widths-is (c .before .before .before .before .before))
+
+sub-others : tie.Need-sub-others
+sub-others c = omega (arith, together c)
+
+sub-ceiling-per-location : tie.Need-sub-ceiling-per-location
+sub-ceiling-per-location c = let r = located (c .before) in omega (arith, n-is r, model-ok r .n-positive)
+
+ceiling-per-location-requires-2 : tie.Need-ceiling-per-location-requires-2
+ceiling-per-location-requires-2 c κs = let r = located (c .before) in (omega (arith, n-is r, model-ok r .n-small), omega (arith, small (c .before .before .before .before .before)))
+
+add-result : tie.Need-add-result
+add-result c = search needs
+
+returns-2 : tie.Need-returns-2
+returns-2 c =
+    let w = c .before in
+    let r = located (w .before) in
+    let p = w .before .before .before .before in
+    let rest : w .before .before .before .before .before .all-widths .result - w .width .result ≡ otherWidths (n# (model r)) (natAbs (cutVariable (model r) (l r))) (invariant (model r) (l r)) = omega (arith, together w) in (
+      ap₂ _+_ (p .ceiling-per-location .ensures .0 ∙ ap₂ ceilingPerLocation (n-is r) (widths-is (p .before))) (c .ceiling-per-location2 .ensures .0 ∙ ap₂ ceilingPerLocation (ap (λ (k : ℕ). k - 1) (n-is r)) rest)
+          ∙ adds-cut (model r) (l r) (sym (flag (w .before .before .before)) ∙ w .before .before .if1 .left),
+      omega (arith, p .ceiling-per-location .ensures .1, c .ceiling-per-location2 .ensures .1),
+    )
 
 pub location-ceiling-spec : {M : Type 1} → statement M
 location-ceiling-spec =
     tie.close
     (tie.spec
-    Inv-loop
-    μ-loop
     variables-requires
     invariant-requires
-    per-face-requires
     cut-variable-requires
-    cut-value-requires
-    mul-count
-    mul-count-2
-    loop-holds
-    piece-count-requires
-    add-sum
-    add-q
-    loop-less
-    loop-again
-    returns)
+    all-widths-requires
+    ceiling-per-location-requires
+    same-requires
+    returns
+    natural-requires
+    width-requires
+    sub-others
+    sub-ceiling-per-location
+    ceiling-per-location-requires-2
+    add-result
+    returns-2)

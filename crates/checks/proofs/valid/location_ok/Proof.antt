@@ -96,7 +96,7 @@ piece-ok-requires : tie.Need-piece-ok-requires Inv-loop μ-loop
 piece-ok-requires c κs =
     let r = c .before .before .before .before in
     let n = read r .n-is in (
-      simp (got32 (r .before .cut-variable .result) (r .before .cut-variable .ok), got32 (r .cut-value .result) (r .cut-value .ok)) (location-ready (model r) (model-ok r) (start r .args .l) (start r .pre .1) (read r)),
+      simp (got32 (r .before .cut-variable .result) (r .before .cut-variable .ok)) (location-ready (model r) (model-ok r) (start r .args .l) (start r .pre .1) (read r)),
       c .before .before .loop-test .taken,
       omega (arith, n, piece-part (model r) (start r .args .l) (start r .pre .1) (start r .args .table .now) (start r .pre .0 .room) _ (is-piece (c .before .before)) n (place (c .before)) (c .face .ensures) .sized),
     )
