@@ -12,13 +12,14 @@
  *                qii_desk          the same, charged to a desk of two counters
  *                qii_check         says whether a table shows that a model is safe
  *                qii_ceiling       the passes after which the analysis has always ended
+ *                qii_quote         what an analysis may take at most: words, bytes and passes
  *     Between:   qii_read_model    a model file's words
  *                qii_read_table    a table file's words
  *                qii_write_table   a table's file
  *
  * If check or qii_check accepts a table, no run of the model, of any length, meets a forbidden box.
  * This is proved, and it does not rest on the analysis. Proved too, for every input: the number and
- * the value that each call gives, and all memory that it leaves. docs/PROMISES.md says which
+ * the values that each call gives, and all memory that it leaves. docs/PROMISES.md says which
  * theorem carries what.
  *
  *     uint8_t table[QII_TABLE_BYTES_MAX];
@@ -46,14 +47,16 @@
  *               way, and it always returns; under a high limit that can take long.
  *     Numbers   Every call gives a number, of enum qii_answer or of enum qii_refusal; decide gives
  *               it times 2^32, plus the passes. A number has one meaning, whichever call gives it.
- *     Values    A call with a parameter value writes it in every case: 0 on a refusal.
+ *     Values    A call with a parameter value writes it in every case: 0 on a refusal. qii_quote
+ *               writes words, bytes and ceiling likewise.
  *     Memory    A call reads what it is handed as const and writes what it is lent otherwise, no
  *               more than is said below. No heap, no file, no lock. Nothing is kept between calls.
  *     Pointers  A slice is a pointer and a length, in bytes of uint8_t or words of int32_t. The
  *               pointer is valid for that length and aligned for its type; with length 0 it may be
- *               NULL. value, jobs and passes point to a number each, and are not NULL.
- *     Overlap   What is lent for writing, value, jobs and passes too, overlaps nothing else that
- *               the call is handed. Slices that are only read may overlap.
+ *               NULL. value, jobs and passes, and the three of qii_quote, point to a number each,
+ *               and are not NULL.
+ *     Overlap   What is lent for writing, these numbers too, overlaps nothing else that the call is
+ *               handed. Slices that are only read may overlap.
  *     Threads   Calls may run on several threads at once, as long as no thread uses memory that
  *               another's call is writing.
  *     Stack     A thread that makes a call needs a stack of QII_STACK_BYTES, or for all calls but
@@ -115,7 +118,8 @@
  *             -1, 0,                 location 0 is not cut
  *         };
  *
- *     qii_analyse gives QII_SAFE after 1 pass, with this table of 20 words:
+ *     qii_quote says 20 words, 115 bytes and 44 passes at most. qii_analyse gives QII_SAFE after 1
+ *     pass, with this table of 20 words:
  *
  *             1, 0, 0, 2, 5,         face 0, x at 0: y 2..5
  *             0, 0, 0, 0, 0,         face 1, x at 10: not reached
@@ -143,7 +147,7 @@
  *
  * docs/FORMATS.md has all of this in full, with an example byte by byte.
  *
- * For C99 and C++11 on x86-64 Linux. Link with libhost.a, whose only global names are the nine
+ * For C99 and C++11 on x86-64 Linux. Link with libhost.a, whose only global names are the ten
  * calls declared here. All other names of this header begin with qii_ or QII_.
  */
 #ifndef QII_H
@@ -244,6 +248,26 @@ uint32_t qii_read_model(const uint8_t *file, size_t file_len, int32_t *words, si
  * Asks the model's questions.
  */
 uint32_t qii_ceiling(const int32_t *model, size_t model_len, uint64_t *value);
+
+/*
+ * qii_quote - what may an order take at most?
+ *
+ *     model, model_len    model words
+ *     words               the words of the model's table: the room that 20 and 21 ask for
+ *     bytes               the room that 39 asks for: no table file of the model is longer
+ *     ceiling             the most passes of an answer: what qii_ceiling gives
+ *
+ * Gives QII_DONE, or a refusal, with 0 in all three. No analysis by passes exceeds any of the
+ * three: under whatever limit, an answer of qii_analyse, of qii_desk or, for the model's file, of
+ * decide has at most so many passes, a table of exactly so many words, and a table file of at most
+ * so many bytes. No call refuses a table or a buffer of so many words by 20 or 21, nor a buffer of
+ * so many bytes by 39; each of them refuses a shorter one. At most QII_TABLE_WORDS_MAX words,
+ * QII_TABLE_BYTES_MAX bytes and 12,800,001,408 passes.
+ *
+ * Asks the model's questions.
+ */
+uint32_t qii_quote(const int32_t *model, size_t model_len, uint64_t *words, uint64_t *bytes,
+                   uint64_t *ceiling);
 
 /*
  * qii_check - does a table show that a model is safe?
@@ -351,7 +375,8 @@ uint32_t qii_write_table(const int32_t *model, size_t model_len, const int32_t *
  * switch can have a case for each of them, and for each refusal.
  */
 enum qii_answer {
-    /* No run meets a forbidden box; the table is accepted; what was to be read or written is. */
+    /* No run meets a forbidden box; the table is accepted; what was to be read, written or quoted
+       is. */
     QII_SAFE = 100,
     /* A start part or a piece of the table touches a forbidden box. With other cuts the plant may be
        safe. */
@@ -360,8 +385,8 @@ enum qii_answer {
     QII_UNFINISHED = 102
 };
 
-/* Other names of QII_SAFE, as the answer of check and qii_check, and of the calls that only give a
-   value. A switch takes one of the three names. */
+/* Other names of QII_SAFE, as the answer of check and qii_check, and of the calls that only give
+   values. A switch takes one of the three names. */
 #define QII_ACCEPTED QII_SAFE
 #define QII_DONE QII_SAFE
 

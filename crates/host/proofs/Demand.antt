@@ -22,15 +22,19 @@ use Rattle.plant.specs.Demands.{Accepts, ceiling, answers, NoRunMeets, ThirdDem
 use Rattle.plant.proofs.Asks.{ask-intro, ask-le, ask-yes, asked, then-both, then-intro, then-le}
 use Rattle.plant.proofs.Passed.{passed}
 use Rattle.plant.proofs.Tables.{count-most}
+use Rattle.plant.proofs.Keeps.{after-length}
 use Rattle.plant.proofs.Search.{within-limit, answer-code}
 use Rattle.plant.proofs.Accepted.{certificate-le, accepted-code, accepts-yes}
-use Rattle.plant.proofs.Demands.{first-demand, third-demand}
+use Rattle.plant.proofs.Demands.{first-demand, third-demand, passes-within}
 use Rattle.model.proofs.Passing.{head-ready}
 use Rattle.analysis.proofs.Front.{front, questions-front}
 use Rattle.analysis.proofs.Counting.{after-ok}
 use Rattle.analysis.proofs.Calls.{all-yes, analyse-answered}
 use Rattle.table_files.specs.TableFile.{tableFile, fileLength, fileTable, tableFileQuestions}
+use Rattle.table_files.proofs.TableWriting.{file-most}
 use Rattle.table_files.proofs.TableBack.{table-le, file-asked, file-table, file-told, file-bytes}
+use Rattle.quote.specs.Quotes.{quoted}
+use Rattle.quote.proofs.Kept.{words-are, bytes-are, ceiling-is}
 use Rattle.host.specs.Hosts.{modelOf, modelFileQuestions, Decided, decided, decideBy, decideCall, certificateFileQuestions, hostCheckCall}
 use Rattle.host.specs.HostDemand.{AcceptableFile, code, passes, answerFile, Decides, HostDemand}
 use Rattle.host.proofs.Reading.{questions-le, longest-model, model-asked, is-model, file-passes}
@@ -224,6 +228,18 @@ module _ (s : List ℕ) where
           by (inr (inl h)) = h
           by (inr (inr h)) = absurd (never-unfinished u h)
 
+      -- ---- the quote
+
+      few-passes : decided m a file .number % 4294967296 ≤ quoted m .ceiling
+      few-passes = omega (arith, answer-parts .1, passes-within m asks limit, ceiling-is m asks)
+
+      few-bytes : length (answerFile s file limit) ≤ quoted m .bytes
+      few-bytes = omega (arith, ap length file-is, file-most m t, bytes-are m asks)
+
+    ceiling-by : (q : ℕ) → questions ≡ q → decideBy q m file limit .number % 4294967296 ≤ quoted m .ceiling
+    ceiling-by zero e = few-passes e
+    ceiling-by (suc q) e = omega (arith, parts (suc q) 0 (omega arith) .1)
+
     -- a model file that passes, with room for its longest table file
     with-room : modelFileQuestions s ≡ 0 → longestTableFile m ≤ length file → questions ≡ 0
     unfolding questions
@@ -251,6 +267,10 @@ module _ (s : List ℕ) where
         λ h x. unknown-refused (with-room yes room) h (x .table) (x .accepts),
         none-unknown (with-room yes room) u,
       );
+      within-ceiling = ceiling-by questions refl;
+      table-words = λ h. let yes : questions ≡ 0 = answer-yes h in after-length m (passes s file limit) ∙ sym (words-are m (asks yes));
+      within-bytes = λ h. few-bytes (answer-yes h);
+      enough-bytes = λ yes room. let all-yes : questions ≡ 0 = with-room yes (omega (arith, bytes-are m (model-asked s yes))) in omega (arith, code-is all-yes, answer-code m limit);
     }
 
 pub host-demand : HostDemand

@@ -10,6 +10,7 @@ use Rattle.table_files.specs.TableFile.{WriteOutcome}
 use Rattle.desk.specs.declared.Desk.{Desk}
 use Rattle.desk.specs.Desks.{freshDesk, Holds, Served, Call, deskAfter, replies, answersOf, passesOf, DeskCounts}
 use Rattle.desk.proofs.Counts.{desk-counts}
+use Rattle.quote.specs.Quotes.{QuoteReply}
 use Rattle.host.specs.ForC.{ReadForC, readForC, AnalysedForC, analysedForC, WrittenForC, writtenForC, ServedForC, servedForC, deskForC, countersAfter, repliesForC, DeskCountsForC}
 
 -- ---- the calls
@@ -17,6 +18,10 @@ use Rattle.host.specs.ForC.{ReadForC, readForC, AnalysedForC, analysedFo
 -- the number given and the value stored are a reply
 pub is-reply : {q v code value : ℕ} {r : Reply} → q ≡ code → v ≡ value → _≡_ {A = Reply} (record { code = code; value = value }) r → _≡_ {A = Reply} (record { code = q; value = v }) r
 is-reply e f h = cc
+
+pub is-quote : {q w b k code words bytes ceiling : ℕ} {r : QuoteReply} → q ≡ code → w ≡ words → b ≡ bytes → k ≡ ceiling
+    → _≡_ {A = QuoteReply} (record { code = code; words = words; bytes = bytes; ceiling = ceiling }) r → _≡_ {A = QuoteReply} (record { code = q; words = w; bytes = b; ceiling = k }) r
+is-quote e f g i h = cc
 
 module _ {a : Answer} {r : Reply} {table work : List ℤ} where
   pub is-analysed :

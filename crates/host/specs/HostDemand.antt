@@ -15,6 +15,7 @@ use Rattle.plant.specs.Demands.{Accepts, ceiling, NoRunMeets}
 use Rattle.model_files.specs.ModelFile.{modelFile}
 use Rattle.model_files.specs.ModelFilesExact.{IsModelFile}
 use Rattle.table_files.specs.TableFile.{tableFile, fileLength, fileTable}
+use Rattle.quote.specs.Quotes.{quoted}
 use Rattle.host.specs.Hosts.{modelOf, modelFileQuestions, decideCall, certificateFileQuestions, hostCheckCall}
 
 -- some bytes are accepted as a table file
@@ -64,6 +65,12 @@ module _ (s file : List ℕ) (limit : ℕ) where
     pub otherwise-unknown :
         ceiling (modelOf s) ≤ limit → modelFileQuestions s ≡ 0 → longestTableFile (modelOf s) ≤ length file
         → (code ≡ 101) ↔ (AcceptableFile s → ⊥)
+    -- no call exceeds what its model is quoted (document 02, T-07), under whatever limit: the passes are at most the ceiling, the table's
+    -- words are the words, the file is no longer than the bytes; and a buffer of as many bytes is enough
+    pub within-ceiling : passes ≤ quoted (modelOf s) .ceiling
+    pub table-words : 100 ≤ code → length (tableAfter (modelOf s) passes) ≡ quoted (modelOf s) .words
+    pub within-bytes : 100 ≤ code → length answerFile ≤ quoted (modelOf s) .bytes
+    pub enough-bytes : modelFileQuestions s ≡ 0 → quoted (modelOf s) .bytes ≤ length file → 100 ≤ code
 
 -- ---- both calls, for all bytes
 

@@ -1,15 +1,19 @@
 // The library's calls on words and on files, for C: each is one proved call, whose reply is given as a number and a value. The
-// number is 100 (done, safe, accepted), 101 (unknown), 102 (unfinished) or a refusal's; the value is 0 on a refusal.
+// number is 100 (done, safe, accepted), 101 (unknown), 102 (unfinished) or a refusal's; the value, of which a quote has three, is 0
+// on a refusal.
 ghost use mathlib.Core.Path.{_≡_};
 ghost use Rattle.plant.specs.Calls.{Reply, answerReply, verdictReply, ceilingReply, countReply, ceilingCall, checkCall, analyseCall};
 ghost use Rattle.desk.specs.Desks.{deskCall};
 ghost use Rattle.model_files.specs.ModelFile.{readModelCall};
 ghost use Rattle.table_files.specs.TableFile.{readTableCall, writeTableCall};
+ghost use Rattle.quote.specs.Quotes.{QuoteReply, quoteReply, quoteCall};
 ghost use Rattle.host.specs.ForC.{readForC, analysedForC, writtenForC, servedForC};
 use desk::Desk;
 use plant::Answer;
 use plant::Ceiling;
 use plant::Count;
+use plant::Figures;
+use plant::Quote;
 use plant::Verdict;
 
 // Stores the value that a reply holds, and gives its number.
@@ -58,6 +62,46 @@ pub extern "C" fn qii_ceiling(model: &[i32], value: &mut u64) -> u32
     match ceiling {
         Ceiling::Passes(k) => reply(100, k, value),
         Ceiling::Refused(q) => reply(q, 0, value),
+    }
+}
+
+// Stores the three values that a quote's reply holds, and gives its number.
+fn quote_reply(
+    number: u32,
+    figures: Figures,
+    words: &mut u64,
+    bytes: &mut u64,
+    ceiling: &mut u64,
+) -> u32
+    ensures { λ r. ⌜ (r ≡ number) × (now (words .exit) ≡ figures .words) × (now (bytes .exit) ≡ figures .bytes) × (now (ceiling .exit) ≡ figures .ceiling) ⌝ }
+{
+    *words = figures.words as u64;
+    *bytes = figures.bytes as u64;
+    *ceiling = figures.ceiling;
+    number
+}
+
+// What any analysis of a model takes at most: the words of its table, the bytes of the longest file, the passes.
+#[no_mangle]
+pub extern "C" fn qii_quote(
+    model: &[i32],
+    words: &mut u64,
+    bytes: &mut u64,
+    ceiling: &mut u64,
+) -> u32
+    ensures { λ r. ⌜ record { code = r; words = now (words .exit); bytes = now (bytes .exit); ceiling = now (ceiling .exit) } ≡ quoteReply (quoteCall (now (model .entry))) ⌝ }
+{
+    let quote = quote::quote(model);
+    match quote {
+        Quote::AtMost(figures) => quote_reply(100, figures, words, bytes, ceiling),
+        Quote::Refused(q) => {
+            let nothing = Figures {
+                words: 0,
+                bytes: 0,
+                ceiling: 0,
+            };
+            quote_reply(q, nothing, words, bytes, ceiling)
+        }
     }
 }
 

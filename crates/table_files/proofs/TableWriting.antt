@@ -363,6 +363,11 @@ pub file-length : (m t : List ℤ) → 7 + length (pieceFields m t) ≡ length (
 unfolding tableFile
 file-length m t = omega (arith, length-append (field 6 (wordBytes (pos (presentPieces m t)))) (pieceFields m t), length-field 6 (wordBytes (pos (presentPieces m t))), length-word (pos (presentPieces m t)))
 
+-- no table's file is longer than the model's longest
+pub file-most : (m t : List ℤ) → length (tableFile m t) ≤ longestTableFile m
+unfolding pieceFields pieceCount
+file-most m t = omega (arith, file-length m t, locations-le m t (L# m), longest-is m)
+
 -- ---- how the call ends
 
 pub write-yes : (m t : List ℤ) (d : List ℕ) → writeQuestions m t (length d) ≡ 0 → WriteReady m t d

@@ -1,5 +1,5 @@
 // Reading and writing a table's file (document 01, "Files", with pieces for faces: document 02, T-12). Outsiders call read_table
-// and write_table. The other public functions serve the host, on a model that has passed its questions.
+// and write_table. The other public functions serve the quote and the host, on a model that has passed its questions.
 ghost use mathlib.Core.Path.{_≡_};
 ghost use Prim.Native.Nat.{_+_, _*_, _≤_, _<_};
 ghost use Rattle.plant.specs.Model.{L#};
@@ -13,6 +13,7 @@ mod writing;
 pub use reading::read_faces;
 pub use reading::read_table;
 pub use writing::bytes_question;
+pub use writing::longest_file;
 pub use writing::put_table;
 pub use writing::write_table;
 

@@ -21,8 +21,8 @@ ghost use Rattle.records.specs.Whole.{Whole};
 ghost use Rattle.table_files.specs.TableFile.{piecesFrom, placeWords, pieceField, locationFields, presentPieces, pieceFields, tableFile, writeQuestions, writeTableCall};
 ghost use Rattle.table_files.specs.TableRoom.{WriteReady, IsPiece, PieceRoom, LocationRoom};
 
-// The longest table file of the model: of all its pieces.
-fn longest_file(model: &[i32]) -> usize
+// The longest table file of the model: of all its pieces. For the quote, too.
+pub fn longest_file(model: &[i32]) -> usize
     requires { ⌜ Whole (now model) ⌝ }
     ensures { λ r. ⌜ r ≡ longestTableFile (now (model .entry)) ⌝ }
 {

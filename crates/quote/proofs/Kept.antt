@@ -1,0 +1,159 @@
+-- No analysis by passes exceeds the quote.
+use mathlib.Core.Path.{_≡_, refl, sym, ap, _∙_, subst}
+use mathlib.Core.List.{List}
+use Prim.Native.Nat.{ℕ, zero, suc, _+_, _≤_}
+use native.Mathlib.Omega.{arith}
+use lib.Dec.{T, leb, le→leb, leb→le}
+use lib.IntN.{ℤ}
+use lib.ListN.{length, drop}
+use lib.Seq.{drop-at}
+use Rattle.integers.specs.Words.{onto}
+use Rattle.plant.specs.Questions.{modelQuestions}
+use Rattle.plant.specs.Tables.{tableSize, longestTableFile, tableOk, tableAfter, ceilingOf, ceilingByPieces}
+use Rattle.plant.specs.Calls.{Analysed, replyOf, ceilingReply, ceilingBy, ceilingCall, passesOf, answerTable, analysis, analysisQuestions, answered, analyseBy, analyseCall}
+use Rattle.plant.specs.Demands.{ceiling, answers, Room}
+use Rattle.plant.specs.Ask.{ask}
+use Rattle.plant.proofs.Asks.{ask-intro, ask-yes, then-both}
+use Rattle.plant.proofs.Passed.{Passed, passed}
+use Rattle.plant.proofs.Tables.{long-enough, made-ok}
+use Rattle.plant.proofs.Keeps.{piecesAfter, pieces-ok, after-length, onto-begins}
+use Rattle.plant.proofs.ByLocation.{ceiling-by-pieces}
+use Rattle.plant.proofs.Search.{answer-code}
+use Rattle.plant.proofs.Demands.{first-demand, passes-within}
+use Rattle.records.specs.Whole.{Whole}
+use Rattle.tables.proofs.Faces.{table-most}
+use Rattle.passes.proofs.PartWords.{whole}
+use Rattle.table_files.specs.TableFile.{tableFile, writeReply, writeTableCall}
+use Rattle.table_files.proofs.TableWriting.{longest-most, file-most}
+use Rattle.table_files.proofs.TableBack.{table-back}
+use Rattle.desk.specs.declared.Desk.{Desk}
+use Rattle.desk.specs.Desks.{deskQuestions, deskBy, deskCall}
+use Rattle.quote.proofs.Largest.{ceiling-most}
+use Rattle.quote.specs.Quotes.{QuoteReply, quoteReply, quoteBy, quoteCall, quoted, QuoteDemand}
+
+module _ (m : List ℤ) where
+  -- what a model that passes is quoted
+  within : modelQuestions m ≡ 0 → quoted m ≡ record { code = 100; words = tableSize m; bytes = longestTableFile m; ceiling = ceilingOf m }
+  unfolding quoteCall
+  within asks = ap (λ (q : ℕ). quoteReply (quoteBy m q)) asks
+
+  pub words-are : modelQuestions m ≡ 0 → quoted m .words ≡ tableSize m
+  words-are asks = ap (λ (r : QuoteReply). r .words) (within asks)
+
+  pub bytes-are : modelQuestions m ≡ 0 → quoted m .bytes ≡ longestTableFile m
+  bytes-are asks = ap (λ (r : QuoteReply). r .bytes) (within asks)
+
+  pub ceiling-is : modelQuestions m ≡ 0 → quoted m .ceiling ≡ ceilingOf m
+  ceiling-is asks = ap (λ (r : QuoteReply). r .ceiling) (within asks)
+
+  largest : (q : ℕ) → modelQuestions m ≡ q → let r = quoteReply (quoteBy m q) in (r .words ≤ 19968) × (r .bytes ≤ 96775) × (r .ceiling ≤ 12800001408)
+  largest zero e = let w : Whole m = whole m e in (table-most m (w .head), longest-most m w, ceiling-most m (passed m e))
+  largest (suc q) e = (omega arith, omega arith, omega arith)
+
+  same-by : (q : ℕ) → quoteReply (quoteBy m q) .ceiling ≡ ceilingReply (ceilingBy m q) .value
+  same-by zero = refl
+  same-by (suc q) = refl
+
+  same-ceiling : quoted m .ceiling ≡ ceiling m
+  unfolding quoteCall ceilingCall
+  same-ceiling = same-by (modelQuestions m)
+
+  module _ (limit : ℕ) (table work : List ℤ) where
+    abbrev asked : ℕ
+    asked = analysisQuestions m table work
+
+    model-asked : asked ≡ 0 → modelQuestions m ≡ 0
+    unfolding analysisQuestions
+    model-asked e = then-both (modelQuestions m) _ e .0
+
+    passes-by : (q : ℕ) → asked ≡ q → replyOf (analyseBy q m limit table work) .value ≤ quoted m .ceiling
+    passes-by zero e = omega (arith, passes-within m (model-asked e) limit, ceiling-is (model-asked e))
+    passes-by (suc q) e = omega arith
+
+    passes : replyOf (analyseCall m limit table work) .value ≤ quoted m .ceiling
+    unfolding analyseCall
+    passes = passes-by asked refl
+
+    charge-by : (d : Desk) (q : ℕ) → deskQuestions d m limit table work ≡ q → deskBy q d m limit table work .desk .passes ≤ d .passes + quoted m .ceiling
+    unfolding deskQuestions
+    charge-by d zero e = let asks : modelQuestions m ≡ 0 = model-asked (then-both asked _ e .0) in omega (arith, passes-within m asks limit, ceiling-is asks)
+    charge-by d (suc q) e = omega arith
+
+    charge : (d : Desk) → deskCall d m limit table work .desk .passes ≤ d .passes + quoted m .ceiling
+    unfolding deskCall
+    charge d = charge-by d (deskQuestions d m limit table work) refl
+
+    -- an answered call
+    module _ (h : 100 ≤ answers m limit table work) where
+      all-yes : asked ≡ 0
+      all-yes = first-demand m .only-passing limit table work h
+
+      asks : modelQuestions m ≡ 0
+      asks = model-asked all-yes
+
+      is-answered : analyseCall m limit table work ≡ answered m (analysis m limit) table work
+      unfolding analyseCall
+      is-answered = ap (λ (q : ℕ). analyseBy q m limit table work) all-yes
+
+      answer-words : length (answerTable m (analyseCall m limit table work .answer)) ≡ quoted m .words
+      unfolding answerTable
+      answer-words = ap (λ (a : Analysed). length (answerTable m (a .answer))) is-answered ∙ after-length m (passesOf (analysis m limit)) ∙ sym (words-are asks)
+
+      taken : (file : List ℕ) → quoted m .bytes ≤ length file
+          → let t = analyseCall m limit table work .table in writeReply (writeTableCall m t file) ≡ record { code = 100; value = length (tableFile m t) }
+      unfolding answerTable
+      taken file r = rw is-answered (ap writeReply
+          (table-back .written m (onto (tableAfter m k) table) file asks (long-enough m (onto (tableAfter m k) table) (piecesAfter m k) (onto-begins m k table)) ok (omega (arith, bytes-are asks))))
+        where
+          k : ℕ
+          k = passesOf (analysis m limit)
+
+          ok : T (tableOk m (onto (tableAfter m k) table))
+          ok = made-ok m (passed m asks) (onto (tableAfter m k) table) (piecesAfter m k) (onto-begins m k table) (pieces-ok m (passed m asks) k)
+
+    behind-by : (q : ℕ) → asked ≡ q → drop (quoted m .words) (analyseBy q m limit table work .table) ≡ drop (quoted m .words) table
+    unfolding answerTable onto
+    behind-by zero e =
+        let k : ℕ = passesOf (analysis m limit) in
+        rw (words-are (model-asked e) ∙ sym (after-length m k)) (drop-at (tableAfter m k) (drop (length (tableAfter m k)) table) (length (tableAfter m k)) refl)
+    behind-by (suc q) e = refl
+
+    behind : drop (quoted m .words) (analyseCall m limit table work .table) ≡ drop (quoted m .words) table
+    unfolding analyseCall
+    behind = behind-by asked refl
+
+    -- answered: both buffers have the words
+    rooms : asked ≡ 0 → (tableSize m ≤ length table) × (tableSize m ≤ length work)
+    unfolding analysisQuestions
+    rooms e =
+        let a : (ask (leb (tableSize m) (length table)) 20 ≡ 0) × (ask (leb (tableSize m) (length work)) 21 ≡ 0) = then-both _ _ (then-both (modelQuestions m) _ e .1) in
+        (leb→le (tableSize m) (length table) (ask-yes (leb (tableSize m) (length table)) 20 (omega arith) (a .0)), leb→le (tableSize m) (length work) (ask-yes (leb (tableSize m) (length work)) 21 (omega arith) (a .1)))
+
+    enough : modelQuestions m ≡ 0 → quoted m .words ≤ length table → quoted m .words ≤ length work → 100 ≤ answers m limit table work
+    enough asks a b =
+        let r : Room m table work = record { table-room = omega (arith, words-are asks); work-room = omega (arith, words-are asks) } in
+        subst (λ (x : Analysed). 100 ≤ replyOf x .code) (sym (first-demand m .with-table asks limit table work r)) (answer-code m limit)
+
+pub quote-kept : (m : List ℤ) → QuoteDemand m
+unfolding quoteCall
+quote-kept m = record {
+  is-quoted = λ asks. ap (λ (q : ℕ). quoteReply (quoteBy m q) .code) asks;
+  refused-by = λ q e. ap (λ (q : ℕ). quoteReply (quoteBy m q)) e;
+  exact-words = λ asks limit table work. (
+    λ h. let r = rooms m limit table work (first-demand m .only-passing limit table work h) in (omega (arith, words-are m asks, r .0), omega (arith, words-are m asks, r .1)),
+    λ r. enough m limit table work asks (r .0) (r .1),
+  );
+  exact-bytes = λ asks room. (
+    λ h. omega (arith, bytes-are m asks, leb→le (longestTableFile m) room (ask-yes (leb (longestTableFile m) room) 39 (omega arith) h)),
+    λ h. ask-intro (leb (longestTableFile m) room) 39 (le→leb (longestTableFile m) room (omega (arith, bytes-are m asks))),
+  );
+  same-ceiling = same-ceiling m;
+  largest = largest m (modelQuestions m) refl;
+  by-pieces = λ asks. ceiling-is m asks ∙ ceiling-by-pieces m asks;
+  passes-within = passes m;
+  charge-within = λ d limit table work. charge m limit table work d;
+  table-words = answer-words m;
+  behind-words = behind m;
+  file-within = λ asks t. omega (arith, file-most m t, bytes-are m asks);
+  file-taken = λ limit table work file h. taken m limit table work h file;
+}

@@ -1,0 +1,4 @@
+pub mod Calls
+pub mod Largest
+pub mod Kept
+pub mod Cases
