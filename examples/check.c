@@ -18,16 +18,6 @@
 static uint8_t model[QII_MODEL_BYTES_MAX + 1];
 static uint8_t table[QII_TABLE_BYTES_MAX + 1];
 
-/* Reads a file, or says that it cannot be read. Gives its length, or -1. */
-static long read_or_say(const char *program, const char *name, uint8_t *bytes, size_t size)
-{
-    long len = read_file(name, bytes, size);
-
-    if (len < 0)
-        fprintf(stderr, "%s: cannot read %s\n", program, name);
-    return len;
-}
-
 int main(int argc, char **argv)
 {
     long model_len, table_len;

@@ -72,10 +72,8 @@ int main(int argc, char **argv)
         fprintf(stderr, "usage: %s MODEL [LIMIT]\n", argv[0]);
         return CALLED_WRONGLY;
     }
-    model_len = read_file(argv[1], model, sizeof model);
-    if (model_len < 0) {
-        fprintf(stderr, "%s: cannot read %s\n", argv[0], argv[1]);
+    model_len = read_or_say(argv[0], argv[1], model, sizeof model);
+    if (model_len < 0)
         return CALLED_WRONGLY;
-    }
     return print_answer((size_t)model_len, limit);
 }

@@ -54,7 +54,7 @@ static int print_order(const char *name, uint32_t number, uint64_t passes)
         printf("%s: unfinished, passes %" PRIu64 "\n", name, passes);
         return 1;
     default:
-        printf("%s: refused %" PRIu32 ": %s\n", name, number, qii_meaning(number));
+        print_refused(name, number);
         return 0;
     }
 }
@@ -70,14 +70,12 @@ int main(int argc, char **argv)
         return CALLED_WRONGLY;
     }
     for (order = 2; order < argc; order++) {
-        long file_len = read_file(argv[order], file, sizeof file);
+        long file_len = read_or_say(argv[0], argv[order], file, sizeof file);
         uint32_t number;
         uint64_t passes;
 
-        if (file_len < 0) {
-            fprintf(stderr, "%s: cannot read %s\n", argv[0], argv[order]);
+        if (file_len < 0)
             return CALLED_WRONGLY;
-        }
         number = answer(&desk, (size_t)file_len, limit, &passes);
         if (!print_order(argv[order], number, passes))
             status = REFUSED;

@@ -1,8 +1,11 @@
-/* What the samples share: a file's bytes, and a limit from its digits. */
+/* What the samples share: a file's bytes, a limit from its digits, and a refused order. */
 #ifndef SAMPLE_H
 #define SAMPLE_H
 
+#include "qiifaduleh.h"
+
 #include <errno.h>
+#include <inttypes.h>
 #include <stdint.h>
 #include <stdio.h>
 #include <stdlib.h>
@@ -26,6 +29,22 @@ static inline long read_file(const char *name, uint8_t *bytes, size_t size)
     failed = ferror(file);
     fclose(file);
     return failed ? -1 : (long)len;
+}
+
+/* The same, and says if the file cannot be read. */
+static inline long read_or_say(const char *program, const char *name, uint8_t *bytes, size_t size)
+{
+    long len = read_file(name, bytes, size);
+
+    if (len < 0)
+        fprintf(stderr, "%s: cannot read %s\n", program, name);
+    return len;
+}
+
+/* Prints an order's file, and the number that it is refused by with what it means in words. */
+static inline void print_refused(const char *name, uint32_t number)
+{
+    printf("%s: refused %" PRIu32 ": %s\n", name, number, qii_meaning(number));
 }
 
 /* Takes a limit from its decimal digits. Gives 0 if there is none in 32 bits. */

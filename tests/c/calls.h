@@ -27,6 +27,9 @@ struct inputs {
 struct outcome {
     uint64_t number;
     uint64_t value;
+    uint64_t quoted_words;
+    uint64_t quoted_bytes;
+    uint64_t quoted_ceiling;
     uint32_t jobs;
     uint32_t passes;
     uint8_t file[QII_TABLE_BYTES_MAX];
@@ -107,6 +110,12 @@ static void make_desk(const struct inputs *in, unsigned empty, struct outcome *o
                  BUFFER(1, out->words), BUFFER(2, out->work), &out->value);
 }
 
+static void make_quote(const struct inputs *in, unsigned empty, struct outcome *out)
+{
+    out->number = qii_quote(SLICE(0, in->model, in->model_len), &out->quoted_words,
+                            &out->quoted_bytes, &out->quoted_ceiling);
+}
+
 static const struct call calls[] = {
     {"decide", 2, make_decide},
     {"check", 2, make_check},
@@ -117,6 +126,7 @@ static const struct call calls[] = {
     {"qii_read_table", 3, make_read_table},
     {"qii_write_table", 3, make_write_table},
     {"qii_desk", 3, make_desk},
+    {"qii_quote", 1, make_quote},
 };
 
 #define CALLS ((int)(sizeof calls / sizeof calls[0]))

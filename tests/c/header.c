@@ -1,7 +1,7 @@
 /*
  * The header by itself, compiled as C99 and as C++: its numbers, that one switch takes all of them,
- * the functions that take decide's number and table apart, that all its calls are there to link,
- * and its example.
+ * the functions that take decide's number and table apart and those that measure a model's table,
+ * which qii_quote gives too, that all its calls are there to link, and its example.
  */
 #include "qiifaduleh.h"
 
@@ -137,23 +137,31 @@ static int measures_tables(void)
            qii_table_len(most) == QII_TABLE_BYTES_MAX;
 }
 
+/* A model's table has so many words and so many bytes, by the header and by the quote. */
+static int measures(const int32_t *model, size_t model_len, size_t words, size_t bytes,
+                    uint64_t ceiling)
+{
+    uint64_t quoted_words = 1, quoted_bytes = 2, quoted_ceiling = 3;
+
+    return qii_table_words(model) == words && qii_table_bytes(model) == bytes &&
+           qii_quote(model, model_len, &quoted_words, &quoted_bytes, &quoted_ceiling) == QII_DONE &&
+           quoted_words == words && quoted_bytes == bytes && quoted_ceiling == ceiling;
+}
+
 /* Two locations of one variable without switches or boxes: none cut, the second, or both. */
 static int measures_models(void)
 {
     static int32_t model[] = {1, 2, 0, 0, 1, 0, 9, 0, 0,  0, 0, 0,
                               0, 9, 0, 0, 0, 0, 0, -1, 0, -1, 0};
-    int none = qii_cuts(model) == 0 && qii_table_words(model) == 12 &&
-               qii_table_bytes(model) == 7 + 4 * 19;
+    int none = qii_cuts(model) == 0 && measures(model, 23, 12, 7 + 4 * 19, 4);
     int one, both;
 
     model[21] = 0;
     model[22] = 5;
-    one = qii_cuts(model) == 1 && qii_table_words(model) == 18 &&
-          qii_table_bytes(model) == 7 + 6 * 23;
+    one = qii_cuts(model) == 1 && measures(model, 23, 18, 7 + 6 * 23, 4);
     model[19] = 0;
     model[20] = 1;
-    both = qii_cuts(model) == 2 && qii_table_words(model) == 24 &&
-           qii_table_bytes(model) == 7 + 8 * 23;
+    both = qii_cuts(model) == 2 && measures(model, 23, 24, 7 + 8 * 23, 4);
     return none && one && both;
 }
 
@@ -161,7 +169,7 @@ static int measures_models(void)
 static int links(void)
 {
     uint32_t jobs = 0, passes = 0;
-    uint64_t value = 1;
+    uint64_t value = 1, words = 2, bytes = 3, ceiling = 4;
 
     return qii_code(decide(NULL, 0, NULL, 0, 0)) == QII_MODEL_HEAD &&
            check(NULL, 0, NULL, 0) == QII_MODEL_HEAD &&
@@ -172,7 +180,8 @@ static int links(void)
            qii_read_table(NULL, 0, NULL, 0, NULL, 0, &value) == QII_MODEL_SHORT &&
            qii_write_table(NULL, 0, NULL, 0, NULL, 0, &value) == QII_MODEL_SHORT &&
            qii_desk(&jobs, &passes, NULL, 0, 0, NULL, 0, NULL, 0, &value) == QII_MODEL_SHORT &&
-           jobs == 0 && passes == 0 && value == 0;
+           qii_quote(NULL, 0, &words, &bytes, &ceiling) == QII_MODEL_SHORT && jobs == 0 &&
+           passes == 0 && value == 0 && words == 0 && bytes == 0 && ceiling == 0;
 }
 
 /* The header's example, in both editions and no other, without a cut and with one. */
@@ -192,10 +201,13 @@ static int answers_its_example(void)
     if (qii_analyse(model, 25, 1000, table, 20, work, 20, &passes) != QII_EDITION)
         return 0;
     model[4] = 1;
+    if (!measures(model, 25, 20, 115, 44))
+        return 0;
     model[23] = 0;
     model[24] = 5;
     return qii_analyse(model, 25, 1000, table, 40, work, 40, &passes) == QII_SAFE && passes == 1 &&
-           memcmp(table + 30, due_on_face_3, sizeof due_on_face_3) == 0;
+           memcmp(table + 30, due_on_face_3, sizeof due_on_face_3) == 0 &&
+           measures(model, 25, 40, 255, 46);
 }
 
 /* header NUMBERS: as many as the header's enums have. */

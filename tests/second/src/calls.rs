@@ -3,6 +3,7 @@
 
 use crate::analysis::Answer;
 use crate::desk::Desk;
+use crate::quote::Quote;
 use crate::Refusal;
 
 /// Read a model: how many words; the word buffer.
@@ -26,6 +27,11 @@ pub fn write_table(model: &[i32], table: &[i32], mut buffer: Vec<u8>) -> (Result
 /// Ceiling.
 pub fn ceiling(model: &[i32]) -> Result<u64, Refusal> {
     crate::ceiling::ceiling(model)
+}
+
+/// Quote.
+pub fn quote(model: &[i32]) -> Result<Quote, Refusal> {
+    crate::quote::quote(model)
 }
 
 /// Checker.

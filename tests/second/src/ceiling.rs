@@ -8,12 +8,15 @@ pub fn ceiling(model: &[i32]) -> Result<u64, Refusal> {
 }
 
 pub fn of_plant(plant: &Plant) -> u64 {
+    (0..plant.sizes.locations).map(|location| of_location(plant, location)).sum()
+}
+
+/// What the pieces of a location add.
+pub fn of_location(plant: &Plant, location: usize) -> u64 {
     let mut sum = 0u64;
-    for location in 0..plant.sizes.locations {
-        for face in 0..plant.sizes.faces() {
-            for piece in 0..plant.pieces_of(location) {
-                sum += share(plant, Piece { location, face, piece });
-            }
+    for face in 0..plant.sizes.faces() {
+        for piece in 0..plant.pieces_of(location) {
+            sum += share(plant, Piece { location, face, piece });
         }
     }
     sum

@@ -11,11 +11,12 @@ use crate::damage::{
     edited_model_file, RANGE_DAMAGE, START_DAMAGE,
 };
 use crate::desk::Desk;
+use crate::draft::Draft;
 use crate::exports::{Call, Input, Lent};
 use crate::files::{field, file_of_words, model_file, parse_table, table_file};
 use crate::generate::{
     close, crossing_model, extreme_model, helped_model, long_model, pass_budget, random_limit, random_model,
-    random_table,
+    random_table, stepwise_model,
 };
 use crate::host;
 use crate::model::Plant;
@@ -44,6 +45,8 @@ const CROSSING_ONE_IN: u64 = 10;
 const PUMP_ONE_IN: u64 = 8;
 /// One model in so many is made so that its answer hangs on its reset ranges.
 const RANGED_ONE_IN: u64 = 5;
+/// One model in so many is made to take as many passes as its ceiling.
+const STEPWISE_ONE_IN: u64 = 50;
 /// One model in so many takes thousands of passes; none where the comparison is tight.
 const LONG_ONE_IN: u64 = 150;
 
@@ -106,6 +109,20 @@ fn unknown_without_cuts(plant: &Plant) -> bool {
     let whole = Plant::from_words(&words).expect("a model passes its questions without its cuts too");
     let (mut table, mut work) = (vec![0; whole.table_words()], vec![0; whole.table_words()]);
     run_quick(&whole, pass_budget(&whole), &mut table, &mut work).0 == Answer::Unknown
+}
+
+/// A random model, of any of the ways in which they are made, but for the long ones.
+fn any_model(random: &mut Random) -> Draft {
+    let ways: [(u64, fn(&mut Random) -> Draft); 6] = [
+        (EXTREME_ONE_IN, extreme_model),
+        (HELPED_ONE_IN, helped_model),
+        (CROSSING_ONE_IN, crossing_model),
+        (PUMP_ONE_IN, pump_model),
+        (RANGED_ONE_IN, ranged_model),
+        (STEPWISE_ONE_IN, stepwise_model),
+    ];
+    let chosen = ways.into_iter().find(|(one_in, _)| random.chance(1, *one_in));
+    chosen.map_or(random_model as fn(&mut Random) -> Draft, |(_, make)| make)(random)
 }
 
 /// Bytes at some offset in a heap block that ends with them, to vary their address.
@@ -230,19 +247,7 @@ impl Comparison {
     /// tables, every other call, a list of desk calls, then `damaged` damaged inputs of decide and
     /// check and as many of the other calls.
     pub fn random_case(&mut self, damaged: u64) -> Result<(), Difference> {
-        let words = if self.random.chance(1, EXTREME_ONE_IN) {
-            extreme_model(&mut self.random).words()
-        } else if self.random.chance(1, HELPED_ONE_IN) {
-            helped_model(&mut self.random).words()
-        } else if self.random.chance(1, CROSSING_ONE_IN) {
-            crossing_model(&mut self.random).words()
-        } else if self.random.chance(1, PUMP_ONE_IN) {
-            pump_model(&mut self.random).words()
-        } else if self.random.chance(1, RANGED_ONE_IN) {
-            ranged_model(&mut self.random).words()
-        } else {
-            random_model(&mut self.random).words()
-        };
+        let words = any_model(&mut self.random).words();
         let plant = Plant::from_words(&words).expect("a random model passes its questions");
         let limit = random_limit(&mut self.random, &plant);
         self.model_case(&plant, limit, damaged)?;

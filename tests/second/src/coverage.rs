@@ -13,6 +13,7 @@ use crate::lending::{DESK_CALLS, DESK_STARTS, LENGTH_KINDS};
 use crate::model::{
     ordered_inside, Cut, Location, Plant, Switch, LEVEL, MAX_FORBIDDEN, MAX_LOCATIONS, MAX_SWITCHES, RATE,
 };
+use crate::quoting::QUOTED;
 use crate::ranges::{any_range, range_kinds, RANGE_KINDS};
 use crate::simulate::Travelled;
 use crate::starts::{start_kinds, START_KINDS};
@@ -154,6 +155,8 @@ pub struct Counts {
     pub desk_lists: u64,
     pub desks: Tally,
     pub extremes: Tally,
+    /// Quotes that were held to an answer, by kind.
+    pub quotes: Tally,
     /// The most passes of an answer.
     pub most_passes: u32,
     /// Safe answers whose table was accepted.
@@ -228,8 +231,8 @@ impl Counts {
         self.extreme("a face with both its pieces", seen[2]);
     }
 
-    /// Extremes, kinds of start boxes, of reset ranges and of wall steps, and changes by T-06 that did not come up
-    /// as often as they must under the full counts.
+    /// Extremes, kinds of start boxes, of reset ranges, of wall steps and of quotes, and changes by T-06 that did not
+    /// come up as often as they must under the full counts.
     pub fn too_seldom(&self) -> Vec<String> {
         let tallied = |tally: &Tally, kind: &str| tally.get(kind).copied().unwrap_or(0);
         let extremes = EXTREMES.map(|(kind, least)| (kind, least, tallied(&self.extremes, kind)));
@@ -237,7 +240,8 @@ impl Counts {
         let steps = STEP_KINDS.iter().zip(self.changes.steps).map(|(kind, count)| (*kind, EACH_STEP, count));
         let changes = CHANGES.map(|(kind, least, count)| (kind, least, count(&self.changes)));
         let ranges = RANGE_KINDS.map(|kind| (kind, EACH_RANGE, tallied(&self.range_kinds, kind)));
-        let counted = extremes.into_iter().chain(starts).chain(ranges).chain(steps).chain(changes);
+        let quotes = QUOTED.map(|(kind, least)| (kind, least, tallied(&self.quotes, kind)));
+        let counted = extremes.into_iter().chain(starts).chain(ranges).chain(steps).chain(changes).chain(quotes);
         let seldom = counted.filter(|(_, least, count)| count < least);
         seldom.map(|(kind, least, count)| format!("{kind} ({count} of {least} times)")).collect()
     }
@@ -297,6 +301,7 @@ impl Counts {
             .zip(self.changes.steps)
             .for_each(|(kind, count)| expect(&format!("delays {kind}"), count > 0));
         CHANGES.iter().for_each(|(kind, _, count)| expect(kind, count(&self.changes) > 0));
+        QUOTED.iter().for_each(|(kind, _)| expect(&format!("a quote: {kind}"), self.quotes.contains_key(*kind)));
         LIMIT_KINDS.iter().for_each(|kind| expect(&format!("limit {kind}"), self.limits.contains_key(*kind)));
         all_damage().iter().for_each(|kind| expect(kind, self.damage.contains_key(kind)));
         expect("a safe answer's table accepted", self.accepted > 0);

@@ -1,7 +1,7 @@
 //! Document 01's plant P, source 000's examples and some plants more, as drafts.
 
 use crate::draft::{grid, Draft, LocationDraft, SwitchDraft};
-use crate::model::{Edition, HEAD_WORDS};
+use crate::model::{Edition, HEAD_WORDS, LEVEL, MAX_FORBIDDEN, MAX_LOCATIONS, MAX_SWITCHES, MAX_VARIABLES};
 
 /// Places in P's words: its location (invariant 4 words, rates 4, flag, start box 4), its forbidden box (location, box
 /// 4), its cut; and how many words it has.
@@ -569,4 +569,90 @@ pub fn large_grid(n: usize, width: i32) -> Draft {
         draft.forbidden.push((location, vec![-5; 2 * n]));
     }
     draft
+}
+
+/// The plant with the largest quote: as many variables, locations, switches and forbidden boxes as there can be, all
+/// from the lowest level to the highest, without a start.
+pub fn widest() -> Draft {
+    let all = [-LEVEL, LEVEL].repeat(MAX_VARIABLES);
+    let location = LocationDraft { invariant: all.clone(), rates: vec![0; 2 * MAX_VARIABLES], start: None };
+    let mut guard = all.clone();
+    guard[1] = -LEVEL;
+    let switch = SwitchDraft {
+        source: 0,
+        target: MAX_LOCATIONS - 1,
+        d: 0,
+        source_side: 0,
+        target_side: 0,
+        mask: 0,
+        guard,
+        reset: all.clone(),
+    };
+    Draft {
+        n: MAX_VARIABLES,
+        locations: vec![location; MAX_LOCATIONS],
+        switches: vec![switch; MAX_SWITCHES],
+        forbidden: vec![(0, all); MAX_FORBIDDEN],
+        ..Draft::default()
+    }
+}
+
+/// A plant of one variable with these invariants, none of width 0. Nothing moves by itself: it starts on the first of
+/// these faces (location, side), and a switch leads from each to the next. So each pass reaches one face more, and if
+/// they are all faces, in whatever order, it takes as many passes as its ceiling, two for each location.
+pub fn face_by_face(invariants: &[[i32; 2]], faces: &[(usize, usize)]) -> Draft {
+    let wall = |&(location, side): &(usize, usize)| vec![invariants[location][side]; 2];
+    let switch = |pair: &[(usize, usize)]| SwitchDraft {
+        source: pair[0].0,
+        target: pair[1].0,
+        d: 0,
+        source_side: pair[0].1,
+        target_side: pair[1].1,
+        mask: 1,
+        guard: wall(&pair[0]),
+        reset: wall(&pair[1]),
+    };
+    let location =
+        |invariant: &[i32; 2]| LocationDraft { invariant: invariant.to_vec(), rates: vec![0; 2], start: None };
+    let mut draft = Draft {
+        n: 1,
+        locations: invariants.iter().map(location).collect(),
+        switches: faces.windows(2).map(switch).collect(),
+        ..Draft::default()
+    };
+    draft.locations[faces[0].0].start = Some(wall(&faces[0]));
+    draft
+}
+
+/// A plant of two variables, x 0..1 and y 0..2, that takes as many passes as its ceiling, 10. Nothing moves by itself,
+/// and it starts at x 0, y 1. Each pass adds one face or one level: by a switch, from the level that the pass before
+/// added; or, where that is a corner, on the other wall that meets there.
+pub fn level_by_level() -> Draft {
+    // A switch from a wall of d to one of its walls, from this point to that.
+    let switch = |d: usize, from: [i32; 2], to: [i32; 2]| SwitchDraft {
+        source: 0,
+        target: 0,
+        d,
+        source_side: (from[d] > 0) as usize,
+        target_side: (to[d] > 0) as usize,
+        mask: 0b11,
+        guard: vec![from[0], from[0], from[1], from[1]],
+        reset: vec![to[0], to[0], to[1], to[1]],
+    };
+    Draft {
+        n: 2,
+        locations: vec![LocationDraft {
+            invariant: vec![0, 1, 0, 2],
+            rates: vec![0; 4],
+            start: Some(vec![0, 0, 1, 1]),
+        }],
+        switches: vec![
+            switch(0, [0, 1], [1, 1]),
+            switch(0, [1, 1], [0, 0]),
+            switch(1, [0, 0], [1, 0]),
+            switch(0, [1, 0], [0, 2]),
+            switch(1, [0, 2], [1, 2]),
+        ],
+        ..Draft::default()
+    }
 }

@@ -1,5 +1,5 @@
-//! The C calls beside decide and check, as this package answers them: a number, a value, and
-//! all memory that was lent.
+//! The C calls beside decide and check, as this package answers them: a number, a value or a quote,
+//! and all memory that was lent.
 //!
 //! Every call is one function of what it reads and what it may write, so that all of them are
 //! compared, counted and damaged in one way. A call uses the parts that its C parameters name.
@@ -9,6 +9,7 @@ use crate::ceiling::ceiling;
 use crate::checker::checker;
 use crate::desk::{desk_call, Desk};
 use crate::files::{read_model, read_table, write_table};
+use crate::quote::{quote, Quote};
 use crate::Refusal;
 
 #[derive(Clone, Copy, Debug, PartialEq, Eq, PartialOrd, Ord)]
@@ -20,6 +21,7 @@ pub enum Call {
     ReadTable,
     WriteTable,
     Desk,
+    Quote,
 }
 
 /// What a call only reads.
@@ -45,17 +47,27 @@ pub struct Lent<'a> {
     /// The desk's counters.
     pub jobs: &'a mut u32,
     pub passes: &'a mut u32,
-    /// The reply's value; check has none.
+    /// The reply's value; check and quote have none.
     pub value: &'a mut u64,
+    /// The three values of quote.
+    pub quote: &'a mut Quote,
 }
 
 impl Call {
-    pub const ALL: [Call; 7] =
-        [Call::ReadModel, Call::Ceiling, Call::Check, Call::Analyse, Call::ReadTable, Call::WriteTable, Call::Desk];
+    pub const ALL: [Call; 8] = [
+        Call::ReadModel,
+        Call::Ceiling,
+        Call::Check,
+        Call::Analyse,
+        Call::ReadTable,
+        Call::WriteTable,
+        Call::Desk,
+        Call::Quote,
+    ];
 
     /// Those that take model words.
-    pub const ON_WORDS: [Call; 6] =
-        [Call::Ceiling, Call::Check, Call::Analyse, Call::ReadTable, Call::WriteTable, Call::Desk];
+    pub const ON_WORDS: [Call; 7] =
+        [Call::Ceiling, Call::Check, Call::Analyse, Call::ReadTable, Call::WriteTable, Call::Desk, Call::Quote];
 
     /// Its name in C.
     pub fn name(self) -> &'static str {
@@ -67,6 +79,7 @@ impl Call {
             Call::ReadTable => "qii_read_table",
             Call::WriteTable => "qii_write_table",
             Call::Desk => "qii_desk",
+            Call::Quote => "qii_quote",
         }
     }
 
@@ -76,7 +89,7 @@ impl Call {
         // 43 is asked of words alone: a file's first tag gives the edition.
         let more: &[u32] = match self {
             Call::ReadModel => &[1, 6, 7, 8, 100],
-            Call::Ceiling => &[43, 100],
+            Call::Ceiling | Call::Quote => &[43, 100],
             Call::Check => &[43, 20, 32, 33, 34, 100],
             Call::Analyse => &[43, 20, 21, 100, 101, 102],
             Call::ReadTable => &[43, 20, 32, 35, 36, 37, 38, 100],
@@ -84,6 +97,11 @@ impl Call {
             Call::Desk => &[43, 20, 21, 22, 100, 101, 102],
         };
         model.chain(more.iter().copied()).collect()
+    }
+
+    /// Does its reply have a value?
+    pub fn has_value(self) -> bool {
+        !matches!(self, Call::Check | Call::Quote)
     }
 
     pub fn takes(self, slice: Slice) -> bool {
@@ -94,7 +112,7 @@ impl Call {
     pub fn slices(self) -> &'static [Slice] {
         match self {
             Call::ReadModel => &[Slice::File, Slice::Words],
-            Call::Ceiling => &[Slice::Model],
+            Call::Ceiling | Call::Quote => &[Slice::Model],
             Call::Check => &[Slice::Model, Slice::Table],
             Call::Analyse | Call::Desk => &[Slice::Model, Slice::Words, Slice::Work],
             Call::ReadTable => &[Slice::Model, Slice::File, Slice::Words],
@@ -137,7 +155,7 @@ fn answered(outcome: Result<(Answer, u32), Refusal>) -> Reply {
     outcome.map_or_else(|number| (number, 0), |(answer, k)| (answer.code(), k as u64))
 }
 
-/// The call's number. The value is written in every case, 0 on a refusal.
+/// The call's number. The value or the quote is written in every case, 0 on a refusal.
 pub fn answer(call: Call, input: &Input, lent: &mut Lent) -> u32 {
     let (number, value) = match call {
         Call::ReadModel => counted(read_model(input.file, lent.words)),
@@ -151,6 +169,11 @@ pub fn answer(call: Call, input: &Input, lent: &mut Lent) -> u32 {
             let outcome = desk_call(&mut desk, input.model, input.limit, lent.words, lent.work);
             (*lent.jobs, *lent.passes) = (desk.jobs, desk.passes);
             answered(outcome)
+        }
+        Call::Quote => {
+            let outcome = quote(input.model);
+            *lent.quote = outcome.unwrap_or_default();
+            return outcome.err().unwrap_or(100);
         }
     };
     *lent.value = value;

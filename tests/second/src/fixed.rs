@@ -2,7 +2,7 @@
 //! sweeps over every length, every bit and every word of small files. Those of the calls beside decide
 //! and check stand in `fixed_calls`, those of start boxes that cross the wall in `fixed_starts`, those of
 //! delays that all variables can live with in `fixed_delays`, those of locations that are cut in `fixed_cuts`,
-//! those of editions and reset ranges in `fixed_resets`.
+//! those of editions and reset ranges in `fixed_resets`, those of quotes in `fixed_quotes`.
 
 use crate::compare::{hex, written_table, Comparison, Difference, MOST_ROOM};
 use crate::draft::{grid, Draft};
@@ -170,7 +170,8 @@ impl Comparison {
         self.fixed_starts()?;
         self.fixed_delays()?;
         self.fixed_cuts()?;
-        self.fixed_resets()
+        self.fixed_resets()?;
+        self.fixed_quotes()
     }
 
     /// A decide call whose number the document gives.

@@ -3,14 +3,14 @@
 
 use crate::compare::{Comparison, Difference, MOST_ROOM};
 use crate::desk::Desk;
-use crate::draft::{Draft, LocationDraft};
+use crate::draft::Draft;
 use crate::examples;
 use crate::exports::{Call, Input, Slice};
 use crate::files::{field, model_file, table_file};
 use crate::fixed::EDGES;
 use crate::generate::close;
 use crate::lending::{Left, Lengths};
-use crate::model::{words_per_location, Plant, LEVEL};
+use crate::model::{words_per_location, Plant};
 
 /// Everything that a call can be handed for one model, all of the exact length.
 pub(crate) struct Whole {
@@ -102,7 +102,7 @@ impl Comparison {
         wanted: (u32, u64),
     ) -> Result<Left, Difference> {
         let left = self.fixed(label, call, input, lengths, Desk::default())?;
-        let found = (left.number, if call == Call::Check { 0 } else { left.value });
+        let found = (left.number, if call.has_value() { left.value } else { 0 });
         if found == wanted {
             return Ok(left);
         }
@@ -123,6 +123,7 @@ impl Comparison {
             (Call::ReadTable, 100, 20),
             (Call::WriteTable, 100, 61),
             (Call::Desk, 100, 1),
+            (Call::Quote, 100, 0),
         ] {
             self.gives("P", call, &p.input(call, LIMIT), &p.lengths(call), (number, value))?;
         }
@@ -160,9 +161,7 @@ impl Comparison {
                 self.gives("a short list", call, &Input { model: list, ..none }, &lengths, (number, 0))?;
             }
         }
-        let location = LocationDraft { invariant: [-LEVEL, LEVEL].repeat(6), rates: vec![0; 12], start: None };
-        let largest = Draft { n: 6, locations: vec![location; 64], ..Draft::default() }.words();
-        let input = Input { model: &largest, ..none };
+        let input = Input { model: &examples::widest().words(), ..none };
         self.gives("the largest ceiling without a cut", Call::Ceiling, &input, &lengths, (100, 7_680_000_768))?;
         Ok(())
     }

@@ -2,7 +2,7 @@
 //! those that pieces move, in words and in files.
 
 use crate::compare::{hex, Comparison, Difference, MOST_ROOM};
-use crate::draft::{Draft, LocationDraft};
+use crate::draft::Draft;
 use crate::examples::{self, P_CUT, P_FORBIDDEN, P_LOCATION, P_WORDS};
 use crate::exports::{Call, Input};
 use crate::files::{field, file_of_words, model_file};
@@ -196,6 +196,7 @@ impl Comparison {
             (Call::ReadTable, 100, 40),
             (Call::WriteTable, 100, 7 + 3 * 31),
             (Call::Desk, 100, 1),
+            (Call::Quote, 100, 0),
         ] {
             self.gives("P cut", call, &whole.input(call, LIMIT), &whole.lengths(call), (number, value))?;
         }
@@ -247,7 +248,7 @@ impl Comparison {
             for call in Call::ON_WORDS {
                 // With no buffers at all, so that every call stops at 20 if it comes so far.
                 let wanted = match (number, call) {
-                    (100, Call::Ceiling) => continue,
+                    (100, Call::Ceiling | Call::Quote) => continue,
                     (100, _) => 20,
                     _ => number,
                 };
@@ -325,10 +326,9 @@ impl Comparison {
 
     /// The largest ceiling: 64 locations of six variables, all of the widest, all cut.
     fn largest_ceiling(&mut self) -> Result<(), Difference> {
-        let location = LocationDraft { invariant: [-LEVEL, LEVEL].repeat(6), rates: vec![0; 12], start: None };
         for value in [1 - LEVEL, 0, LEVEL - 1] {
             let cuts = (0..64).map(|l| (l, l % 6, value)).collect();
-            let draft = Draft { n: 6, locations: vec![location.clone(); 64], cuts, ..Draft::default() };
+            let draft = Draft { cuts, ..examples::widest() };
             let input = Input { model: &draft.words(), table: &[], file: &[], limit: 0 };
             let wanted = (100, 12_800_001_408);
             self.gives("the largest ceiling", Call::Ceiling, &input, &Lengths::default(), wanted)?;

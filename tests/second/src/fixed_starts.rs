@@ -9,6 +9,7 @@ use crate::files::{field, file_of_words};
 use crate::fixed::answer;
 use crate::lending::Lengths;
 use crate::model::{Plant, Sizes, HEAD_WORDS, LEVEL, RATE};
+use crate::quote::Quote;
 
 const LIMIT: u32 = 9;
 
@@ -200,7 +201,7 @@ pub(crate) fn unwanted(label: &str, wanted: impl std::fmt::Debug, found: impl st
     Difference { text: format!("{label}: wanted {wanted:?}, both give {found:?}") }
 }
 
-/// The calls on model words, but for the ceiling.
+/// The calls on model words, but for the ceiling and the quote.
 const ON_WORDS: [Call; 5] = [Call::Check, Call::Analyse, Call::ReadTable, Call::WriteTable, Call::Desk];
 
 impl Comparison {
@@ -225,8 +226,8 @@ impl Comparison {
         self.one_recipe()
     }
 
-    /// The model's questions in every call on words; a model that passes them has this ceiling and gets 20 without
-    /// buffers.
+    /// The model's questions in every call on words; a model that passes them has this ceiling, in its quote too, and
+    /// gets 20 without buffers. A quote is all zeros on a refusal.
     pub(crate) fn asked_of_words(
         &mut self,
         label: &str,
@@ -237,6 +238,10 @@ impl Comparison {
         let input = Input { model: words, table: &[], file: &[], limit: LIMIT };
         let of_ceiling = (number, if number == 100 { ceiling } else { 0 });
         self.gives(label, Call::Ceiling, &input, &Lengths::default(), of_ceiling)?;
+        let quote = self.gives(label, Call::Quote, &input, &Lengths::default(), (number, 0))?.quote;
+        if quote.ceiling != of_ceiling.1 || (number != 100 && quote != Quote::default()) {
+            return Err(unwanted(label, of_ceiling, quote));
+        }
         let wanted = (if number == 100 { 20 } else { number }, 0);
         for call in ON_WORDS {
             self.gives(label, call, &input, &Lengths::default(), wanted)?;

@@ -7,6 +7,7 @@ use crate::analysis::{run_quick, Answer};
 use crate::ceiling;
 use crate::delays::touches;
 use crate::draft::{grid, Draft, LocationDraft, SwitchDraft};
+use crate::examples::face_by_face;
 use crate::model::{Edition, Piece, Plant, LEVEL, MAX_FORBIDDEN, MAX_LOCATIONS, MAX_SWITCHES, RATE};
 use crate::random::Random;
 use crate::starts::{table_of_whole_boxes, whole_box_touches};
@@ -250,6 +251,29 @@ fn long_start(random: &mut Random, first: i32, falls: bool) -> Vec<i32> {
         start[2 + falls as usize] += if falls { by } else { -by };
     }
     start
+}
+
+/// A random plant of one variable that takes as many passes as its ceiling: see `examples::face_by_face`. Now and then
+/// the last face is forbidden.
+pub fn stepwise_model(random: &mut Random) -> Draft {
+    let most = if random.chance(1, 8) { MAX_LOCATIONS } else { 6 };
+    let locations = 1 + random.below(most);
+    let mut invariants = Vec::new();
+    for _ in 0..locations {
+        let low = random.range(-20, 20) as i32;
+        invariants.push([low, low + random.range(1, 4) as i32]);
+    }
+    let mut faces: Vec<(usize, usize)> = (0..locations).flat_map(|l| [(l, 0), (l, 1)]).collect();
+    for place in 1..faces.len() {
+        faces.swap(place, random.below(place + 1));
+    }
+    let mut draft = Draft { edition: random_edition(random), ..face_by_face(&invariants, &faces) };
+    let (location, side) = faces[faces.len() - 1];
+    if random.chance(1, 4) {
+        draft.forbidden.push((location, vec![invariants[location][side]; 2]));
+    }
+    random_cuts(random, &mut draft);
+    draft
 }
 
 fn random_n(random: &mut Random) -> usize {

@@ -5,6 +5,8 @@
 //! comparing program can be built and tried out.
 
 use crate::exports::{Call, Input, Lent};
+#[cfg(feature = "host")]
+use crate::quote::Quote;
 
 /// True if the program under test is linked in.
 pub const LINKED: bool = cfg!(feature = "host");
@@ -26,6 +28,8 @@ mod library {
             value: *mut u64,
         ) -> u32;
         pub fn qii_ceiling(model: Words, model_length: usize, value: *mut u64) -> u32;
+        pub fn qii_quote(model: Words, model_length: usize, words: *mut u64, bytes: *mut u64, ceiling: *mut u64)
+            -> u32;
         pub fn qii_check(model: Words, model_length: usize, table: Words, table_length: usize) -> u32;
         pub fn qii_analyse(
             model: Words,
@@ -85,57 +89,28 @@ pub fn check(model: &[u8], table: &[u8]) -> u64 {
 /// Any of the other calls.
 #[cfg(feature = "host")]
 pub fn answer(call: Call, input: &Input, lent: &mut Lent) -> u32 {
-    let (model, table, file) = (input.model, input.table, input.file);
-    let (words, work, room) = (&mut *lent.words, &mut *lent.work, &mut *lent.file);
-    let value: *mut u64 = lent.value;
+    let (model, model_len) = (input.model.as_ptr(), input.model.len());
+    let (table, table_len) = (input.table.as_ptr(), input.table.len());
+    let (file, file_len) = (input.file.as_ptr(), input.file.len());
+    let (words, words_len) = (lent.words.as_mut_ptr(), lent.words.len());
+    let (work, work_len) = (lent.work.as_mut_ptr(), lent.work.len());
+    let (room, room_len) = (lent.file.as_mut_ptr(), lent.file.len());
+    let (limit, value): (u32, *mut u64) = (input.limit, lent.value);
+    let Quote { words: quoted_words, bytes, ceiling } = &mut *lent.quote;
     // SAFETY: every pointer is valid for its length, and no two that are lent overlap.
     unsafe {
         match call {
-            Call::ReadModel => {
-                library::qii_read_model(file.as_ptr(), file.len(), words.as_mut_ptr(), words.len(), value)
+            Call::ReadModel => library::qii_read_model(file, file_len, words, words_len, value),
+            Call::Ceiling => library::qii_ceiling(model, model_len, value),
+            Call::Check => library::qii_check(model, model_len, table, table_len),
+            Call::Analyse => library::qii_analyse(model, model_len, limit, words, words_len, work, work_len, value),
+            Call::ReadTable => library::qii_read_table(model, model_len, file, file_len, words, words_len, value),
+            Call::WriteTable => library::qii_write_table(model, model_len, table, table_len, room, room_len, value),
+            Call::Desk => {
+                let (jobs, passes): (*mut u32, *mut u32) = (lent.jobs, lent.passes);
+                library::qii_desk(jobs, passes, model, model_len, limit, words, words_len, work, work_len, value)
             }
-            Call::Ceiling => library::qii_ceiling(model.as_ptr(), model.len(), value),
-            Call::Check => library::qii_check(model.as_ptr(), model.len(), table.as_ptr(), table.len()),
-            Call::Analyse => library::qii_analyse(
-                model.as_ptr(),
-                model.len(),
-                input.limit,
-                words.as_mut_ptr(),
-                words.len(),
-                work.as_mut_ptr(),
-                work.len(),
-                value,
-            ),
-            Call::ReadTable => library::qii_read_table(
-                model.as_ptr(),
-                model.len(),
-                file.as_ptr(),
-                file.len(),
-                words.as_mut_ptr(),
-                words.len(),
-                value,
-            ),
-            Call::WriteTable => library::qii_write_table(
-                model.as_ptr(),
-                model.len(),
-                table.as_ptr(),
-                table.len(),
-                room.as_mut_ptr(),
-                room.len(),
-                value,
-            ),
-            Call::Desk => library::qii_desk(
-                lent.jobs,
-                lent.passes,
-                model.as_ptr(),
-                model.len(),
-                input.limit,
-                words.as_mut_ptr(),
-                words.len(),
-                work.as_mut_ptr(),
-                work.len(),
-                value,
-            ),
+            Call::Quote => library::qii_quote(model, model_len, quoted_words, bytes, ceiling),
         }
     }
 }

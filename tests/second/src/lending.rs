@@ -1,5 +1,5 @@
-//! Compares the C calls beside decide and check with this package's own: the number, the value,
-//! and the whole of all memory that is lent, with old contents in every buffer.
+//! Compares the C calls beside decide and check with this package's own: the number, the value or
+//! the quote, and the whole of all memory that is lent, with old contents in every buffer.
 
 use std::cmp::Ordering;
 
@@ -11,10 +11,15 @@ use crate::exports::{answer, Call, Input, Lent, Slice};
 use crate::files::{model_file, table_file};
 use crate::generate::{pass_budget, random_limit};
 use crate::model::{Plant, HEAD_WORDS};
+use crate::quote::{Quote, Taken};
+use crate::quoting::quoted_lengths;
 use crate::random::Random;
 
 /// Words or bytes on both sides of a lent buffer that nobody may touch, unless the comparison is tight.
 const MARGIN: usize = 8;
+
+/// Words that the buffers of the standing desk have past the table.
+const PAST_THE_TABLE: usize = 5;
 
 /// Models that are kept for the desk's lists.
 const RECENT: usize = 8;
@@ -43,7 +48,10 @@ impl Lengths {
 pub struct Left {
     pub number: u32,
     pub value: u64,
+    pub quote: Quote,
     pub words: Vec<i32>,
+    /// What the words were before.
+    pub old: Vec<i32>,
     pub work: Vec<i32>,
     pub file: Vec<u8>,
     pub desk: Desk,
@@ -141,6 +149,7 @@ struct Memory {
     jobs: Box<u32>,
     passes: Box<u32>,
     value: Box<u64>,
+    quote: Box<Quote>,
 }
 
 impl Memory {
@@ -152,6 +161,7 @@ impl Memory {
             jobs: Box::new(desk.jobs),
             passes: Box::new(desk.passes),
             value: Box::new(random.next()),
+            quote: Box::new(Quote { words: random.next(), bytes: random.next(), ceiling: random.next() }),
         }
     }
 
@@ -168,6 +178,7 @@ impl Memory {
             jobs: &mut self.jobs,
             passes: &mut self.passes,
             value: &mut self.value,
+            quote: &mut self.quote,
         }
     }
 
@@ -183,19 +194,35 @@ impl Memory {
             .or_else(|| (self.jobs != other.jobs).then(|| format!("jobs, {} and {}", self.jobs, other.jobs)))
             .or_else(|| (self.passes != other.passes).then(|| format!("passes, {} and {}", self.passes, other.passes)))
             .or_else(|| (self.value != other.value).then(|| format!("the value, {} and {}", self.value, other.value)))
+            .or_else(|| (self.quote != other.quote).then(|| format!("{:?} and {:?}", self.quote, other.quote)))
     }
 
-    fn left(mut self, number: u32, margin: usize) -> Left {
+    /// What a call left of this, with the words as they were before.
+    fn left(mut self, number: u32, mut before: Memory, margin: usize) -> Left {
         let lent = self.lent(margin);
         Left {
             number,
             value: *lent.value,
+            quote: *lent.quote,
             words: lent.words.to_vec(),
+            old: before.lent(margin).words.to_vec(),
             work: lent.work.to_vec(),
             file: lent.file.to_vec(),
             desk: Desk { jobs: *lent.jobs, passes: *lent.passes },
         }
     }
+}
+
+/// What is wrong with a tested call, if anything: by both numbers, by what is left of both memories, and by whether what
+/// it only reads stands.
+fn problem(numbers: [u32; 2], [ours, theirs]: [&Memory; 2], stands: bool) -> Option<String> {
+    if numbers[0] != numbers[1] {
+        return Some("the numbers differ".to_string());
+    }
+    if let Some(place) = ours.difference(theirs) {
+        return Some(format!("what is left differs: {place}"));
+    }
+    (!stands).then(|| "what was only to be read was changed".to_string())
 }
 
 /// A call's whole input, in words.
@@ -212,7 +239,7 @@ fn input_text(call: Call, input: &Input, lengths: &Lengths, desk: Desk) -> Strin
 }
 
 impl Comparison {
-    /// Compares one call: its number, its value, all memory that it may write, and what it reads.
+    /// Compares one call: its number, its value or quote, all memory that it may write, and what it reads.
     /// Slices that it does not take are left empty.
     pub(crate) fn call(
         &mut self,
@@ -228,32 +255,24 @@ impl Comparison {
         let (model, model_at) = placed(random, input.model);
         let (table, table_at) = placed(random, input.table);
         let (file, file_at) = placed(random, input.file);
-        let lent_input =
-            Input { model: &model[model_at..], table: &table[table_at..], file: &file[file_at..], limit: input.limit };
-        let mut ours = Memory::old(random, lengths, desk, margin);
-        let mut theirs = ours.clone();
+        let (model, table, file) = (&model[model_at..], &table[table_at..], &file[file_at..]);
+        let before = Memory::old(random, lengths, desk, margin);
+        let (mut ours, mut theirs) = (before.clone(), before.clone());
         let our_number = answer(call, input, &mut ours.lent(margin));
         if self.trace {
             eprintln!("{}, {label}: {}", call.name(), input_text(call, input, lengths, desk));
         }
-        let their_number = (self.tested.answer)(call, &lent_input, &mut theirs.lent(margin));
-        let problem = if their_number != our_number {
-            Some("the numbers differ".to_string())
-        } else if let Some(place) = ours.difference(&theirs) {
-            Some(format!("what is left differs: {place}"))
-        } else if lent_input.model != input.model || lent_input.table != input.table || lent_input.file != input.file {
-            Some("what was only to be read was changed".to_string())
-        } else {
-            None
-        };
-        if let Some(problem) = problem {
+        let placed = Input { model, table, file, limit: input.limit };
+        let their_number = (self.tested.answer)(call, &placed, &mut theirs.lent(margin));
+        let stands = (model, table, file) == (input.model, input.table, input.file);
+        if let Some(problem) = problem([our_number, their_number], [&ours, &theirs], stands) {
             let text = input_text(call, input, lengths, desk);
             return Err(Difference {
                 text: format!("{}, {label}: {problem}\nhere {our_number}, there {their_number}\n{text}", call.name()),
             });
         }
         *self.counts.calls.entry(call).or_default().entry(our_number).or_default() += 1;
-        Ok(theirs.left(their_number, margin))
+        Ok(theirs.left(their_number, before, margin))
     }
 
     /// Compares one call and counts the kinds of its slices' lengths. Those of lent buffers count
@@ -311,59 +330,68 @@ impl Comparison {
         self.program_case(plant, &model_file(plant.words()), limit)
     }
 
-    /// As a program uses the calls: the model's file is read, the model analysed and charged to the
-    /// desk, the table checked, written, and read again; each on what the call before it left.
-    fn program_case(&mut self, plant: &Plant, file: &[u8], limit: u32) -> Result<(), Difference> {
-        let label = "as a program";
-        let size = plant.table_words();
+    /// As a program uses the calls: the model's file is read, the order quoted, the model analysed in
+    /// buffers of the quoted lengths and charged to the desk, the table checked, written, and read
+    /// again; each on what the call before it left. All of it keeps to the quote.
+    pub(crate) fn program_case(&mut self, plant: &Plant, file: &[u8], limit: u32) -> Result<(), Difference> {
         let none = Input { model: &[], table: &[], file: &[], limit };
-        let fresh = Desk::default();
-        let words_only = |words: usize| Lengths { words, ..Lengths::default() };
-        let read =
-            self.call(label, Call::ReadModel, &Input { file, ..none }, &words_only(plant.words().len()), fresh)?;
+        let model_words = Lengths { words: plant.words().len(), ..Lengths::default() };
+        let read = self.program_call(Call::ReadModel, &Input { file, ..none }, &model_words)?;
         let with_model = Input { model: &read.words, ..none };
-        let ceiling = self.call(label, Call::Ceiling, &with_model, &Lengths::default(), fresh)?.value;
+        let quote = self.quote_of(&with_model)?;
+        let buffers = quoted_lengths(&quote);
+        let found = self.program_call(Call::Analyse, &with_model, &buffers)?;
+        self.note_found(plant, quote.ceiling, &found);
+        let charged = self.standing_desk(&with_model, &quote)?;
+        let with_table = Input { table: &found.words, ..with_model };
+        let checked = self.program_call(Call::Check, &with_table, &buffers)?.number;
+        hold_answer(&found, limit, quote.ceiling, checked)?;
+        let written = self.program_call(Call::WriteTable, &with_table, &buffers)?;
+        let with_file = Input { file: &written.file[..written.value as usize], ..with_table };
+        let again = self.program_call(Call::ReadTable, &with_file, &buffers)?;
+        if read.words != plant.words() || again.words != found.words {
+            return Err(Difference { text: format!("a file reads back as something else\nmodel {}", hex(file)) });
+        }
+        let taken = Taken { passes: found.value.max(charged), words: again.value, bytes: written.value };
+        self.short_of_the_quote(&with_file, file, &quote)?;
+        self.quote_case(plant, file, limit, &quote, &taken)
+    }
+
+    /// A call of such a program, on a fresh desk.
+    pub(crate) fn program_call(&mut self, call: Call, input: &Input, lengths: &Lengths) -> Result<Left, Difference> {
+        self.call("as a program", call, input, lengths, Desk::default())
+    }
+
+    /// Counts what an analysis is an extreme of.
+    fn note_found(&mut self, plant: &Plant, ceiling: u64, found: &Left) {
         self.counts.extreme("a ceiling above 4,294,967,295", ceiling > u32::MAX as u64);
-        let buffers = Lengths { words: size, work: size, file: 0 };
-        let found = self.call(label, Call::Analyse, &with_model, &buffers, fresh)?;
         self.counts.extreme("qii_analyse of more than 1,500 passes", found.value > 1_500);
         self.counts.extreme("a face from -1,000,000 to 1,000,000", spans_all_levels(plant, &found.words));
         if found.number >= 100 {
             self.counts.note_pieces(plant, &found.words);
         }
-        self.standing_desk(&with_model, &buffers)?;
-        let with_table = Input { table: &found.words, ..with_model };
-        let checked = self.call(label, Call::Check, &with_table, &Lengths::default(), fresh)?.number;
-        if (found.number == 100) != (checked == 100) || (limit as u64 >= ceiling && found.number == 102) {
-            return Err(Difference {
-                text: format!(
-                    "answered {} under limit {limit}, ceiling {ceiling}, and check gives {checked}",
-                    found.number
-                ),
-            });
-        }
-        let room = Lengths { file: plant.table_file_room(), ..Lengths::default() };
-        let written = self.call(label, Call::WriteTable, &with_table, &room, fresh)?;
-        let with_file = Input { file: &written.file[..written.value as usize], ..with_model };
-        let again = self.call(label, Call::ReadTable, &with_file, &words_only(size), fresh)?;
-        if read.words != plant.words() || again.words != found.words {
-            return Err(Difference { text: format!("a file reads back as something else\nmodel {}", hex(file)) });
-        }
-        Ok(())
     }
 
-    /// A call of the one desk that stands through the whole comparison, from fresh on.
-    fn standing_desk(&mut self, input: &Input, lengths: &Lengths) -> Result<(), Difference> {
+    /// A call of the one desk that stands through the whole comparison, from fresh on, with buffers
+    /// longer than quoted: words past the table stand. Gives the passes.
+    fn standing_desk(&mut self, input: &Input, quote: &Quote) -> Result<u64, Difference> {
+        let label = "the standing desk";
+        let size = quote.words as usize;
+        let longer = Lengths { words: size + PAST_THE_TABLE, work: size + PAST_THE_TABLE, file: 0 };
         // A limit that the counter can take, so that it is mostly answered.
         let limit = input.limit.min(u32::MAX - self.desk.passes);
-        let left = self.call("the standing desk", Call::Desk, &Input { limit, ..*input }, lengths, self.desk)?;
+        let left = self.call(label, Call::Desk, &Input { limit, ..*input }, &longer, self.desk)?;
         if left.number >= 100 {
             self.answered += 1;
             self.passes += left.value;
         }
         self.desk = left.desk;
         self.counts.extreme("qii_desk of more than 1,500 passes", left.number >= 100 && left.value > 1_500);
-        hold_counters("the standing desk", self.desk, self.answered, self.passes)
+        if left.words[size..] != left.old[size..] {
+            return Err(Difference { text: format!("{label}: words past the {size} quoted do not stand") });
+        }
+        hold_counters(label, self.desk, self.answered, self.passes)?;
+        Ok(left.value)
     }
 
     /// One damaged input of one of the calls.
@@ -546,6 +574,17 @@ fn hold_counters(label: &str, desk: Desk, jobs: u64, passes: u64) -> Result<(), 
         return Ok(());
     }
     Err(Difference { text: format!("{label}: {desk:?}, but the answers make {jobs} jobs and {passes} passes") })
+}
+
+/// The checker accepts the table of a safe answer and of no other, and none is unfinished under the ceiling.
+fn hold_answer(found: &Left, limit: u32, ceiling: u64, checked: u32) -> Result<(), Difference> {
+    let number = found.number;
+    if (number == 100) == (checked == 100) && (number != 102 || (limit as u64) < ceiling) {
+        return Ok(());
+    }
+    Err(Difference {
+        text: format!("answered {number} under limit {limit}, ceiling {ceiling}, and check gives {checked}"),
+    })
 }
 
 /// A present face of the table reaches from the lowest level to the highest.

@@ -9,7 +9,7 @@
 //! * `delays`    – delays to a wall, those that all variables can live with; touching by one delay for all variables
 //! * `steps`     – wall step, switch step, join
 //! * `tables`    – question 32, the pass
-//! * `ceiling`, `checker`, `analysis`, `desk`, `files`, `host`, `listing`
+//! * `ceiling`, `quote`, `checker`, `analysis`, `desk`, `files`, `host`, `listing`
 //! * `before`    – the wall step without the cut of T-06, with its pass, analysis and checker, to count and to test
 //! * `calls`     – every public call as a function from values to values
 //! * `draft`     – a model in the making, and grids of cells
@@ -20,12 +20,12 @@
 //! * `starts`    – start boxes that cross the wall: their kinds, trimmed to their start parts, taken whole
 //! * `ranges`    – reset ranges: their kinds, other ranges, random models that hang on them
 //! * `examples`  – document 01's plant P, source 000's examples and more; `samples` names those in `models`
-//! * `exports`   – the C calls beside decide and check: number, value, lent memory
+//! * `exports`   – the C calls beside decide and check: number, value or quote, lent memory
 //! * `compare`   – compares two implementations of the C calls, `lending` those of `exports`;
 //!   `trimming` a model and the same one with its start boxes trimmed; `editions` a model in both editions, and with
-//!   narrower ranges; `changes` counts what T-06 changes, and holds what it must not; `fixed`, `fixed_calls`,
-//!   `fixed_starts`, `fixed_delays`, `fixed_cuts` and `fixed_resets` have the fixed cases, `coverage` counts what came
-//!   up
+//!   narrower ranges; `changes` counts what T-06 changes, and holds what it must not; `quoting` holds answers to their
+//!   quotes; `fixed`, `fixed_calls`, `fixed_starts`, `fixed_delays`, `fixed_cuts`, `fixed_resets` and `fixed_quotes`
+//!   have the fixed cases, `coverage` counts what came up
 //! * `host_ffi`  – the C calls of libhost.a (feature `host`), or a stand-in
 
 pub mod analysis;
@@ -48,6 +48,7 @@ pub mod fixed;
 pub mod fixed_calls;
 pub mod fixed_cuts;
 pub mod fixed_delays;
+pub mod fixed_quotes;
 pub mod fixed_resets;
 pub mod fixed_starts;
 pub mod fraction;
@@ -59,6 +60,8 @@ pub mod listing;
 pub mod model;
 pub mod plain;
 pub mod pumps;
+pub mod quote;
+pub mod quoting;
 pub mod random;
 pub mod ranges;
 pub mod samples;

@@ -7,6 +7,7 @@ use crate::exports::{Call, Input};
 use crate::files::{model_file, table_file};
 use crate::lending::Lengths;
 use crate::model::Plant;
+use crate::quote::Quote;
 use crate::starts::trimmed;
 
 /// What a call gave.
@@ -15,6 +16,7 @@ pub(crate) struct Gave {
     call: &'static str,
     number: u64,
     value: u64,
+    quote: Option<Quote>,
     desk: Desk,
     words: Vec<i32>,
     file: Vec<u8>,
@@ -63,13 +65,14 @@ impl Comparison {
         let size = plant.table_words();
         let lengths = Lengths { words: size, work: size, file: 0 };
         let [first, second] = tables;
-        let calls = [Call::Ceiling, Call::Analyse, Call::Desk, Call::Check].map(|call| (call, first));
+        let calls = [Call::Ceiling, Call::Quote, Call::Analyse, Call::Desk, Call::Check].map(|call| (call, first));
         for (call, table) in calls.into_iter().chain([(Call::Check, second)]) {
             let input = Input { model: plant.words(), table, file: &[], limit };
             let left = self.call(label, call, &input, &lengths, Desk::default())?;
-            let value = if call == Call::Check { 0 } else { left.value };
+            let value = if call.has_value() { left.value } else { 0 };
+            let quote = (call == Call::Quote).then_some(left.quote);
             let (number, desk, words) = (left.number as u64, left.desk, left.words);
-            gave.push(Gave { call: call.name(), number, value, desk, words, file: vec![] });
+            gave.push(Gave { call: call.name(), number, value, quote, desk, words, file: vec![] });
         }
         Ok(gave)
     }

@@ -3,17 +3,21 @@
 use second::analysis::Answer;
 use second::before;
 use second::calls::{self, Buffers};
+use second::ceiling;
 use second::damage::{damaged_ranges, damaged_starts, RANGE_DAMAGE, START_DAMAGE};
 use second::draft::{Draft, LocationDraft};
 use second::examples::*;
+use second::exports::{answer, Call, Input, Lent};
 use second::files::{field, file_of_words, model_file};
+use second::fixed_quotes::quotes;
 use second::fixed_resets::{short_lists, NO_EDITION};
 use second::fixed_starts::STARTS_OF_P;
-use second::generate::random_model;
+use second::generate::{extreme_model, random_model};
 use second::host::MOST_MODEL_WORDS;
 use second::listing::listing;
-use second::model::{words_per_location, Edition, Plant, EDITION_AT, HEAD_WORDS, MAX_BOX};
+use second::model::{words_per_location, Cut, Edition, Location, Plant, EDITION_AT, HEAD_WORDS, MAX_BOX};
 use second::plain;
+use second::quote::{by_widths, Quote, Taken};
 use second::random::Random;
 use second::simulate::{may_move, may_start, Configuration, Move};
 use second::steps::wall_step;
@@ -300,6 +304,118 @@ fn the_end_that_binds() {
     // 20/3 rounds to 7.
     assert_eq!(fall([10, 20], [3, 3]), 7);
     assert_eq!(fall([10, 20], [-3, -3]), 7);
+}
+
+/// T-07: quotes worked out by hand.
+#[test]
+fn quotes_by_hand() {
+    for (label, draft, wanted) in quotes() {
+        let Quote { words, bytes, ceiling } = calls::quote(&draft.words()).unwrap();
+        assert_eq!([words, bytes, ceiling], wanted, "{label}");
+    }
+}
+
+/// T-07: added up by location, the ceiling is the same number as the sum over faces, and over pieces with T-12: of
+/// every location of random models, small ones and the widest.
+#[test]
+fn the_ceiling_by_location() {
+    let mut random = Random::new(7);
+    // Locations by n, without a cut and with one.
+    let mut seen = [[0u64; 2]; 7];
+    for turn in 0..6_000 {
+        let words = if turn % 3 == 0 { extreme_model(&mut random) } else { random_model(&mut random) }.words();
+        let plant = Plant::from_words(&words).unwrap();
+        let mut sum = 0;
+        for l in 0..plant.sizes.locations {
+            let location = plant.location(l);
+            assert_eq!(ceiling::of_location(&plant, l), by_widths(&location), "{location:?}");
+            sum += by_widths(&location);
+            seen[plant.sizes.n][location.cut.is_some() as usize] += 1;
+        }
+        assert_eq!(calls::quote(&words).unwrap().ceiling, sum);
+    }
+    assert!(seen[1..].iter().flatten().all(|&count| count > 500), "{seen:?}");
+}
+
+/// T-07: a location's share by T-07's own words, and what the value of a cut makes of it: nothing.
+#[test]
+fn shares_of_a_location() {
+    let share = |invariant: &[i32], cut: Option<(usize, i32)>| {
+        let cut = cut.map(|(variable, value)| Cut { variable, value });
+        by_widths(&Location { invariant, rates: &[], started: false, start: &[], cut })
+    };
+    assert_eq!(share(&[0, 10, 0, 10], None), 4 + 2 * 20);
+    assert_eq!(share(&[0, 1_000], None), 2);
+    assert_eq!(share(&[3, 3, 3, 3, 3, 3], None), 6);
+    assert_eq!(share(&[0, 1, 0, 20, 0, 300], None), 6 + 4 * 321);
+    // On the walls of y 1 + 301 each; on those of x 2 + 20 + 2 × 300, on those of z 2 + 20 + 2 × 1.
+    let cut_in_y = 2 * 302 + 2 * 622 + 2 * 24;
+    for value in [1, 10, 19] {
+        assert_eq!(share(&[0, 1, 0, 20, 0, 300], Some((1, value))), cut_in_y);
+    }
+    assert_eq!(share(&[0, 1_000], Some((0, 7))), 2);
+}
+
+/// T-07: the quote is written in every case, zeros on a refusal, and nothing else is.
+#[test]
+fn quotes_are_always_written() {
+    let old = Quote { words: 11, bytes: 12, ceiling: 13 };
+    let quoted = |model: &[i32]| {
+        let (mut jobs, mut passes, mut value, mut quote) = (1, 2, 3, old);
+        let (words, work, file) = (&mut [4][..], &mut [5][..], &mut [6][..]);
+        let mut lent =
+            Lent { words, work, file, jobs: &mut jobs, passes: &mut passes, value: &mut value, quote: &mut quote };
+        let number = answer(Call::Quote, &Input { model, table: &[], file: &[], limit: 9 }, &mut lent);
+        assert_eq!((&*lent.words, &*lent.work, &*lent.file), (&[4][..], &[5][..], &[6][..]));
+        assert_eq!((jobs, passes, value), (1, 2, 3));
+        (number, quote)
+    };
+    let p = plant_p().words();
+    assert_eq!(quoted(&p), (100, Quote { words: 20, bytes: 115, ceiling: 44 }));
+    assert_eq!(quoted(&[&p[..], &[1, 2, 3]].concat()), quoted(&p));
+    for length in 0..p.len() {
+        assert_eq!(quoted(&p[..length]), (5, Quote::default()));
+    }
+    for (place, word, number) in [
+        (0, 7, 2),
+        (1, 65, 3),
+        (2, -1, 4),
+        (EDITION_AT, 3, 43),
+        (P_LOCATION, 11, 11),
+        (P_LOCATION + 4, 2, 12),
+        (P_START_FLAG, 2, 13),
+        (P_FORBIDDEN, 1, 19),
+        (P_CUT, 0, 46),
+    ] {
+        let mut words = p.clone();
+        words[place] = word;
+        assert_eq!(quoted(&words), (number, Quote::default()));
+    }
+}
+
+/// T-07: what is held to a quote, and what is not.
+#[test]
+fn what_a_quote_allows() {
+    let quote = Quote { words: 20, bytes: 115, ceiling: 44 };
+    let holds = |passes, words, bytes| quote.holds(&Taken { passes, words, bytes });
+    assert!(holds(44, 20, 115) && holds(0, 20, 7));
+    assert!(!holds(45, 20, 115) && !holds(44, 21, 115) && !holds(44, 19, 115) && !holds(44, 20, 116));
+}
+
+/// T-07: plants that take all passes of their quote, with a table file as long as quoted.
+#[test]
+fn all_that_is_quoted() {
+    let row = face_by_face(&[[0, 3], [5, 6], [-9, 9]], &[(1, 0), (0, 1), (2, 0), (2, 1), (1, 1), (0, 0)]);
+    for draft in [row, level_by_level()] {
+        let words = draft.words();
+        let quote = calls::quote(&words).unwrap();
+        let (outcome, after) = calls::analysis(&words, u32::MAX, buffers(quote.words as usize));
+        assert_eq!(outcome, Ok((Answer::Safe, quote.ceiling as u32)));
+        let (outcome, _) = calls::write_table(&words, &after.table, vec![0; quote.bytes as usize]);
+        assert_eq!(outcome, Ok(quote.bytes as usize));
+        let (outcome, _) = calls::analysis(&words, quote.ceiling as u32 - 1, buffers(quote.words as usize));
+        assert_eq!(outcome, Ok((Answer::Unfinished, quote.ceiling as u32 - 1)));
+    }
 }
 
 /// T-10: the head's fifth word is the edition, 1 or 2; all records move by one. Under five words gets 5, and 43 is
@@ -728,8 +844,5 @@ fn the_largest_sizes() {
     assert_eq!(plant.table_words(), 19_968);
     assert_eq!(plant.table_file_room(), 96_775);
     assert_eq!(plant.table_file_room(), second::compare::MOST_ROOM);
-    let location = LocationDraft { invariant: [-1_000_000, 1_000_000].repeat(6), rates: vec![0; 12], start: None };
-    let cuts = (0..64).map(|l| (l, l % 6, 0)).collect();
-    let widest = Draft { n: 6, locations: vec![location; 64], cuts, ..Draft::default() };
-    assert_eq!(calls::ceiling(&widest.words()), Ok(12_800_001_408));
+    assert_eq!(calls::ceiling(&all_cut(widest()).words()), Ok(12_800_001_408));
 }

@@ -10,6 +10,7 @@ use second::examples::{
 use second::files::{model_file, model_of_file, parse_table};
 use second::listing::{listing, LIMIT};
 use second::model::Plant;
+use second::quote::{self, Quote};
 use second::random::Random;
 use second::samples;
 use second::simulate::{is_forbidden, is_run, random_run, travel, Configuration, Move, Run as OneRun, Travelled};
@@ -59,6 +60,24 @@ fn first_lines() {
     assert_eq!(found.len(), expected.len());
     for ((name, text), (expected_name, line)) in found.iter().zip(expected) {
         assert_eq!((*name, text.lines().next()), (expected_name, Some(line)));
+    }
+}
+
+/// What the C sample `quote` is expected to print of each sample model is what is quoted here.
+#[test]
+fn quotes() {
+    let expected = std::fs::read_to_string(concat!(env!("CARGO_MANIFEST_DIR"), "/../c/quote.expected")).unwrap();
+    for (name, file) in samples::all() {
+        let begins = format!("models/{name}.model: ");
+        let line = match model_of_file(&file) {
+            Ok(model) => {
+                let Quote { words, bytes, ceiling } = quote::of_plant(&model.plant());
+                format!("{begins}at most {ceiling} passes, {words} words for the table, {bytes} bytes for its file")
+            }
+            Err(number) => format!("{begins}refused {number}: "),
+        };
+        let found: Vec<_> = expected.lines().filter(|found| found.starts_with(&begins)).collect();
+        assert!(!found.is_empty() && found.iter().all(|found| found.starts_with(&line)), "{line}, {found:?}");
     }
 }
 

@@ -2,11 +2,15 @@
 //! mistake, in a number, a value or lent memory; each must be found within few random models.
 
 use second::before;
+use second::ceiling;
 use second::compare::{Comparison, Tested};
 use second::exports::{answer, Call, Input, Lent};
 use second::files::{HEAD, HEAD_2};
 use second::host;
-use second::model::{ask_head, ordered_inside, words_per_location, Edition, Piece, Plant, Sizes, EDITION_AT, LEVEL};
+use second::model::{
+    ask_head, ordered_inside, words_per_location, Edition, Location, Piece, Plant, Sizes, EDITION_AT, LEVEL,
+};
+use second::quote::{by_widths, Quote};
 use second::ranges::{highs_alone, lows_alone, with_ranges};
 use second::starts::{any_crosses, table_of_whole_boxes, touched_by_whole_boxes};
 use second::tables::well_formed;
@@ -47,9 +51,13 @@ fn ceiling_of_32_bits(call: Call, input: &Input, lent: &mut Lent) -> u32 {
     number
 }
 
+/// Does the model pass its questions, with words past its end?
+fn model_is_longer(input: &Input) -> bool {
+    Plant::from_words(input.model).is_ok_and(|plant| plant.words().len() < input.model.len())
+}
+
 fn longer_model_refused(call: Call, input: &Input, lent: &mut Lent) -> u32 {
-    let longer = Plant::from_words(input.model).is_ok_and(|plant| plant.words().len() < input.model.len());
-    if call == Call::Ceiling && longer {
+    if call == Call::Ceiling && model_is_longer(input) {
         *lent.value = 0;
         return 5;
     }
@@ -305,35 +313,174 @@ fn highest_value_refused(call: Call, input: &Input, lent: &mut Lent) -> u32 {
     answer(call, input, lent)
 }
 
-/// The ceiling with something added for each cut: what it is of a location, its cut variable and n.
-fn ceiling_with(call: Call, input: &Input, lent: &mut Lent, change: fn(&[i32], usize, usize) -> i64) -> u32 {
+/// The ceiling with something added for each cut: what it is of a location and its cut variable.
+fn ceiling_with(call: Call, input: &Input, lent: &mut Lent, more: fn(&Location, usize) -> u64) -> u32 {
     let number = answer(call, input, lent);
     if call == Call::Ceiling && number == 100 {
         let plant = Plant::from_words(input.model).expect("a ceiling comes after the model's questions");
-        let n = plant.sizes.n;
-        for l in 0..plant.sizes.locations {
-            if let Some(cut) = plant.cut(l) {
-                let more = change(plant.location(l).invariant, cut.variable, n);
-                *lent.value = lent.value.wrapping_add(more as u64);
-            }
-        }
+        *lent.value += over_cuts(&plant, more);
     }
     number
 }
 
-fn width(invariant: &[i32], i: usize) -> i64 {
-    invariant[2 * i + 1] as i64 - invariant[2 * i] as i64
+/// The sum over all cuts of what something is of a location and its cut variable.
+fn over_cuts(plant: &Plant, more: fn(&Location, usize) -> u64) -> u64 {
+    let locations = (0..plant.sizes.locations).map(|l| plant.location(l));
+    locations.filter_map(|location| location.cut.map(|cut| more(&location, cut.variable))).sum()
+}
+
+fn width(location: &Location, i: usize) -> u64 {
+    (location.invariant[2 * i + 1] as i64 - location.invariant[2 * i] as i64) as u64
+}
+
+/// The sum of all widths.
+fn widths(location: &Location) -> u64 {
+    (0..location.invariant.len() / 2).map(|i| width(location, i)).sum()
+}
+
+/// The cut variable's whole width once more, on the walls of each of the others.
+fn both_pieces_whole(location: &Location, cut: usize) -> u64 {
+    (location.invariant.len() as u64 - 2) * width(location, cut)
+}
+
+fn second_pieces_on_own_walls(location: &Location, cut: usize) -> u64 {
+    2 * (1 + widths(location) - width(location, cut))
 }
 
 fn ceiling_of_both_pieces_whole(call: Call, input: &Input, lent: &mut Lent) -> u32 {
-    // The cut variable's whole width once more, on the walls of each of the others.
-    ceiling_with(call, input, lent, |invariant, cut, n| 2 * (n as i64 - 1) * width(invariant, cut))
+    ceiling_with(call, input, lent, both_pieces_whole)
 }
 
 fn ceiling_with_second_pieces_on_own_walls(call: Call, input: &Input, lent: &mut Lent) -> u32 {
-    ceiling_with(call, input, lent, |invariant, cut, n| {
-        2 * (1 + (0..n).filter(|&i| i != cut).map(|i| width(invariant, i)).sum::<i64>())
+    ceiling_with(call, input, lent, second_pieces_on_own_walls)
+}
+
+/// The quote of a model that passes its questions, with something done to it afterwards.
+fn quoted_with(call: Call, input: &Input, lent: &mut Lent, change: fn(&Plant, &mut Quote)) -> u32 {
+    let number = answer(call, input, lent);
+    if call == Call::Quote && number == 100 {
+        let plant = Plant::from_words(input.model).expect("a quote comes after the model's questions");
+        change(&plant, lent.quote);
+    }
+    number
+}
+
+/// A quote's bytes by the bytes of a piece's field in each location.
+fn bytes_by(plant: &Plant, field: impl Fn(usize) -> usize) -> u64 {
+    let of_location = |l: usize| plant.sizes.faces() * plant.pieces_of(l) * field(l);
+    7 + (0..plant.sizes.locations).map(of_location).sum::<usize>() as u64
+}
+
+fn quoted_by_n_for_n_minus_1(call: Call, input: &Input, lent: &mut Lent) -> u32 {
+    quoted_with(call, input, lent, |plant, quote| {
+        quote.ceiling += (0..plant.sizes.locations).map(|l| 2 * widths(&plant.location(l))).sum::<u64>();
     })
+}
+
+fn quoted_without_the_first_location(call: Call, input: &Input, lent: &mut Lent) -> u32 {
+    quoted_with(call, input, lent, |plant, quote| quote.ceiling -= ceiling::of_location(plant, 0))
+}
+
+fn quoted_without_the_last_location(call: Call, input: &Input, lent: &mut Lent) -> u32 {
+    quoted_with(call, input, lent, |plant, quote| {
+        quote.words = plant.location_places(plant.sizes.locations - 1).start as u64;
+    })
+}
+
+fn quoted_as_without_cuts(call: Call, input: &Input, lent: &mut Lent) -> u32 {
+    quoted_with(call, input, lent, |plant, quote| {
+        quote.ceiling =
+            (0..plant.sizes.locations).map(|l| by_widths(&Location { cut: None, ..plant.location(l) })).sum();
+    })
+}
+
+fn quoted_with_both_pieces_whole(call: Call, input: &Input, lent: &mut Lent) -> u32 {
+    quoted_with(call, input, lent, |plant, quote| quote.ceiling += over_cuts(plant, both_pieces_whole))
+}
+
+fn quoted_with_second_pieces_on_own_walls(call: Call, input: &Input, lent: &mut Lent) -> u32 {
+    quoted_with(call, input, lent, |plant, quote| quote.ceiling += over_cuts(plant, second_pieces_on_own_walls))
+}
+
+fn quoted_in_32_bits(call: Call, input: &Input, lent: &mut Lent) -> u32 {
+    quoted_with(call, input, lent, |_, quote| quote.ceiling = quote.ceiling as u32 as u64)
+}
+
+fn quoted_words_without_second_pieces(call: Call, input: &Input, lent: &mut Lent) -> u32 {
+    quoted_with(call, input, lent, |plant, quote| {
+        quote.words = (plant.sizes.locations * words_per_location(plant.sizes.n)) as u64;
+    })
+}
+
+fn quoted_bytes_without_second_pieces(call: Call, input: &Input, lent: &mut Lent) -> u32 {
+    quoted_with(call, input, lent, |plant, quote| {
+        let sizes = plant.sizes;
+        quote.bytes = 7 + (sizes.locations * sizes.faces() * (3 + 4 * plant.field_words())) as u64;
+    })
+}
+
+fn quoted_by_the_shorter_field(call: Call, input: &Input, lent: &mut Lent) -> u32 {
+    quoted_with(call, input, lent, |plant, quote| quote.bytes = bytes_by(plant, |_| 11 + 8 * plant.sizes.n))
+}
+
+fn quoted_by_each_location_s_field(call: Call, input: &Input, lent: &mut Lent) -> u32 {
+    quoted_with(call, input, lent, |plant, quote| {
+        let longer = |l: usize| plant.cut(l).is_some();
+        quote.bytes = bytes_by(plant, |l| if longer(l) { 15 } else { 11 } + 8 * plant.sizes.n);
+    })
+}
+
+/// Without the second pieces that are always absent.
+fn quoted_by_the_longest_file_there_is(call: Call, input: &Input, lent: &mut Lent) -> u32 {
+    quoted_with(call, input, lent, |plant, quote| {
+        quote.bytes -= over_cuts(plant, |location, _| 2 * (15 + 4 * location.invariant.len() as u64));
+    })
+}
+
+fn quoted_words_for_bytes(call: Call, input: &Input, lent: &mut Lent) -> u32 {
+    quoted_with(call, input, lent, |_, quote| std::mem::swap(&mut quote.words, &mut quote.bytes))
+}
+
+/// The quote's refusal, with something done to its number and to what was lent.
+fn not_quoted(call: Call, input: &Input, lent: &mut Lent, change: fn(&mut u32, &Quote, &mut Quote)) -> u32 {
+    let old = *lent.quote;
+    let mut number = answer(call, input, lent);
+    if call == Call::Quote && refused(number) {
+        change(&mut number, &old, lent.quote);
+    }
+    number
+}
+
+fn quote_refused_by_the_next_number(call: Call, input: &Input, lent: &mut Lent) -> u32 {
+    not_quoted(call, input, lent, |number, _, _| *number += 1)
+}
+
+fn quote_refused_by_5_for_43(call: Call, input: &Input, lent: &mut Lent) -> u32 {
+    not_quoted(call, input, lent, |number, _, _| *number = if *number == 43 { 5 } else { *number })
+}
+
+fn quote_not_written_on_a_refusal(call: Call, input: &Input, lent: &mut Lent) -> u32 {
+    not_quoted(call, input, lent, |_, old, quote| *quote = *old)
+}
+
+fn quoted_words_kept_on_5(call: Call, input: &Input, lent: &mut Lent) -> u32 {
+    not_quoted(call, input, lent, |number, old, quote| quote.words = if *number == 5 { old.words } else { 0 })
+}
+
+fn quoted_bytes_kept_on_46(call: Call, input: &Input, lent: &mut Lent) -> u32 {
+    not_quoted(call, input, lent, |number, old, quote| quote.bytes = if *number == 46 { old.bytes } else { 0 })
+}
+
+fn quoted_ceiling_kept_on_11(call: Call, input: &Input, lent: &mut Lent) -> u32 {
+    not_quoted(call, input, lent, |number, old, quote| quote.ceiling = if *number == 11 { old.ceiling } else { 0 })
+}
+
+fn longer_model_not_quoted(call: Call, input: &Input, lent: &mut Lent) -> u32 {
+    if call == Call::Quote && model_is_longer(input) {
+        *lent.quote = Quote::default();
+        return 5;
+    }
+    answer(call, input, lent)
 }
 
 /// Words of the table if no location were cut.
@@ -754,7 +901,7 @@ fn fifteen_for_fourteen(call: Call, input: &Input, lent: &mut Lent) -> u32 {
     }
 }
 
-const WRONG: [(&str, Answer); 71] = [
+const WRONG: [(&str, Answer); 91] = [
     ("value not written on a refusal", value_not_written_on_a_refusal),
     ("the limit as an unknown answer's value", limit_as_value_of_unknown),
     ("ceiling of 32 bits", ceiling_of_32_bits),
@@ -826,6 +973,26 @@ const WRONG: [(&str, Answer); 71] = [
     ("the desk with the lows of ranges", charged_with_lows_alone),
     ("33 with the lows of ranges", checked_with_lows_alone),
     ("33 with the highs of ranges", checked_with_highs_alone),
+    ("a quote by n for n - 1", quoted_by_n_for_n_minus_1),
+    ("a quoted ceiling without the first location", quoted_without_the_first_location),
+    ("quoted words without the last location", quoted_without_the_last_location),
+    ("a quoted ceiling as without cuts", quoted_as_without_cuts),
+    ("a quoted ceiling of both pieces whole", quoted_with_both_pieces_whole),
+    ("a quoted ceiling with second pieces on own walls", quoted_with_second_pieces_on_own_walls),
+    ("a quoted ceiling of 32 bits", quoted_in_32_bits),
+    ("quoted words without second pieces", quoted_words_without_second_pieces),
+    ("quoted bytes without second pieces", quoted_bytes_without_second_pieces),
+    ("quoted bytes by the shorter field", quoted_by_the_shorter_field),
+    ("quoted bytes by each location's field", quoted_by_each_location_s_field),
+    ("quoted bytes without what is always absent", quoted_by_the_longest_file_there_is),
+    ("quoted words and bytes exchanged", quoted_words_for_bytes),
+    ("a quote refused by the next number", quote_refused_by_the_next_number),
+    ("a quote refused by 5 for 43", quote_refused_by_5_for_43),
+    ("a quote not written on a refusal", quote_not_written_on_a_refusal),
+    ("quoted words kept on 5", quoted_words_kept_on_5),
+    ("quoted bytes kept on 46", quoted_bytes_kept_on_46),
+    ("a quoted ceiling kept on 11", quoted_ceiling_kept_on_11),
+    ("longer model not quoted", longer_model_not_quoted),
 ];
 
 /// How many random models were compared until the mistake was found; None if it was not.

@@ -46,7 +46,7 @@ fn print_changes(changes: &Changes) {
     println!("  delays of wall steps {}", steps.collect::<Vec<_>>().join("; "));
 }
 
-fn print_counts(counts: &Counts) {
+fn print_models(counts: &Counts) {
     println!("fixed cases compared: {}", counts.fixed);
     println!(
         "random models compared: {} (by n: {:?}; with cuts: {:?}; with reset ranges: {:?})",
@@ -66,6 +66,9 @@ fn print_counts(counts: &Counts) {
     );
     println!("  under limits {}", listed(&counts.limits));
     println!("  most passes of an answer: {}", counts.most_passes);
+}
+
+fn print_calls(counts: &Counts) {
     println!("damaged inputs compared: {} of decide and check, {} of the others", counts.damaged, counts.damaged_calls);
     println!("  {}", listed(&counts.damage));
     println!("decide gave {:?}", counts.decide);
@@ -79,12 +82,9 @@ fn print_counts(counts: &Counts) {
         counts.lengths.values().min().unwrap_or(&0)
     );
     println!("lists of desk calls: {}, with {}", counts.desk_lists, listed(&counts.desks));
-    println!("extremes: {}", listed(&counts.extremes));
-    println!(
-        "tables accepted of {} safe answers, {} tables refused for models answered unknown",
-        counts.accepted, counts.refused
-    );
-    print_changes(&counts.changes);
+}
+
+fn print_runs(counts: &Counts) {
     let (safe, unknown) = (&counts.safe_runs, &counts.unknown_runs);
     println!(
         "runs of safe models: {}, with {} delays and {} switches; of {} configurations {} forbidden, {} unreached",
@@ -98,6 +98,19 @@ fn print_counts(counts: &Counts) {
         "runs of unknown models: {}; of {} configurations {} forbidden",
         unknown.runs, unknown.configurations, unknown.forbidden
     );
+}
+
+fn print_counts(counts: &Counts) {
+    print_models(counts);
+    print_calls(counts);
+    println!("extremes: {}", listed(&counts.extremes));
+    println!("quotes held to answers: {}", listed(&counts.quotes));
+    println!(
+        "tables accepted of {} safe answers, {} tables refused for models answered unknown",
+        counts.accepted, counts.refused
+    );
+    print_changes(&counts.changes);
+    print_runs(counts);
 }
 
 fn main() {

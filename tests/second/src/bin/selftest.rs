@@ -12,6 +12,7 @@
 //!   and random ones; the host's two calls say the same as the calls on words;
 //! * runs: every random run is one; on safe models none of its configurations is forbidden
 //!   and each is reached by one delay from a part of the answer's table;
+//! * quote: the answer keeps to it; its ceiling is that by the widths of each location;
 //! * damaged inputs: lent memory after each refusal is unchanged or zero, as its number says;
 //! * desk: over a list of calls from a fresh desk, passes is the sum of the passes answered.
 
@@ -29,6 +30,7 @@ use second::host::{self, MOST_MODEL_WORDS};
 use second::model::{Edition, Plant, HEAD_WORDS};
 use second::plain;
 use second::pumps::pump_model;
+use second::quote::{by_widths, Taken};
 use second::random::Random;
 use second::ranges::{any_range, ranged_model};
 use second::simulate::{travel, Travelled};
@@ -54,6 +56,8 @@ struct Counts {
     /// Answers by k: 0, 1, 2, 3 to 5, 6 to 10, 11 to 100, more.
     by_passes: [u64; 7],
     literal_passes: u64,
+    /// Locations whose share of the ceiling was held to their widths: without a cut, and with one.
+    by_widths: [u64; 2],
     travelled: Travelled,
     tables_refused: u64,
     desk_calls: u64,
@@ -115,6 +119,27 @@ fn read_table(random: &mut Random, counts: &mut Counts, model: &[i32], file: &[u
             assert_eq!(after, before);
         }
     }
+}
+
+/// The quote of a model, and what its answer took.
+fn quoted(counts: &mut Counts, plant: &Plant, taken: &Taken) {
+    let outcome = calls::quote(plant.words());
+    note(&mut counts.seen, "quote", &outcome);
+    let quote = outcome.expect("a model that passes its questions is quoted");
+    assert!(quote.holds(taken), "{quote:?}, {taken:?}");
+    let (mut sum, mut cuts) = (0, 0);
+    for l in 0..plant.sizes.locations {
+        let location = plant.location(l);
+        assert_eq!(ceiling::of_location(plant, l), by_widths(&location), "{location:?}");
+        sum += by_widths(&location);
+        cuts += location.cut.is_some() as u64;
+    }
+    assert_eq!(quote.ceiling, sum);
+    // Both pieces of a face get the cut's value in one pass, or are never whole.
+    let faces_in_two_pieces = cuts * 2 * (plant.sizes.n as u64 - 1);
+    assert!(taken.passes + faces_in_two_pieces <= quote.ceiling, "{quote:?}, {taken:?}");
+    counts.by_widths[0] += plant.sizes.locations as u64 - cuts;
+    counts.by_widths[1] += cuts;
 }
 
 fn one_model(random: &mut Random, counts: &mut Counts) {
@@ -204,6 +229,7 @@ fn one_model(random: &mut Random, counts: &mut Counts) {
     assert_eq!(bytes[..written.len()], written);
     assert_eq!(bytes[written.len()..], before[written.len()..]);
     read_table(random, counts, &words, &written, size + spare);
+    quoted(counts, &plant, &Taken { passes: k as u64, words: size as u64, bytes: written.len() as u64 });
 
     // Other tables.
     let mut rest = vec![0; size];
@@ -264,6 +290,9 @@ fn damaged_inputs(random: &mut Random, counts: &mut Counts, plant: &Plant, file:
         let outcome = calls::ceiling(&list);
         note(&mut counts.seen, "ceiling", &outcome);
         let model_number = outcome.err();
+        let outcome = calls::quote(&list);
+        note(&mut counts.seen, "quote", &outcome);
+        assert_eq!(outcome.err(), model_number);
         let size = plant.table_words();
         let short = |random: &mut Random| if random.chance(1, 6) { random.below(size) } else { size };
         let (table_length, work_length) = (short(random), short(random));
@@ -364,7 +393,7 @@ fn possible(call: &str) -> Vec<u32> {
     let words: Vec<u32> = [0].into_iter().chain(2..=5).chain(11..=19).chain([46]).collect();
     let more: &[u32] = match call {
         "read model" => &[1, 6, 7, 8],
-        "ceiling" => &[43],
+        "ceiling" | "quote" => &[43],
         "checker" => &[43, 20, 32, 33, 34],
         "analysis" => &[43, 20, 21],
         "read table" => &[43, 20, 35, 36, 37, 38, 32],
@@ -391,6 +420,11 @@ fn a_short_self_test() {
     assert!(counts.answers.len() == 3);
 }
 
+fn print_quoted([whole, cut]: [u64; 2]) {
+    println!("shares of the ceiling held to widths: {whole} locations without a cut, {cut} with one");
+    assert!(whole > 0 && cut > 0, "no location without a cut, or none with one");
+}
+
 fn main() {
     let arguments: Vec<u64> =
         std::env::args().skip(1).map(|a| a.parse().expect("arguments are numbers: models, seed")).collect();
@@ -411,6 +445,7 @@ fn main() {
         counts.passes, counts.most_passes, counts.literal_passes
     );
     println!("answers by k (0, 1, 2, 3-5, 6-10, 11-100, more): {:?}", counts.by_passes);
+    print_quoted(counts.by_widths);
     let runs = &counts.travelled;
     println!(
         "runs {}, configurations {}, delays {}, switches {} ({} to a level strictly inside a reset range, {} to a \

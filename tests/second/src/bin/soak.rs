@@ -21,6 +21,7 @@ use second::generate::{close, pass_budget, random_limit, random_model, random_ta
 use second::host_ffi;
 use second::lending::Lengths;
 use second::model::Plant;
+use second::quote::Quote;
 use second::random::Random;
 
 const CALLS: u64 = 1_000_000;
@@ -44,11 +45,12 @@ enum Asked {
     Other { call: Call, model: Vec<i32>, table: Vec<i32>, file: Vec<u8>, limit: u32, lengths: Lengths },
 }
 
-/// What a call gave: number and value, and a sum over all lent buffers.
-#[derive(Clone, Copy, PartialEq)]
+/// What a call gave: number, value and quote, and a sum over all lent buffers.
+#[derive(Clone, Copy, Default, PartialEq)]
 struct Outcome {
     number: u64,
     value: u64,
+    quote: Quote,
     sum: u64,
 }
 
@@ -116,25 +118,27 @@ fn make(asked: &Asked, memory: &mut Memory) -> Outcome {
             let buffer = &mut memory.file[..*length];
             buffer.fill(OLD);
             let number = host_ffi::decide(model, buffer, *limit);
-            Outcome { number, value: 0, sum: sum(seed, buffer.iter().map(|&b| b as u64)) }
+            Outcome { number, sum: sum(seed, buffer.iter().map(|&b| b as u64)), ..Outcome::default() }
         }
-        Asked::Check { model, table } => Outcome { number: host_ffi::check(model, table), value: 0, sum: 0 },
+        Asked::Check { model, table } => Outcome { number: host_ffi::check(model, table), ..Outcome::default() },
         Asked::Other { call, model, table, file, limit, lengths } => {
             let (buffer, work) = (&mut memory.words[..lengths.words], &mut memory.work[..lengths.work]);
             let bytes = &mut memory.file[..lengths.file];
             buffer.fill(OLD_WORD);
             work.fill(OLD_WORD);
             bytes.fill(OLD);
-            let mut value = 0;
+            let (mut value, mut quote) = (0, Quote::default());
             let input = Input { model, table, file, limit: *limit };
             let number = {
                 let (jobs, passes) = (&mut memory.jobs, &mut memory.passes);
-                let mut lent = Lent { words: buffer, work, file: bytes, jobs, passes, value: &mut value };
+                let (value, quote) = (&mut value, &mut quote);
+                let mut lent = Lent { words: buffer, work, file: bytes, jobs, passes, value, quote };
                 host_ffi::answer(*call, &input, &mut lent) as u64
             };
             let left = sum(seed, memory.words[..lengths.words].iter().map(|&w| w as u64));
             let left = sum(left, memory.work[..lengths.work].iter().map(|&w| w as u64));
-            Outcome { number, value, sum: sum(left, memory.file[..lengths.file].iter().map(|&b| b as u64)) }
+            let left = sum(left, memory.file[..lengths.file].iter().map(|&b| b as u64));
+            Outcome { number, value, quote, sum: left }
         }
     }
 }
