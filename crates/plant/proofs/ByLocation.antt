@@ -1,5 +1,5 @@
 -- The ceiling, added up by location (document 02, T-07), is the sum over faces (document 01) and their pieces (T-12).
-use mathlib.Core.Path.{_≡_, refl, sym, ap, ap₂, _∙_}
+use mathlib.Core.Path.{_≡_, refl, sym, ap, _∙_}
 use mathlib.Core.Bool.{Bool, true, false, cond}
 use mathlib.Core.List.{List}
 use Prim.Native.Nat.{ℕ, zero, suc, _+_, _*_, _-_, _/_, _%_, _<_}
@@ -16,10 +16,10 @@ use Rattle.integers.proofs.Extremes.{max-right, max-least, min-right, min-great
 use Rattle.integers.proofs.Signed.{no-true}
 use Rattle.integers.proofs.Tests.{true-is, is-true}
 use Rattle.integers.proofs.Counted.{sum-ext, sum-same, sum-times, sum-plus, sum-pairs, sum-but}
-use Rattle.plant.specs.Box.{low, high, Ordered, Face, absent, present}
+use Rattle.plant.specs.Box.{low, high, Ordered}
 use Rattle.plant.specs.Model.{n#, L#, invariant, Cut, uncut, cutBy, cutOf, variableOf}
 use Rattle.plant.specs.Questions.{modelQuestions}
-use Rattle.plant.specs.Pieces.{Extent, extentBy, boxUpTo, boxFrom, cutToExtent, piecesPerFace, perFace, pieces, pieceFace, pieceIndex, pieceVariable, pieceExtent, pieceRange}
+use Rattle.plant.specs.Pieces.{extentBy, boxUpTo, boxFrom, cutToExtent, piecesPerFace, perFace, pieces, pieceFace, pieceIndex, pieceVariable, pieceExtent, pieceRange}
 use Rattle.plant.specs.Tables.{width, allWidths, otherWidths, ceilingPerLocation, locationCeiling, ceilingOf, faceCount, ceilingByPieces}
 use Rattle.plant.proofs.Boxes.{low-boxBy, high-boxBy}
 use Rattle.plant.proofs.Passed.{Passed, passed, CutInside}

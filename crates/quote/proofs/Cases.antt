@@ -1,9 +1,9 @@
 -- Quotes computed with the definitions: of plant P, of locations with and without cuts, of one and of three variables, of widths that
 -- are 0; and refusals.
 use mathlib.Core.Path.{_≡_, refl}
-use mathlib.Core.List.{List, [], _∷_, _++_}
+use mathlib.Core.List.{List, [], _∷_}
 use Prim.Native.Nat.{ℕ}
-use lib.IntN.{ℤ, pos, negsuc}
+use lib.IntN.{ℤ, pos}
 use Rattle.integers.specs.Counted.{cat, allBelow, anyBelow, sumBelow}
 use Rattle.plant.specs.Ask.{_then_, first}
 use Rattle.plant.specs.Box.{low, high, boxBy, boxAt, ordered}

@@ -9,12 +9,12 @@ use lib.ListN.{length, drop}
 use lib.Seq.{drop-at}
 use Rattle.integers.specs.Words.{onto}
 use Rattle.plant.specs.Questions.{modelQuestions}
-use Rattle.plant.specs.Tables.{tableSize, longestTableFile, tableOk, tableAfter, ceilingOf, ceilingByPieces}
+use Rattle.plant.specs.Tables.{tableSize, longestTableFile, tableOk, tableAfter, ceilingOf}
 use Rattle.plant.specs.Calls.{Analysed, replyOf, ceilingReply, ceilingBy, ceilingCall, passesOf, answerTable, analysis, analysisQuestions, answered, analyseBy, analyseCall}
 use Rattle.plant.specs.Demands.{ceiling, answers, Room}
 use Rattle.plant.specs.Ask.{ask}
 use Rattle.plant.proofs.Asks.{ask-intro, ask-yes, then-both}
-use Rattle.plant.proofs.Passed.{Passed, passed}
+use Rattle.plant.proofs.Passed.{passed}
 use Rattle.plant.proofs.Tables.{long-enough, made-ok}
 use Rattle.plant.proofs.Keeps.{piecesAfter, pieces-ok, after-length, onto-begins}
 use Rattle.plant.proofs.ByLocation.{ceiling-by-pieces}
@@ -29,7 +29,7 @@ use Rattle.table_files.proofs.TableBack.{table-back}
 use Rattle.desk.specs.declared.Desk.{Desk}
 use Rattle.desk.specs.Desks.{deskQuestions, deskBy, deskCall}
 use Rattle.quote.proofs.Largest.{ceiling-most}
-use Rattle.quote.specs.Quotes.{QuoteReply, quoteReply, quoteBy, quoteCall, quoted, QuoteDemand}
+use Rattle.quote.specs.Quotes.{QuoteReply, quoteReply, quoteBy, quoteCall, quoted, NoneExceeds, QuoteDemand}
 
 module _ (m : List ℤ) where
   -- what a model that passes is quoted
@@ -134,11 +134,22 @@ module _ (m : List ℤ) where
         let r : Room m table work = record { table-room = omega (arith, words-are asks); work-room = omega (arith, words-are asks) } in
         subst (λ (x : Analysed). 100 ≤ replyOf x .code) (sym (first-demand m .with-table asks limit table work r)) (answer-code m limit)
 
+  none-exceeds : (limit : ℕ) (table work : List ℤ) → NoneExceeds m limit table work
+  none-exceeds limit table work = record {
+    passes-within = passes limit table work;
+    charge-within = charge limit table work;
+    table-words = answer-words limit table work;
+    behind-words = behind limit table work;
+    file-within = λ h. omega (arith, file-most m (analyseCall m limit table work .table), bytes-are (asks limit table work h));
+    file-taken = λ file h. taken limit table work h file;
+  }
+
 pub quote-kept : (m : List ℤ) → QuoteDemand m
 unfolding quoteCall
 quote-kept m = record {
   is-quoted = λ asks. ap (λ (q : ℕ). quoteReply (quoteBy m q) .code) asks;
   refused-by = λ q e. ap (λ (q : ℕ). quoteReply (quoteBy m q)) e;
+  none-exceeds = none-exceeds m;
   exact-words = λ asks limit table work. (
     λ h. let r = rooms m limit table work (first-demand m .only-passing limit table work h) in (omega (arith, words-are m asks, r .0), omega (arith, words-are m asks, r .1)),
     λ r. enough m limit table work asks (r .0) (r .1),
@@ -147,13 +158,8 @@ quote-kept m = record {
     λ h. omega (arith, bytes-are m asks, leb→le (longestTableFile m) room (ask-yes (leb (longestTableFile m) room) 39 (omega arith) h)),
     λ h. ask-intro (leb (longestTableFile m) room) 39 (le→leb (longestTableFile m) room (omega (arith, bytes-are m asks))),
   );
+  every-file = λ asks t. omega (arith, file-most m t, bytes-are m asks);
   same-ceiling = same-ceiling m;
-  largest = largest m (modelQuestions m) refl;
   by-pieces = λ asks. ceiling-is m asks ∙ ceiling-by-pieces m asks;
-  passes-within = passes m;
-  charge-within = λ d limit table work. charge m limit table work d;
-  table-words = answer-words m;
-  behind-words = behind m;
-  file-within = λ asks t. omega (arith, file-most m t, bytes-are m asks);
-  file-taken = λ limit table work file h. taken m limit table work h file;
+  largest = largest m (modelQuestions m) refl;
 }

@@ -1,8 +1,7 @@
 -- The largest ceiling of all models.
-use mathlib.Core.Path.{_≡_, refl}
 use mathlib.Core.Bool.{Bool, true, false, cond}
 use mathlib.Core.List.{List}
-use Prim.Native.Nat.{ℕ, zero, suc, _+_, _*_, _-_, _<_, _≤_}
+use Prim.Native.Nat.{ℕ, _+_, _*_, _-_, _<_, _≤_}
 use native.Mathlib.Nat.{mul-le-mul}
 use native.Mathlib.Omega.{arith}
 use lib.Dec.{eqb}
@@ -38,12 +37,18 @@ location-most : (n : ℕ) (inv : List ℤ) → Levels n inv → n ≤ 6 → (c :
 unfolding locationCeiling
 location-most n inv levels few uncut h = omega (arith, per-location n (allWidths n inv) 6 few (omega (arith, widths-small inv n levels)) (omega arith))
 location-most n inv levels few (cutBy v x) h =
-    omega (arith, per-location n (allWidths n inv) 6 few (omega (arith, widths-small inv n levels)) (omega arith),
-      per-location (n - 1) (otherWidths n v inv) 5 (omega arith) (omega (arith, others-small n inv levels v (h .0))) (omega arith))
+    omega (
+      arith,
+      per-location n (allWidths n inv) 6 few (omega (arith, widths-small inv n levels)) (omega arith),
+      per-location (n - 1) (otherWidths n v inv) 5 (omega arith) (omega (arith, others-small n inv levels v (h .0))) (omega arith),
+    )
 
 pub ceiling-most : (m : List ℤ) → Passed m → ceilingOf m ≤ 12800001408
 unfolding ceilingOf
 ceiling-most m ok =
-    omega (arith,
+    omega (
+      arith,
       sum-le (L# m) (λ l. locationCeiling (n# m) (invariant m l) (cutOf m l)) (λ l. 200000022) (λ l u. location-most (n# m) (invariant m l) (invariant-in m ok l u) (ok .n-small) (cutOf m l) (ok .of-cut l u .inside)),
-      sum-same (L# m) 200000022, ok .L-small)
+      sum-same (L# m) 200000022,
+      ok .L-small,
+    )

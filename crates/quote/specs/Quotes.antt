@@ -38,36 +38,39 @@ quoteReply (Refused k) = record { code = k; words = 0; bytes = 0; ceiling = 0 }
 abbrev pub quoted : List ℤ → QuoteReply
 quoted m = quoteReply (quoteCall m)
 
--- ---- what it promises, of every list of words
+-- ---- no analysis by passes exceeds any of the three
+
+-- under this limit, with these buffers
+pub record NoneExceeds (m : List ℤ) (limit : ℕ) (table work : List ℤ) : Type 0 where
+  -- the passes made are at most the ceiling, and so are those that a desk charges
+  pub passes-within : replyOf (analyseCall m limit table work) .value ≤ quoted m .ceiling
+  pub charge-within : (d : Desk) → deskCall d m limit table work .desk .passes ≤ d .passes + quoted m .ceiling
+  -- the table's words are the words, and what stands behind them in the buffer is unchanged
+  pub table-words : 100 ≤ answers m limit table work → length (answerTable m (analyseCall m limit table work .answer)) ≡ quoted m .words
+  pub behind-words : drop (quoted m .words) (analyseCall m limit table work .table) ≡ drop (quoted m .words) table
+  -- the answer's file is no longer than the bytes, and a buffer of as many takes it
+  pub file-within : 100 ≤ answers m limit table work → length (tableFile m (analyseCall m limit table work .table)) ≤ quoted m .bytes
+  pub file-taken :
+      (file : List ℕ) → 100 ≤ answers m limit table work → quoted m .bytes ≤ length file
+      → let t = analyseCall m limit table work .table in writeReply (writeTableCall m t file) ≡ record { code = 100; value = length (tableFile m t) }
+
+-- ---- what the call promises, of every list of words
 
 pub record QuoteDemand (m : List ℤ) : Type 0 where
   -- a model that passes its questions is quoted; everything else gets the number of the first question that it fails, and no values
   pub is-quoted : modelQuestions m ≡ 0 → quoted m .code ≡ 100
   pub refused-by : (q : ℕ) → modelQuestions m ≡ suc q → quoted m ≡ record { code = suc q; words = 0; bytes = 0; ceiling = 0 }
-  -- the words are those that 20 and 21 ask for: an analysis is answered exactly if both buffers have as many
+  -- under every limit, with all buffers
+  pub none-exceeds : (limit : ℕ) (table work : List ℤ) → NoneExceeds m limit table work
+  -- nothing is quoted too high. The words are those that 20 and 21 ask for: an analysis is answered exactly if both buffers have as many
   pub exact-words :
       modelQuestions m ≡ 0 → (limit : ℕ) (table work : List ℤ)
       → (100 ≤ answers m limit table work) ↔ ((quoted m .words ≤ length table) × (quoted m .words ≤ length work))
-  -- the bytes are the number in 39
+  -- the bytes are the number in 39, which no file of a table exceeds, whoever made the table
   pub exact-bytes : modelQuestions m ≡ 0 → (room : ℕ) → (bytesQuestion m room ≡ 0) ↔ (quoted m .bytes ≤ room)
+  pub every-file : modelQuestions m ≡ 0 → (t : List ℤ) → length (tableFile m t) ≤ quoted m .bytes
   -- the ceiling is what the ceiling's call gives, the sum over faces and pieces
   pub same-ceiling : quoted m .ceiling ≡ ceiling m
   pub by-pieces : modelQuestions m ≡ 0 → quoted m .ceiling ≡ ceilingByPieces m
   -- the largest of all models
   pub largest : (quoted m .words ≤ 19968) × (quoted m .bytes ≤ 96775) × (quoted m .ceiling ≤ 12800001408)
-
-  -- No analysis by passes exceeds any of the three, under every limit and with all buffers. The passes made are at most the ceiling, and
-  -- so are those that the desk charges
-  pub passes-within : (limit : ℕ) (table work : List ℤ) → replyOf (analyseCall m limit table work) .value ≤ quoted m .ceiling
-  pub charge-within : (d : Desk) (limit : ℕ) (table work : List ℤ) → deskCall d m limit table work .desk .passes ≤ d .passes + quoted m .ceiling
-  -- the table's words are the words, and what stands behind them in the buffer is unchanged
-  pub table-words :
-      (limit : ℕ) (table work : List ℤ) → 100 ≤ answers m limit table work
-      → length (answerTable m (analyseCall m limit table work .answer)) ≡ quoted m .words
-  pub behind-words :
-      (limit : ℕ) (table work : List ℤ) → drop (quoted m .words) (analyseCall m limit table work .table) ≡ drop (quoted m .words) table
-  -- no file of a table, and so not the answer's, is longer than the bytes; and a buffer of as many takes the answer's
-  pub file-within : modelQuestions m ≡ 0 → (t : List ℤ) → length (tableFile m t) ≤ quoted m .bytes
-  pub file-taken :
-      (limit : ℕ) (table work : List ℤ) (file : List ℕ) → 100 ≤ answers m limit table work → quoted m .bytes ≤ length file
-      → let t = analyseCall m limit table work .table in writeReply (writeTableCall m t file) ≡ record { code = 100; value = length (tableFile m t) }

@@ -9,7 +9,7 @@ use lib.Signed.{nonNeg}
 use Rattle.integers.specs.Words.{eqZ}
 use Rattle.integers.proofs.Signed.{got32}
 use Rattle.delays.specs.Ranges.{Levels}
-use Rattle.plant.specs.Model.{n#, L#, invariant, cutVariable}
+use Rattle.plant.specs.Model.{n#, invariant, cutVariable}
 use Rattle.plant.specs.Tables.{width, allWidths, otherWidths, ceilingPerLocation}
 use Rattle.plant.proofs.Passed.{Passed, passed, IsCut}
 use Rattle.passes.proofs.PartWords.{whole, invariant-in}
