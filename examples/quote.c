@@ -40,7 +40,7 @@ static uint32_t quote_order(size_t file_len, struct quote *quote)
     return qii_quote(model, model_len, &quote->words, &quote->bytes, &quote->passes);
 }
 
-/* Prints an order's quote. */
+/* Prints what an order is quoted, the passes first: they are the price limit. */
 static void print_quote(const char *name, const struct quote *quote)
 {
     printf("%s: at most %" PRIu64 " passes, %" PRIu64 " words for the table, %" PRIu64

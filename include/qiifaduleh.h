@@ -260,9 +260,9 @@ uint32_t qii_ceiling(const int32_t *model, size_t model_len, uint64_t *value);
  * Gives QII_DONE, or a refusal, with 0 in all three. No analysis by passes exceeds any of the
  * three: under whatever limit, an answer of qii_analyse, of qii_desk or, for the model's file, of
  * decide has at most so many passes, a table of exactly so many words, and a table file of at most
- * so many bytes. No call refuses a table or a buffer of so many words by 20 or 21, nor a buffer of
- * so many bytes by 39; each of them refuses a shorter one. At most QII_TABLE_WORDS_MAX words,
- * QII_TABLE_BYTES_MAX bytes and 12,800,001,408 passes.
+ * so many bytes. With so many words no call finds a table, a table buffer or a work buffer too
+ * short (20, 21), with so many bytes none a byte buffer (39); with one less, each that asks does.
+ * At most QII_TABLE_WORDS_MAX words, QII_TABLE_BYTES_MAX bytes and 12,800,001,408 passes.
  *
  * Asks the model's questions.
  */
@@ -636,7 +636,7 @@ static inline const char *qii_meaning(uint32_t number)
     case QII_TABLE_END:
         return "the table file goes on after its last piece";
     case QII_TABLE_ROOM:
-        return "the byte buffer is too short for the longest table file of the model";
+        return "the byte buffer has no room for every table file of the model";
     case QII_EDITION:
         return "the model's edition is neither 1 nor 2";
     case QII_CUT:

@@ -137,7 +137,8 @@ static int measures_tables(void)
            qii_table_len(most) == QII_TABLE_BYTES_MAX;
 }
 
-/* A model's table has so many words and so many bytes, by the header and by the quote. */
+/* A model's table has so many words and so many bytes, by the header and by the quote, which has this
+   ceiling. */
 static int measures(const int32_t *model, size_t model_len, size_t words, size_t bytes,
                     uint64_t ceiling)
 {

@@ -8,7 +8,7 @@ use Rattle.integers.specs.Words.{eqZ}
 use Rattle.integers.specs.Counted.{sumBelow}
 use Rattle.integers.proofs.Counted.{sum-but}
 use Rattle.plant.specs.Model.{n#, L#, invariant, cutVariable, cutFrom, cutOf}
-use Rattle.plant.specs.Tables.{width, allWidths, otherWidths, ceilingPerLocation, locationCeiling, ceilingOf}
+use Rattle.plant.specs.Tables.{width, allWidths, otherWidths, uncutCeiling, locationCeiling, ceilingOf}
 
 -- the width of one variable, and those of the others
 pub with-others : (n v : ℕ) (inv : List ℤ) → v < n → otherWidths n v inv + width inv v ≡ allWidths n inv
@@ -19,12 +19,12 @@ abbrev pub ceilingAt : List ℤ → ℕ → ℕ
 ceilingAt m l = locationCeiling (n# m) (invariant m l) (cutOf m l)
 
 module _ (m : List ℤ) (l : ℕ) where
-  pub adds-uncut : eqZ (cutVariable m l) (negsuc 0) ≡ true → ceilingPerLocation (n# m) (allWidths (n# m) (invariant m l)) ≡ ceilingAt m l
+  pub adds-uncut : eqZ (cutVariable m l) (negsuc 0) ≡ true → uncutCeiling (n# m) (allWidths (n# m) (invariant m l)) ≡ ceilingAt m l
   unfolding cutOf cutFrom locationCeiling
   adds-uncut e = rw e refl
 
   pub adds-cut : eqZ (cutVariable m l) (negsuc 0) ≡ false
-      → ceilingPerLocation (n# m) (allWidths (n# m) (invariant m l)) + ceilingPerLocation (n# m - 1) (otherWidths (n# m) (natAbs (cutVariable m l)) (invariant m l)) ≡ ceilingAt m l
+      → uncutCeiling (n# m) (allWidths (n# m) (invariant m l)) + uncutCeiling (n# m - 1) (otherWidths (n# m) (natAbs (cutVariable m l)) (invariant m l)) ≡ ceilingAt m l
   unfolding cutOf cutFrom locationCeiling
   adds-cut e = rw e refl
 

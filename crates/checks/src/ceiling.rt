@@ -5,7 +5,7 @@ ghost use Rattle.delays.specs.Ranges.{LevelAt, Levels};
 ghost use Rattle.plant.specs.Model.{n#, L#, invariant, cutOf};
 ghost use Rattle.plant.specs.Questions.{modelQuestions};
 ghost use Rattle.plant.specs.Tables as T;
-ghost use Rattle.plant.specs.Tables.{allWidths, ceilingPerLocation, locationCeiling, ceilingOf};
+ghost use Rattle.plant.specs.Tables.{allWidths, uncutCeiling, locationCeiling, ceilingOf};
 
 // The width (high minus low) of variable i.
 fn width(inv: &[i32], i: usize) -> u64
@@ -31,9 +31,9 @@ fn all_widths(n: usize, inv: &[i32]) -> u64
 }
 
 // 2n + 2(n - 1) × the sum of the widths; of no variables nothing.
-fn ceiling_per_location(n: usize, widths: u64) -> u64
+fn uncut_ceiling(n: usize, widths: u64) -> u64
     requires { ⌜ (n ≤ 6) × (widths ≤ 12000000) ⌝ }
-    ensures { λ r. ⌜ (r ≡ ceilingPerLocation n widths) × (r ≤ 120000012) ⌝ }
+    ensures { λ r. ⌜ (r ≡ uncutCeiling n widths) × (r ≤ 120000012) ⌝ }
 {
     if n == 0 {
         return 0;
@@ -51,12 +51,12 @@ fn location_ceiling(model: &[i32], l: usize) -> u64
     let inv = records::invariant(model, l);
     let variable = records::cut_variable(model, l);
     let widths = all_widths(n, inv);
-    let faces = ceiling_per_location(n, widths);
+    let faces = uncut_ceiling(n, widths);
     if integers::same(variable, -1) {
         return faces;
     }
     let others = widths - width(inv, integers::natural(variable));
-    faces + ceiling_per_location(n - 1, others)
+    faces + uncut_ceiling(n - 1, others)
 }
 
 // The sum over all locations.

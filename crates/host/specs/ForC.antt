@@ -1,7 +1,7 @@
 -- What include/qiifaduleh.h says of the calls on words and on files: the number, the values and every lent word or byte, for every
 -- input. Each is the call's own definition with the reply in place of the enum: done, safe and accepted 100, unknown 101,
--- unfinished 102, else the refusal's own number with the value 0. (The ceiling, the quote and the checker are lent nothing to change:
--- their replies say all.)
+-- unfinished 102, else the refusal's own number with the value 0. (The ceiling, the quote and the checker are lent nothing to
+-- change: their replies say all.)
 use mathlib.Core.Path.{_≡_}
 use mathlib.Core.List.{List, [], _∷_}
 use Prim.Native.Nat.{ℕ}

@@ -39,7 +39,7 @@ module _ (s file : List ℕ) (limit : ℕ) where
   answerFile = take (fileLength (decideCall s file limit .file)) (decideCall s file limit .file)
 
   pub record Decides : Type 0 where
-    -- first: a model file that passes, with room for its longest table file, is answered safe, unknown or unfinished
+    -- first: a model file that passes, with the room that 39 asks for, is answered safe, unknown or unfinished
     pub answered : modelFileQuestions s ≡ 0 → longestTableFile (modelOf s) ≤ length file → (code ≡ 100) ⊎ ((code ≡ 101) ⊎ (code ≡ 102))
     -- only such a file is answered; every other gets the number of the first question that it fails
     pub only-passing : 100 ≤ code → (modelFileQuestions s ≡ 0) × (longestTableFile (modelOf s) ≤ length file)
@@ -65,8 +65,8 @@ module _ (s file : List ℕ) (limit : ℕ) where
     pub otherwise-unknown :
         ceiling (modelOf s) ≤ limit → modelFileQuestions s ≡ 0 → longestTableFile (modelOf s) ≤ length file
         → (code ≡ 101) ↔ (AcceptableFile s → ⊥)
-    -- no call exceeds what its model is quoted (document 02, T-07), under whatever limit: the passes are at most the ceiling, the table's
-    -- words are the words, the file is no longer than the bytes; and a buffer of as many bytes is enough
+    -- no call exceeds what its model is quoted (document 02, T-07), under whatever limit: the passes are at most the ceiling, the
+    -- table's words are the words, the file is no longer than the bytes; and a buffer of as many bytes is enough
     pub within-ceiling : passes ≤ quoted (modelOf s) .ceiling
     pub table-words : 100 ≤ code → length (tableAfter (modelOf s) passes) ≡ quoted (modelOf s) .words
     pub within-bytes : 100 ≤ code → length answerFile ≤ quoted (modelOf s) .bytes

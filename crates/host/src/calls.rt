@@ -81,7 +81,7 @@ fn quote_reply(
     number
 }
 
-// What any analysis of a model takes at most: the words of its table, the bytes of the longest file, the passes.
+// What any analysis of a model takes at most: the words of its table, the bytes of a file of it, the passes.
 #[no_mangle]
 pub extern "C" fn qii_quote(
     model: &[i32],

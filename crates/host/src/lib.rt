@@ -12,7 +12,7 @@ use plant::Count;
 
 mod calls;
 
-// How many bytes the longest model file and the longest table file of all models have.
+// How many bytes the longest model file has, and how many are room for every table file.
 pub const LONGEST_MODEL_FILE: usize = 29907;
 
 pub const LONGEST_TABLE_FILE: usize = 96775;

@@ -1,5 +1,5 @@
--- Quotes computed with the definitions: of plant P, of locations with and without cuts, of one and of three variables, of widths that
--- are 0; and refusals.
+-- Quotes computed with the definitions: of plant P, of locations with and without cuts, of one and of three variables, of a width
+-- of 0; and refusals.
 use mathlib.Core.Path.{_≡_, refl}
 use mathlib.Core.List.{List, [], _∷_}
 use Prim.Native.Nat.{ℕ}
@@ -10,7 +10,7 @@ use Rattle.plant.specs.Box.{low, high, boxBy, boxAt, ordered}
 use Rattle.plant.specs.Model.{locationAt, invariant, rate, startFlag, startBox, switchAt, source, target, wallVariable, sourceSide, targetSide, resetMask, masked, guard, reset, forbiddenAt, forbiddenLocation, forbiddenBox, cutAt, cutVariable, cutValue, cutFrom, cutOf, modelSize, wall}
 use Rattle.plant.specs.Questions.{boxOk, insideOk, zerosOk, startOk, locationQuestions, placesOk, boxesOk, singleAt, singleOk, sourceWall, targetWall, guardOk, levelAfter, landsOk, switchQuestions, forbiddenQuestion, strictlyInside, cutOk, cutQuestion, rangesQuestions, editionQuestion, recordsQuestions, modelQuestions}
 use Rattle.plant.specs.Pieces.{piecesPerFace, perFace, anyCut, pieces}
-use Rattle.plant.specs.Tables.{piecesBefore, pieceCount, tableSize, longestTableFile, width, allWidths, otherWidths, ceilingPerLocation, locationCeiling, ceilingOf}
+use Rattle.plant.specs.Tables.{piecesBefore, pieceCount, tableSize, longestTableFile, width, allWidths, otherWidths, uncutCeiling, locationCeiling, ceilingOf}
 use Rattle.plant.specs.Cases.{plantP, P}
 use Rattle.plant.proofs.CutCases.{plantC, uncutC, cutC, plantD, no-cut, cut-y}
 use Rattle.quote.specs.Quotes.{QuoteReply, quoteCall, quoted}
@@ -59,7 +59,7 @@ record Quotes : Type 0 where
   cut-at-the-wall : quoted (single 9 (pos 0 ∷ pos 9 ∷ [])) ≡ refusal 46
 
 quotes : Quotes
-unfolding cat allBelow anyBelow sumBelow _then_ first low high boxBy boxAt ordered locationAt invariant rate startFlag startBox switchAt source target wallVariable sourceSide targetSide resetMask masked guard reset forbiddenAt forbiddenLocation forbiddenBox cutAt cutVariable cutValue cutFrom cutOf modelSize wall boxOk insideOk zerosOk startOk locationQuestions placesOk boxesOk singleAt singleOk sourceWall targetWall guardOk levelAfter landsOk switchQuestions forbiddenQuestion strictlyInside cutOk cutQuestion rangesQuestions editionQuestion recordsQuestions modelQuestions piecesPerFace perFace anyCut pieces piecesBefore pieceCount tableSize longestTableFile width allWidths otherWidths ceilingPerLocation locationCeiling ceilingOf plantP P plantC uncutC cutC plantD quoteCall single triple
+unfolding cat allBelow anyBelow sumBelow _then_ first low high boxBy boxAt ordered locationAt invariant rate startFlag startBox switchAt source target wallVariable sourceSide targetSide resetMask masked guard reset forbiddenAt forbiddenLocation forbiddenBox cutAt cutVariable cutValue cutFrom cutOf modelSize wall boxOk insideOk zerosOk startOk locationQuestions placesOk boxesOk singleAt singleOk sourceWall targetWall guardOk levelAfter landsOk switchQuestions forbiddenQuestion strictlyInside cutOk cutQuestion rangesQuestions editionQuestion recordsQuestions modelQuestions piecesPerFace perFace anyCut pieces piecesBefore pieceCount tableSize longestTableFile width allWidths otherWidths uncutCeiling locationCeiling ceilingOf plantP P plantC uncutC cutC plantD quoteCall single triple
 quotes = record {
   P-quoted = refl;
   C-whole = refl;

@@ -19,7 +19,8 @@ use Rattle.plant.proofs.Tables.{long-enough, made-ok}
 use Rattle.plant.proofs.Keeps.{piecesAfter, pieces-ok, after-length, onto-begins}
 use Rattle.plant.proofs.ByLocation.{ceiling-by-pieces}
 use Rattle.plant.proofs.Search.{answer-code}
-use Rattle.plant.proofs.Demands.{first-demand, passes-within}
+use Rattle.plant.proofs.Demands.{model-yes, by-code, first-demand, passes-within}
+use Rattle.analysis.proofs.Calls.{model-asked, table-room, work-room}
 use Rattle.records.specs.Whole.{Whole}
 use Rattle.tables.proofs.Faces.{table-most}
 use Rattle.passes.proofs.PartWords.{whole}
@@ -33,18 +34,18 @@ use Rattle.quote.specs.Quotes.{QuoteReply, quoteReply, quoteBy, quoteCal
 
 module _ (m : List ℤ) where
   -- what a model that passes is quoted
-  within : modelQuestions m ≡ 0 → quoted m ≡ record { code = 100; words = tableSize m; bytes = longestTableFile m; ceiling = ceilingOf m }
+  quoted-is : modelQuestions m ≡ 0 → quoted m ≡ record { code = 100; words = tableSize m; bytes = longestTableFile m; ceiling = ceilingOf m }
   unfolding quoteCall
-  within asks = ap (λ (q : ℕ). quoteReply (quoteBy m q)) asks
+  quoted-is asks = ap (λ (q : ℕ). quoteReply (quoteBy m q)) asks
 
   pub words-are : modelQuestions m ≡ 0 → quoted m .words ≡ tableSize m
-  words-are asks = ap (λ (r : QuoteReply). r .words) (within asks)
+  words-are asks = ap (λ (r : QuoteReply). r .words) (quoted-is asks)
 
   pub bytes-are : modelQuestions m ≡ 0 → quoted m .bytes ≡ longestTableFile m
-  bytes-are asks = ap (λ (r : QuoteReply). r .bytes) (within asks)
+  bytes-are asks = ap (λ (r : QuoteReply). r .bytes) (quoted-is asks)
 
   pub ceiling-is : modelQuestions m ≡ 0 → quoted m .ceiling ≡ ceilingOf m
-  ceiling-is asks = ap (λ (r : QuoteReply). r .ceiling) (within asks)
+  ceiling-is asks = ap (λ (r : QuoteReply). r .ceiling) (quoted-is asks)
 
   largest : (q : ℕ) → modelQuestions m ≡ q → let r = quoteReply (quoteBy m q) in (r .words ≤ 19968) × (r .bytes ≤ 96775) × (r .ceiling ≤ 12800001408)
   largest zero e = let w : Whole m = whole m e in (table-most m (w .head), longest-most m w, ceiling-most m (passed m e))
@@ -62,12 +63,8 @@ module _ (m : List ℤ) where
     abbrev asked : ℕ
     asked = analysisQuestions m table work
 
-    model-asked : asked ≡ 0 → modelQuestions m ≡ 0
-    unfolding analysisQuestions
-    model-asked e = then-both (modelQuestions m) _ e .0
-
     passes-by : (q : ℕ) → asked ≡ q → replyOf (analyseBy q m limit table work) .value ≤ quoted m .ceiling
-    passes-by zero e = omega (arith, passes-within m (model-asked e) limit, ceiling-is (model-asked e))
+    passes-by zero e = omega (arith, passes-within m (model-asked m table work e) limit, ceiling-is (model-asked m table work e))
     passes-by (suc q) e = omega arith
 
     passes : replyOf (analyseCall m limit table work) .value ≤ quoted m .ceiling
@@ -76,7 +73,7 @@ module _ (m : List ℤ) where
 
     charge-by : (d : Desk) (q : ℕ) → deskQuestions d m limit table work ≡ q → deskBy q d m limit table work .desk .passes ≤ d .passes + quoted m .ceiling
     unfolding deskQuestions
-    charge-by d zero e = let asks : modelQuestions m ≡ 0 = model-asked (then-both asked _ e .0) in omega (arith, passes-within m asks limit, ceiling-is asks)
+    charge-by d zero e = let asks : modelQuestions m ≡ 0 = model-asked m table work (then-both asked _ e .0) in omega (arith, passes-within m asks limit, ceiling-is asks)
     charge-by d (suc q) e = omega arith
 
     charge : (d : Desk) → deskCall d m limit table work .desk .passes ≤ d .passes + quoted m .ceiling
@@ -85,15 +82,11 @@ module _ (m : List ℤ) where
 
     -- an answered call
     module _ (h : 100 ≤ answers m limit table work) where
-      all-yes : asked ≡ 0
-      all-yes = first-demand m .only-passing limit table work h
-
       asks : modelQuestions m ≡ 0
-      asks = model-asked all-yes
+      asks = model-yes m limit table work h
 
       is-answered : analyseCall m limit table work ≡ answered m (analysis m limit) table work
-      unfolding analyseCall
-      is-answered = ap (λ (q : ℕ). analyseBy q m limit table work) all-yes
+      is-answered = by-code m limit table work h
 
       answer-words : length (answerTable m (analyseCall m limit table work .answer)) ≡ quoted m .words
       unfolding answerTable
@@ -115,19 +108,12 @@ module _ (m : List ℤ) where
     unfolding answerTable onto
     behind-by zero e =
         let k : ℕ = passesOf (analysis m limit) in
-        rw (words-are (model-asked e) ∙ sym (after-length m k)) (drop-at (tableAfter m k) (drop (length (tableAfter m k)) table) (length (tableAfter m k)) refl)
+        rw (words-are (model-asked m table work e) ∙ sym (after-length m k)) (drop-at (tableAfter m k) (drop (length (tableAfter m k)) table) (length (tableAfter m k)) refl)
     behind-by (suc q) e = refl
 
     behind : drop (quoted m .words) (analyseCall m limit table work .table) ≡ drop (quoted m .words) table
     unfolding analyseCall
     behind = behind-by asked refl
-
-    -- answered: both buffers have the words
-    rooms : asked ≡ 0 → (tableSize m ≤ length table) × (tableSize m ≤ length work)
-    unfolding analysisQuestions
-    rooms e =
-        let a : (ask (leb (tableSize m) (length table)) 20 ≡ 0) × (ask (leb (tableSize m) (length work)) 21 ≡ 0) = then-both _ _ (then-both (modelQuestions m) _ e .1) in
-        (leb→le (tableSize m) (length table) (ask-yes (leb (tableSize m) (length table)) 20 (omega arith) (a .0)), leb→le (tableSize m) (length work) (ask-yes (leb (tableSize m) (length work)) 21 (omega arith) (a .1)))
 
     enough : modelQuestions m ≡ 0 → quoted m .words ≤ length table → quoted m .words ≤ length work → 100 ≤ answers m limit table work
     enough asks a b =
@@ -151,7 +137,7 @@ quote-kept m = record {
   refused-by = λ q e. ap (λ (q : ℕ). quoteReply (quoteBy m q)) e;
   none-exceeds = none-exceeds m;
   exact-words = λ asks limit table work. (
-    λ h. let r = rooms m limit table work (first-demand m .only-passing limit table work h) in (omega (arith, words-are m asks, r .0), omega (arith, words-are m asks, r .1)),
+    λ h. let e = first-demand m .only-passing limit table work h in (omega (arith, words-are m asks, table-room m table work e), omega (arith, words-are m asks, work-room m table work e)),
     λ r. enough m limit table work asks (r .0) (r .1),
   );
   exact-bytes = λ asks room. (

@@ -10,7 +10,7 @@ use Rattle.integers.specs.Counted.{sumBelow}
 use Rattle.integers.proofs.Counted.{sum-le, sum-same, sum-but}
 use Rattle.delays.specs.Ranges.{Levels}
 use Rattle.plant.specs.Model.{n#, L#, invariant, Cut, uncut, cutBy, cutOf}
-use Rattle.plant.specs.Tables.{width, allWidths, otherWidths, ceilingPerLocation, locationCeiling, ceilingOf}
+use Rattle.plant.specs.Tables.{width, allWidths, otherWidths, uncutCeiling, locationCeiling, ceilingOf}
 use Rattle.plant.proofs.Passed.{Passed, CutInside}
 use Rattle.passes.proofs.PartWords.{invariant-in}
 use Rattle.checks.proofs.Widths.{width-small, widths-small}
@@ -27,8 +27,8 @@ module _ (n : ℕ) (inv : List ℤ) (levels : Levels n inv) where
       each true h = omega arith
       each false h = h
 
-per-location : (n w k : ℕ) → n ≤ k → w ≤ k * 2000000 → k ≤ 6 → ceilingPerLocation n w ≤ 2 * k + 2 * (k - 1) * (k * 2000000)
-unfolding ceilingPerLocation
+per-location : (n w k : ℕ) → n ≤ k → w ≤ k * 2000000 → k ≤ 6 → uncutCeiling n w ≤ 2 * k + 2 * (k - 1) * (k * 2000000)
+unfolding uncutCeiling
 per-location n w k u v h =
     let few : 2 * (n - 1) ≤ 2 * (k - 1) = omega arith in
     omega (arith, mul-le-mul few v)

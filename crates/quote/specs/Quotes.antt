@@ -62,7 +62,8 @@ pub record QuoteDemand (m : List ℤ) : Type 0 where
   pub refused-by : (q : ℕ) → modelQuestions m ≡ suc q → quoted m ≡ record { code = suc q; words = 0; bytes = 0; ceiling = 0 }
   -- under every limit, with all buffers
   pub none-exceeds : (limit : ℕ) (table work : List ℤ) → NoneExceeds m limit table work
-  -- nothing is quoted too high. The words are those that 20 and 21 ask for: an analysis is answered exactly if both buffers have as many
+  -- no more is quoted than is asked for. The words are those of 20 and 21: an analysis is answered exactly if both buffers have as
+  -- many
   pub exact-words :
       modelQuestions m ≡ 0 → (limit : ℕ) (table work : List ℤ)
       → (100 ≤ answers m limit table work) ↔ ((quoted m .words ≤ length table) × (quoted m .words ≤ length work))
@@ -72,5 +73,5 @@ pub record QuoteDemand (m : List ℤ) : Type 0 where
   -- the ceiling is what the ceiling's call gives, the sum over faces and pieces
   pub same-ceiling : quoted m .ceiling ≡ ceiling m
   pub by-pieces : modelQuestions m ≡ 0 → quoted m .ceiling ≡ ceilingByPieces m
-  -- the largest of all models
+  -- no model's are larger than these
   pub largest : (quoted m .words ≤ 19968) × (quoted m .bytes ≤ 96775) × (quoted m .ceiling ≤ 12800001408)

@@ -4,7 +4,7 @@ ghost use Rattle.quote.specs.Quotes.{quoteCall};
 use plant::Figures;
 use plant::Quote;
 
-// The table's words, the bytes of its longest file and the ceiling, or the number of the model's question that is not yes.
+// The table's words, the number of bytes in 39 and the ceiling, or the number of the model's question that is not yes.
 pub fn quote(model: &[i32]) -> Quote
     ensures { λ r. ⌜ r ≡ quoteCall (now (model .entry)) ⌝ }
 {

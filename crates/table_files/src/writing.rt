@@ -21,7 +21,7 @@ ghost use Rattle.records.specs.Whole.{Whole};
 ghost use Rattle.table_files.specs.TableFile.{piecesFrom, placeWords, pieceField, locationFields, presentPieces, pieceFields, tableFile, writeQuestions, writeTableCall};
 ghost use Rattle.table_files.specs.TableRoom.{WriteReady, IsPiece, PieceRoom, LocationRoom};
 
-// The longest table file of the model: of all its pieces. For the quote, too.
+// The number that 39 asks for: the file of all the model's pieces, which none exceeds. For the quote, too.
 pub fn longest_file(model: &[i32]) -> usize
     requires { ⌜ Whole (now model) ⌝ }
     ensures { λ r. ⌜ r ≡ longestTableFile (now (model .entry)) ⌝ }
@@ -30,7 +30,7 @@ pub fn longest_file(model: &[i32]) -> usize
     wire::field_place(pieces_from(), size, tables::piece_count(model))
 }
 
-// Byte buffer long enough for the model's longest table file? 39. For decide, too, once the model's questions are yes.
+// Byte buffer of that length? 39. For decide, too, once the model's questions are yes.
 pub fn bytes_question(model: &[i32], room: usize) -> u32
     requires { ⌜ Whole (now model) ⌝ }
     ensures { λ r. ⌜ r ≡ bytesQuestion (now (model .entry)) room ⌝ }

@@ -106,7 +106,7 @@ fn taken_whole() -> Vec<(&'static str, Draft, u32, u64, bool)> {
     ]
 }
 
-/// All of them.
+/// All plants that are quoted, of whatever size.
 pub fn quotes() -> Vec<Quoted> {
     [quotes_of_two_variables(), quotes_of_other_sizes(), largest_quotes()].concat()
 }

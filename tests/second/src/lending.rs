@@ -262,8 +262,8 @@ impl Comparison {
         if self.trace {
             eprintln!("{}, {label}: {}", call.name(), input_text(call, input, lengths, desk));
         }
-        let placed = Input { model, table, file, limit: input.limit };
-        let their_number = (self.tested.answer)(call, &placed, &mut theirs.lent(margin));
+        let lent_input = Input { model, table, file, limit: input.limit };
+        let their_number = (self.tested.answer)(call, &lent_input, &mut theirs.lent(margin));
         let stands = (model, table, file) == (input.model, input.table, input.file);
         if let Some(problem) = problem([our_number, their_number], [&ours, &theirs], stands) {
             let text = input_text(call, input, lengths, desk);

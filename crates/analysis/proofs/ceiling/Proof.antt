@@ -1,4 +1,4 @@
--- Refused by the model's number, or the sum over the pieces.
+-- Refused by the model's number, or the ceiling.
 use mathlib.Core.Path.{sym, _∙_}
 use borrow.Author.Needs.{needs}
 use Rattle.analysis.proofs.Calls.{ceiling-refused, ceiling-passes}

@@ -205,7 +205,8 @@ fn one_model(random: &mut Random, counts: &mut Counts) {
         index += 1;
     };
     assert_eq!((answer, k), (found, index));
-    assert_eq!(table, plain::to_words(&plant, &faces));
+    let literal = plain::to_words(&plant, &faces);
+    assert_eq!(table, literal);
 
     // Checker, host calls.
     let accepted = calls::checker(&words, &after.table);
@@ -229,7 +230,7 @@ fn one_model(random: &mut Random, counts: &mut Counts) {
     assert_eq!(bytes[..written.len()], written);
     assert_eq!(bytes[written.len()..], before[written.len()..]);
     read_table(random, counts, &words, &written, size + spare);
-    quoted(counts, &plant, &Taken { passes: k as u64, words: size as u64, bytes: written.len() as u64 });
+    quoted(counts, &plant, &Taken { passes: k as u64, words: literal.len() as u64, bytes: written.len() as u64 });
 
     // Other tables.
     let mut rest = vec![0; size];
@@ -420,9 +421,9 @@ fn a_short_self_test() {
     assert!(counts.answers.len() == 3);
 }
 
-fn print_quoted([whole, cut]: [u64; 2]) {
+fn print_quoted(models: u64, [whole, cut]: [u64; 2]) {
     println!("shares of the ceiling held to widths: {whole} locations without a cut, {cut} with one");
-    assert!(whole > 0 && cut > 0, "no location without a cut, or none with one");
+    assert!(models < 1_000 || (whole > 0 && cut > 0), "no location without a cut, or none with one");
 }
 
 fn main() {
@@ -445,7 +446,7 @@ fn main() {
         counts.passes, counts.most_passes, counts.literal_passes
     );
     println!("answers by k (0, 1, 2, 3-5, 6-10, 11-100, more): {:?}", counts.by_passes);
-    print_quoted(counts.by_widths);
+    print_quoted(models, counts.by_widths);
     let runs = &counts.travelled;
     println!(
         "runs {}, configurations {}, delays {}, switches {} ({} to a level strictly inside a reset range, {} to a \

@@ -10,7 +10,7 @@ use Rattle.integers.specs.Words.{eqZ}
 use Rattle.integers.proofs.Signed.{got32}
 use Rattle.delays.specs.Ranges.{Levels}
 use Rattle.plant.specs.Model.{n#, invariant, cutVariable}
-use Rattle.plant.specs.Tables.{width, allWidths, otherWidths, ceilingPerLocation}
+use Rattle.plant.specs.Tables.{width, allWidths, otherWidths, uncutCeiling}
 use Rattle.plant.proofs.Passed.{Passed, passed, IsCut}
 use Rattle.passes.proofs.PartWords.{whole, invariant-in}
 use Rattle.checks.proofs.Extents.{cut-words}
@@ -71,8 +71,8 @@ module _ (c : tie.After-all-widths) where
       let r = c .before in
       omega (arith, widths-is, widths-small (invariant (model r) (l r)) (n# (model r)) (invariant-in (model r) (model-ok r) (l r) (start r .pre .1)), model-ok r .n-small)
 
-ceiling-per-location-requires : tie.Need-ceiling-per-location-requires
-ceiling-per-location-requires c κs = (omega (arith, n-is (c .before), model-ok (c .before) .n-small), small c)
+uncut-ceiling-requires : tie.Need-uncut-ceiling-requires
+uncut-ceiling-requires c κs = (omega (arith, n-is (c .before), model-ok (c .before) .n-small), small c)
 
 same-requires : tie.Need-same-requires
 same-requires c κs = search needs
@@ -90,7 +90,7 @@ returns : tie.Need-returns
 returns c =
     let p = c .before .before in
     let r = p .before .before in
-    (p .ceiling-per-location .ensures .0 ∙ ap₂ ceilingPerLocation (n-is r) (widths-is (p .before)) ∙ adds-uncut (model r) (l r) (sym (flag (c .before)) ∙ c .if1 .taken), omega (arith, p .ceiling-per-location .ensures .1))
+    (p .uncut-ceiling .ensures .0 ∙ ap₂ uncutCeiling (n-is r) (widths-is (p .before)) ∙ adds-uncut (model r) (l r) (sym (flag (c .before)) ∙ c .if1 .taken), omega (arith, p .uncut-ceiling .ensures .1))
 
 -- ---- a cut location
 
@@ -126,11 +126,11 @@ together c =
 sub-others : tie.Need-sub-others
 sub-others c = omega (arith, together c)
 
-sub-ceiling-per-location : tie.Need-sub-ceiling-per-location
-sub-ceiling-per-location c = let r = located (c .before) in omega (arith, n-is r, model-ok r .n-positive)
+sub-uncut-ceiling : tie.Need-sub-uncut-ceiling
+sub-uncut-ceiling c = let r = located (c .before) in omega (arith, n-is r, model-ok r .n-positive)
 
-ceiling-per-location-requires-2 : tie.Need-ceiling-per-location-requires-2
-ceiling-per-location-requires-2 c κs = let r = located (c .before) in (omega (arith, n-is r, model-ok r .n-small), omega (arith, small (c .before .before .before .before .before)))
+uncut-ceiling-requires-2 : tie.Need-uncut-ceiling-requires-2
+uncut-ceiling-requires-2 c κs = let r = located (c .before) in (omega (arith, n-is r, model-ok r .n-small), omega (arith, small (c .before .before .before .before .before)))
 
 add-result : tie.Need-add-result
 add-result c = search needs
@@ -141,9 +141,9 @@ returns-2 c =
     let r = located (w .before) in
     let p = w .before .before .before .before in
     let rest : w .before .before .before .before .before .all-widths .result - w .width .result ≡ otherWidths (n# (model r)) (natAbs (cutVariable (model r) (l r))) (invariant (model r) (l r)) = omega (arith, together w) in (
-      ap₂ _+_ (p .ceiling-per-location .ensures .0 ∙ ap₂ ceilingPerLocation (n-is r) (widths-is (p .before))) (c .ceiling-per-location2 .ensures .0 ∙ ap₂ ceilingPerLocation (ap (λ (k : ℕ). k - 1) (n-is r)) rest)
+      ap₂ _+_ (p .uncut-ceiling .ensures .0 ∙ ap₂ uncutCeiling (n-is r) (widths-is (p .before))) (c .uncut-ceiling2 .ensures .0 ∙ ap₂ uncutCeiling (ap (λ (k : ℕ). k - 1) (n-is r)) rest)
           ∙ adds-cut (model r) (l r) (sym (flag (w .before .before .before)) ∙ w .before .before .if1 .left),
-      omega (arith, p .ceiling-per-location .ensures .1, c .ceiling-per-location2 .ensures .1),
+      omega (arith, p .uncut-ceiling .ensures .1, c .uncut-ceiling2 .ensures .1),
     )
 
 pub location-ceiling-spec : {M : Type 1} → statement M
@@ -154,13 +154,13 @@ location-ceiling-spec =
     invariant-requires
     cut-variable-requires
     all-widths-requires
-    ceiling-per-location-requires
+    uncut-ceiling-requires
     same-requires
     returns
     natural-requires
     width-requires
     sub-others
-    sub-ceiling-per-location
-    ceiling-per-location-requires-2
+    sub-uncut-ceiling
+    uncut-ceiling-requires-2
     add-result
     returns-2)

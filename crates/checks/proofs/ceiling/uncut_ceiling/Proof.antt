@@ -3,18 +3,18 @@ use mathlib.Core.Path.{_≡_, ap}
 use Prim.Native.Nat.{ℕ, _+_, _*_, _-_, _≤_}
 use native.Mathlib.Nat.{mul-le-mul}
 use native.Mathlib.Omega.{arith}
-use Rattle.plant.specs.Tables.{ceilingPerLocation}
+use Rattle.plant.specs.Tables.{uncutCeiling}
 use borrow.Author.Needs.{needs}
-use Rattle.checks.proofs.ceiling.ceiling_per_location.Statement.{statement}
-use Rattle.checks.proofs.ceiling.ceiling_per_location.Tie as tie
+use Rattle.checks.proofs.ceiling.uncut_ceiling.Statement.{statement}
+use Rattle.checks.proofs.ceiling.uncut_ceiling.Tie as tie
 
 module _ (n w : ℕ) where
-  none : n ≡ 0 → 0 ≡ ceilingPerLocation n w
-  unfolding ceilingPerLocation
+  none : n ≡ 0 → 0 ≡ uncutCeiling n w
+  unfolding uncutCeiling
   none e = rw e (omega arith)
 
-  by-walls : 2 * n + (2 * n - 2) * w ≡ ceilingPerLocation n w
-  unfolding ceilingPerLocation
+  by-walls : 2 * n + (2 * n - 2) * w ≡ uncutCeiling n w
+  unfolding uncutCeiling
   by-walls = let e : 2 * n - 2 ≡ 2 * (n - 1) = omega arith in ap (λ (k : ℕ). 2 * n + k * w) e
 
   small : n ≤ 6 → w ≤ 12000000 → (2 * n - 2) * w ≤ 10 * 12000000
@@ -41,6 +41,6 @@ add-result c = record { fits = omega (arith, most c, c .before .pre .0) }
 returns-2 : tie.Need-returns-2
 returns-2 c = (by-walls _ _, omega (arith, most c, c .before .pre .0))
 
-pub ceiling-per-location-spec : {M : Type 1} → statement M
-ceiling-per-location-spec =
+pub uncut-ceiling-spec : {M : Type 1} → statement M
+uncut-ceiling-spec =
     tie.close (tie.spec returns mul-walls sub-result mul-result add-result returns-2)
