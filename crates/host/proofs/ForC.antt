@@ -5,8 +5,7 @@ use Prim.Native.Nat.{ℕ}
 use lib.IntN.{ℤ}
 use Rattle.plant.specs.declared.Answer.{Answer}
 use Rattle.plant.specs.declared.Count.{Count}
-use Rattle.plant.specs.Calls.{Reply, answerReply, Analysed, countReply, ReadOutcome}
-use Rattle.table_files.specs.TableFile.{WriteOutcome}
+use Rattle.plant.specs.Calls.{Reply, answerReply, Analysed, countReply, ReadOutcome, WriteOutcome}
 use Rattle.desk.specs.declared.Desk.{Desk}
 use Rattle.desk.specs.Desks.{freshDesk, Holds, Served, Call, deskAfter, replies, answersOf, passesOf, DeskCounts}
 use Rattle.desk.proofs.Counts.{desk-counts}

@@ -6,12 +6,11 @@ use mathlib.Core.Path.{_≡_}
 use mathlib.Core.List.{List, [], _∷_}
 use Prim.Native.Nat.{ℕ}
 use lib.IntN.{ℤ}
-use Rattle.plant.specs.Calls.{Reply, Analysed, replyOf, ReadOutcome, readReply}
-use Rattle.table_files.specs.TableFile.{WriteOutcome, writeReply}
+use Rattle.plant.specs.Calls.{Reply, Analysed, replyOf, ReadOutcome, readReply, WriteOutcome, writeReply}
 use Rattle.desk.specs.declared.Desk.{Desk}
 use Rattle.desk.specs.Desks.{freshDesk, Holds, Served, Call, serve, answersOf, passesOf}
 
--- ---- reading a model, reading a table file
+-- ---- reading a model file, reading a table file
 
 -- the reply, and the lent word buffer
 pub record ReadForC : Type 0 where
@@ -32,7 +31,7 @@ pub record AnalysedForC : Type 0 where
 abbrev pub analysedForC : Analysed → AnalysedForC
 analysedForC a = record { reply = replyOf a; table = a .table; work = a .work }
 
--- ---- writing a table file
+-- ---- writing a model's file, writing a table's file
 
 -- the reply, and the lent byte buffer
 pub record WrittenForC : Type 0 where

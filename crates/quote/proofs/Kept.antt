@@ -10,7 +10,7 @@ use lib.Seq.{drop-at}
 use Rattle.integers.specs.Words.{onto}
 use Rattle.plant.specs.Questions.{modelQuestions}
 use Rattle.plant.specs.Tables.{tableSize, longestTableFile, tableOk, tableAfter, ceilingOf}
-use Rattle.plant.specs.Calls.{Analysed, replyOf, ceilingReply, ceilingBy, ceilingCall, passesOf, answerTable, analysis, analysisQuestions, answered, analyseBy, analyseCall}
+use Rattle.plant.specs.Calls.{Analysed, replyOf, ceilingReply, ceilingBy, ceilingCall, passesOf, answerTable, analysis, analysisQuestions, answered, analyseBy, analyseCall, writeReply}
 use Rattle.plant.specs.Demands.{ceiling, answers, Room}
 use Rattle.plant.specs.Ask.{ask}
 use Rattle.plant.proofs.Asks.{ask-intro, ask-yes, then-both}
@@ -24,7 +24,7 @@ use Rattle.analysis.proofs.Calls.{model-asked, table-room, work-room}
 use Rattle.records.specs.Whole.{Whole}
 use Rattle.tables.proofs.Faces.{table-most}
 use Rattle.passes.proofs.PartWords.{whole}
-use Rattle.table_files.specs.TableFile.{tableFile, writeReply, writeTableCall}
+use Rattle.table_files.specs.TableFile.{tableFile, writeTableCall}
 use Rattle.table_files.proofs.TableWriting.{longest-most, file-most}
 use Rattle.table_files.proofs.TableBack.{table-back}
 use Rattle.desk.specs.declared.Desk.{Desk}

@@ -9,9 +9,9 @@ use Rattle.plant.specs.declared.Quote.{Quote}
 use Rattle.plant.specs.declared.Quote.the-variants.{AtMost, Refused}
 use Rattle.plant.specs.Questions.{modelQuestions}
 use Rattle.plant.specs.Tables.{tableSize, longestTableFile, ceilingOf, ceilingByPieces}
-use Rattle.plant.specs.Calls.{bytesQuestion, replyOf, answerTable, analyseCall}
+use Rattle.plant.specs.Calls.{replyOf, answerTable, analyseCall, writeReply, bytesQuestion}
 use Rattle.plant.specs.Demands.{ceiling, answers}
-use Rattle.table_files.specs.TableFile.{tableFile, writeReply, writeTableCall}
+use Rattle.table_files.specs.TableFile.{tableFile, writeTableCall}
 use Rattle.desk.specs.declared.Desk.{Desk}
 use Rattle.desk.specs.Desks.{deskCall}
 

@@ -36,11 +36,12 @@ use Rattle.plant.proofs.Boxes.{length-boxBy, length-boxAt, box-ends}
 use Rattle.plant.proofs.Passed.{InRange, Passed, passed}
 use Rattle.plant.proofs.Pieces.{per-face-most, face-below, index-below}
 use Rattle.plant.proofs.Tables.{ends, words-ends, piece-counted, count-most, table-length, table-ext, begins-itself, piece-read, OkFace, ok-valid, made-ok}
-use Rattle.plant.specs.Calls.{ReadOutcome, readReply, wordsRead, zeroed}
+use Rattle.plant.specs.Calls.{ReadOutcome, readReply, wordsRead, zeroed, WriteOutcome, writeReply, bytesWritten, writeBy}
 use Rattle.passes.proofs.Reading.{old-words}
 use Rattle.plant.proofs.Reading.{past, done}
-use Rattle.table_files.specs.TableFile.{placeSize, pieceFieldSize, placeWords, tableFile, fileLength, pieceFieldAt, countWord, countQuestion, wordsOfField, pieceFieldWords, pieceWord, pieceNamed, pieceKey, leastKey, placeOk, pieceQuestion, pieceQuestions, fileFace, count#, fileTable, fieldsQuestions, tableFileQuestions, roomQuestions, readFaces, readTableCall, writeQuestions, WriteOutcome, writeReply, writeBy, writeTableCall}
-use Rattle.table_files.specs.TableBack.{bytesWritten, TableBack}
+use Rattle.plant.proofs.Writing.{not-refused}
+use Rattle.table_files.specs.TableFile.{placeSize, pieceFieldSize, placeWords, tableFile, fileLength, pieceFieldAt, countWord, countQuestion, wordsOfField, pieceFieldWords, pieceWord, pieceNamed, pieceKey, leastKey, placeOk, pieceQuestion, pieceQuestions, fileFace, count#, fileTable, fieldsQuestions, tableFileQuestions, roomQuestions, readFaces, readTableCall, writeQuestions, writeTableCall}
+use Rattle.table_files.specs.TableBack.{TableBack}
 use Rattle.table_files.proofs.Keys.{Among, Ascending, Listing, listing, no-longer}
 use Rattle.table_files.proofs.PieceKeys.{locationOf, pieceIn, key-location, key-piece, key-below, key-again, atKey, at-key, table-again}
 use Rattle.table_files.proofs.PlaceWords.{place-most, length-place, place-location, place-face, place-piece, place-named, place-box, place-and-box}
@@ -419,13 +420,9 @@ module _ (m : List ℤ) where
 
   writes : (t : List ℤ) (bytes : List ℕ) → AsksWrite t (length bytes) → writeTableCall m t bytes ≡ isWritten t bytes
   unfolding writeTableCall writeQuestions
-  writes t bytes y = ap (λ (q : ℕ). writeBy q m t bytes)
+  writes t bytes y = ap (λ (q : ℕ). writeBy q (tableFile m t) bytes)
       (then-intro (y .0)
       (then-intro (ask-intro (tableOk m t) 32 (y .1)) (ask-intro (leb (longestTableFile m) (length bytes)) 39 (le→leb (longestTableFile m) (length bytes) (y .2)))))
-
-  not-refused : (t : List ℤ) (bytes : List ℕ) (q : ℕ) → q ≤ 46 → writeReply (writeBy q m t bytes) .code ≡ 100 → q ≡ 0
-  not-refused t bytes zero l e = refl
-  not-refused t bytes (suc q) l e = absurd (omega arith)
 
   write-yes : (t : List ℤ) (bytes : List ℕ) → writeReply (writeTableCall m t bytes) .code ≡ 100 → AsksWrite t (length bytes)
   unfolding writeTableCall writeQuestions
@@ -433,7 +430,7 @@ module _ (m : List ℤ) where
       let few : writeQuestions m t (length bytes) ≤ 46 =
       then-le (roomQuestions m (length t)) _ 46 (room-le (length t))
       (then-le (ask (tableOk m t) 32) _ 46 (omega (arith, ask-le (tableOk m t) 32)) (omega (arith, ask-le (leb (longestTableFile m) (length bytes)) 39))) in
-      let a : (roomQuestions m (length t) ≡ 0) × _ = then-both (roomQuestions m (length t)) _ (not-refused t bytes (writeQuestions m t (length bytes)) few code) in
+      let a : (roomQuestions m (length t) ≡ 0) × _ = then-both (roomQuestions m (length t)) _ (not-refused (tableFile m t) bytes (writeQuestions m t (length bytes)) (omega (arith, few)) code) in
       let b : T (tableOk m t) × _ = asked (tableOk m t) 32 _ (omega arith) (a .1) in
       (a .0, b .0, leb→le (longestTableFile m) (length bytes) (ask-yes (leb (longestTableFile m) (length bytes)) 39 (omega arith) (b .1)))
 

@@ -11,14 +11,13 @@ use native.Mathlib.Omega.{arith}
 use lib.Dec.{leb, leb→le}
 use lib.IntN.{ℤ, pos}
 use lib.ListN.{length, take, length-append}
-use lib.Seq.{length-take-le}
 use Rattle.integers.specs.Words.{word, eqZ, onto}
 use Rattle.integers.specs.Counted.{cat, sumBelow}
 use Rattle.integers.proofs.Counted.{split, sum-ext, sum-part}
-use Rattle.integers.proofs.Buffers.{onto-start, cat-none, cat-more, cat-turn, length-onto}
+use Rattle.integers.proofs.Buffers.{onto-start}
 use Rattle.wire.specs.Bytes.{wordSize, wordBytes, wordsBytes, part}
 use Rattle.wire.specs.Fields.{headerSize, payloadLength, fieldLength, fieldPlace, header, field}
-use Rattle.wire.proofs.Buffers.{onto-then}
+use Rattle.wire.proofs.Buffers.{onto-then, Written, length-written}
 use Rattle.wire.proofs.Words.{length-word, length-bytes, length-part, bytes-append}
 use Rattle.wire.proofs.Fields.{length-field, place-small}
 use Rattle.plant.specs.Ask.{ask}
@@ -27,7 +26,6 @@ use Rattle.plant.specs.Model.{n#, L#}
 use Rattle.plant.specs.Questions.{modelQuestions}
 use Rattle.plant.specs.Pieces.{anyCut, perFace, pieces, pieceFace, pieceIndex}
 use Rattle.plant.specs.Tables.{faceSize, piecesBefore, pieceCount, tableSize, pieceAt, longestTableFile, faceRead, pieceOf, tableOk}
-use Rattle.plant.specs.declared.Count.the-variants.{Done, Refused}
 use Rattle.plant.proofs.Asks.{ask-yes, then-both}
 use Rattle.plant.proofs.Boxes.{length-boxBy, length-boxAt, box-ends}
 use Rattle.plant.proofs.Tables.{count-most}
@@ -35,7 +33,7 @@ use Rattle.records.specs.Whole.{Whole}
 use Rattle.records.proofs.Positions.{row-within}
 use Rattle.passes.proofs.PartWords.{whole, place-is}
 use Rattle.tables.proofs.Faces.{table-most}
-use Rattle.table_files.specs.TableFile.{countFieldSize, placeSize, pieceFieldSize, placeWords, pieceField, presence, presentPieces, locationFields, pieceFields, tableFile, piecesFrom, roomQuestions, writeQuestions, writeBy, writeTableCall}
+use Rattle.table_files.specs.TableFile.{countFieldSize, placeSize, pieceFieldSize, placeWords, pieceField, presence, presentPieces, locationFields, pieceFields, tableFile, piecesFrom, roomQuestions, writeQuestions}
 use Rattle.table_files.specs.TableRoom.{WriteReady, PieceRoom, LocationRoom}
 use Rattle.table_files.proofs.PieceKeys.{key-at, atKey}
 use Rattle.table_files.proofs.PlaceWords.{place-most, longest-is, length-place}
@@ -254,28 +252,6 @@ module _ (m t : List ℤ) {at : ℕ} (l q : ℕ) (at-is : at ≡ pieceAt m l q) 
 
 -- ---- the loops that write them
 
--- the file x after k of some lists of bytes, put behind a place and up to a position, was d
-pub record Written (g : ℕ → List ℕ) (d : List ℕ) (from k to : ℕ) (x : List ℕ) : Type 0 where
-  pub to-is : to ≡ from + length (cat k g)
-  pub file-is : x ≡ onto (take from d ++ cat k g) d
-
-module _ (g : ℕ → List ℕ) (d : List ℕ) (from : ℕ) (room : from ≤ length d) where
-  pub written-none : {to : ℕ} → to ≡ from → Written g d from 0 to d
-  written-none e = record {
-    to-is = rw (cat-none g) (omega arith);
-    file-is = onto-start from d room ∙ ap (λ (s : List ℕ). onto (take from d ++ s) d) (sym (cat-none g));
-  }
-
-  pub written-more : {k to next : ℕ} {x y : List ℕ} → Written g d from k to x → y ≡ onto (take to x ++ g k) x → next ≡ to + length (g k) → Written g d from (k + 1) next y
-  written-more {k} {to} {next} {x} {y} w ey en = record {
-    to-is = rw (cat-more k g) (omega (arith, en, w .to-is, length-append (cat k g) (g k)));
-    file-is = ey ∙ cat-turn g from k to d x (w .file-is) room (sym (w .to-is));
-  }
-
-  pub length-written : {k to : ℕ} {x : List ℕ} → Written g d from k to x → to ≤ length d → length x ≡ length d
-  length-written {k} {to} {x} w h = rw (w .file-is) (length-onto (take from d ++ cat k g) d
-      (omega (arith, length-append (take from d) (cat k g), length-take-le from d room, w .to-is)))
-
 -- the fields of a location
 abbrev pub fieldsOf : (m t : List ℤ) (l q : ℕ) → List ℕ
 fieldsOf m t l q = pieceField m l q (pieceOf m t l q)
@@ -363,7 +339,7 @@ pub file-length : (m t : List ℤ) → 7 + length (pieceFields m t) ≡ length (
 unfolding tableFile
 file-length m t = omega (arith, length-append (field 6 (wordBytes (pos (presentPieces m t)))) (pieceFields m t), length-field 6 (wordBytes (pos (presentPieces m t))), length-word (pos (presentPieces m t)))
 
--- no table's file is longer than the model's longest
+-- no table's file is longer than the number that 39 asks for
 pub file-most : (m t : List ℤ) → length (tableFile m t) ≤ longestTableFile m
 unfolding pieceFields pieceCount
 file-most m t = omega (arith, file-length m t, locations-le m t (L# m), longest-is m)
@@ -377,17 +353,3 @@ write-yes m t d e =
     let b : _ × (ask (leb (longestTableFile m) (length d)) 39 ≡ 0) = then-both (ask (tableOk m t) 32) (ask (leb (longestTableFile m) (length d)) 39) (a .1) in
     let r : (modelQuestions m ≡ 0) × (tableSize m ≤ length t) = room-yes m (length t) (a .0) in
     record { whole = whole m (r .0); room = r .1; bytes = leb→le (longestTableFile m) (length d) (ask-yes (leb (longestTableFile m) (length d)) 39 (omega arith) (b .1)) }
-
-module _ (m t : List ℤ) (d : List ℕ) where
-  refused-by : (q : ℕ) → (q ≡ 0 → ⊥) → record { count = Refused q; file = d } ≡ writeBy q m t d
-  refused-by zero h = absurd (h refl)
-  refused-by (suc q) h = refl
-
-  pub write-refused : {q : ℕ} → q ≡ writeQuestions m t (length d) → (q ≡ 0 → ⊥) → record { count = Refused q; file = d } ≡ writeTableCall m t d
-  unfolding writeTableCall
-  write-refused {q} e h = refused-by q h ∙ ap (λ (k : ℕ). writeBy k m t d) e
-
-  pub write-done : {q k : ℕ} {x : List ℕ} → q ≡ writeQuestions m t (length d) → q ≡ 0 → k ≡ length (tableFile m t) → x ≡ onto (tableFile m t) d
-      → record { count = Done k; file = x } ≡ writeTableCall m t d
-  unfolding writeTableCall
-  write-done e z ek ex = rw (← e, z, ek, ex) refl

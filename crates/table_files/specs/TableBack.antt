@@ -9,12 +9,8 @@ use Rattle.integers.specs.Words.{AreBytes, onto}
 use Rattle.plant.specs.declared.Count.the-variants.{Done}
 use Rattle.plant.specs.Questions.{modelQuestions}
 use Rattle.plant.specs.Tables.{tableSize, longestTableFile, tableOk}
-use Rattle.plant.specs.Calls.{readReply, wordsRead}
-use Rattle.table_files.specs.TableFile.{tableFile, readTableCall, WriteOutcome, writeReply, writeTableCall}
-
--- the bytes that a call has written
-abbrev pub bytesWritten : WriteOutcome → List ℕ
-bytesWritten o = take (writeReply o .value) (o .file)
+use Rattle.plant.specs.Calls.{readReply, wordsRead, writeReply, bytesWritten}
+use Rattle.table_files.specs.TableFile.{tableFile, readTableCall, writeTableCall}
 
 pub record TableBack : Type 0 where
   -- a table that passes 20 and 32 is written, into any buffer that is long enough, as its file

@@ -10,15 +10,14 @@ use Rattle.integers.specs.Words.{word, num, within, onto}
 use Rattle.integers.specs.Counted.{cat, sumBelow}
 use Rattle.wire.specs.Bytes.{wordAt, wordsAt, wordBytes, wordsBytes}
 use Rattle.wire.specs.Fields.{headerSize, payloadLength, fieldPlace, lengthAt, fieldAt, isField, field}
-use Rattle.plant.specs.declared.Count.{Count}
-use Rattle.plant.specs.declared.Count.the-variants.{Done, Refused}
+use Rattle.plant.specs.declared.Count.the-variants.{Done}
 use Rattle.plant.specs.Ask.{ask, _then_, first}
 use Rattle.plant.specs.Box.{low, high, boxBy, boxAt, Face, absent, present}
 use Rattle.plant.specs.Model.{n#, L#}
 use Rattle.plant.specs.Questions.{modelQuestions}
 use Rattle.plant.specs.Pieces.{anyCut, perFace, pieces, pieceNumber, pieceFace, pieceIndex}
 use Rattle.plant.specs.Tables.{piecesBefore, pieceCount, tableSize, tableBy, pieceOf, tableOk}
-use Rattle.plant.specs.Calls.{Reply, countReply, ReadOutcome, unlessRefused, zeroed, tableRoomQuestion, bytesQuestion}
+use Rattle.plant.specs.Calls.{ReadOutcome, unlessRefused, zeroed, WriteOutcome, writeBy, tableRoomQuestion, bytesQuestion}
 
 -- ---- the file of a table: tag 6 (count of present pieces), then a tag 5 for each (its place, its box) in the table's order: by
 -- location, then face, then piece
@@ -174,18 +173,5 @@ writeQuestions m t room =
     then ask (tableOk m t) 32
     then bytesQuestion m room
 
--- the answer, and the lent byte buffer
-pub record WriteOutcome : Type 0 where
-  pub count : Count
-  pub file : List ℕ
-
--- its number and value
-abbrev pub writeReply : WriteOutcome → Reply
-writeReply o = countReply (o .count)
-
-abbrev pub writeBy : ℕ → (m t : List ℤ) (file : List ℕ) → WriteOutcome
-writeBy zero m t file = record { count = Done (length (tableFile m t)); file = onto (tableFile m t) file }
-writeBy (suc k) m t file = record { count = Refused (suc k); file = file }
-
 unfoldable pub writeTableCall : (m t : List ℤ) (file : List ℕ) → WriteOutcome
-writeTableCall m t file = writeBy (writeQuestions m t (length file)) m t file
+writeTableCall m t file = writeBy (writeQuestions m t (length file)) (tableFile m t) file

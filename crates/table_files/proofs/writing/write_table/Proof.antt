@@ -1,7 +1,9 @@
 -- A refusal, or the whole file.
 use mathlib.Core.Path.{sym, _∙_}
 use borrow.Author.Needs.{needs}
-use Rattle.table_files.proofs.TableWriting.{write-yes, write-refused, write-done}
+use Rattle.plant.proofs.Writing.{write-refused, write-done}
+use Rattle.table_files.specs.TableFile.{writeTableCall}
+use Rattle.table_files.proofs.TableWriting.{write-yes}
 use Rattle.table_files.proofs.writing.write_table.Statement.{statement}
 use Rattle.table_files.proofs.writing.write_table.Tie as tie
 
@@ -9,7 +11,8 @@ write-questions-requires : tie.Need-write-questions-requires
 write-questions-requires c κs = search needs
 
 returns : tie.Need-returns
-returns c = write-refused _ _ _ (c .before .write-questions .ensures) (c .if1 .taken)
+unfolding writeTableCall
+returns c = write-refused _ _ (c .before .write-questions .ensures) (c .if1 .taken)
 
 put-table-requires : tie.Need-put-table-requires
 put-table-requires c κs = write-yes _ _ _ (sym (c .before .before .write-questions .ensures) ∙ c .before .if1 .left)
@@ -18,7 +21,8 @@ same-length : tie.Need-same-length
 same-length c = search needs
 
 returns-2 : tie.Need-returns-2
-returns-2 c = write-done _ _ _ (c .before .before .before .before .before .write-questions .ensures) (c .before .before .before .before .if1 .left) (c .before .before .put-table .ensures .1) (c .before .before .put-table .ensures .0)
+unfolding writeTableCall
+returns-2 c = write-done _ _ (c .before .before .before .before .before .write-questions .ensures) (c .before .before .before .before .if1 .left) (c .before .before .put-table .ensures .1) (c .before .before .put-table .ensures .0)
 
 pub write-table-spec : {M : Type 1} → statement M
 write-table-spec =
