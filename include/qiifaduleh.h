@@ -14,6 +14,7 @@
  *                qii_ceiling       the passes after which the analysis has always ended
  *                qii_quote         what an analysis may take at most: words, bytes and passes
  *     Between:   qii_read_model    a model file's words
+ *                qii_write_model   a model's file
  *                qii_read_table    a table file's words
  *                qii_write_table   a table's file
  *
@@ -147,7 +148,7 @@
  *
  * docs/FORMATS.md has all of this in full, with an example byte by byte.
  *
- * For C99 and C++11 on x86-64 Linux. Link with libhost.a, whose only global names are the ten
+ * For C99 and C++11 on x86-64 Linux. Link with libhost.a, whose only global names are the eleven
  * calls declared here. All other names of this header begin with qii_ or QII_.
  */
 #ifndef QII_H
@@ -212,7 +213,8 @@ uint64_t check(const uint8_t *model, size_t model_len, const uint8_t *table, siz
  *     words, words_len    a buffer for the words, of at least QII_MODEL_WORDS(n, L, E, B) words
  *     value               how many words the model has
  *
- * Gives QII_DONE, or a refusal.
+ * Gives QII_DONE, or a refusal. A file that reads is exactly the one that qii_write_model writes of
+ * its words.
  *
  * Leaves in the buffer
  *     after QII_DONE                the model's words, which pass all the model's questions, and
@@ -235,6 +237,25 @@ uint32_t qii_read_model(const uint8_t *file, size_t file_len, int32_t *words, si
  * there five words (5); 2, 3, 4; 43; are there all the model's words (5); 11 to 13 of each location
  * in turn, 14 to 18 of each switch, 19 of each forbidden box, 46 of each location's cut.
  */
+
+/*
+ * qii_write_model - the file of a model.
+ *
+ *     model, model_len    model words
+ *     file, file_len      a buffer for the file, of at least as many bytes as it has:
+ *                         QII_MODEL_BYTES(n, L, E, B, C), never above QII_MODEL_BYTES_MAX
+ *     value               how many bytes the file has
+ *
+ * Gives QII_DONE, or a refusal. Any words that pass the model's questions can be written.
+ * qii_read_model reads the file as the same words, and every call takes it for the same model.
+ *
+ * Leaves in the buffer, after QII_DONE, the file, and the rest as it was; after a refusal, all as
+ * it was.
+ *
+ * Asks, in this order: the model's questions; 40 of the buffer.
+ */
+uint32_t qii_write_model(const int32_t *model, size_t model_len, uint8_t *file, size_t file_len,
+                         uint64_t *value);
 
 /*
  * qii_ceiling - the passes after which the analysis has always ended.
@@ -391,8 +412,8 @@ enum qii_answer {
 #define QII_DONE QII_SAFE
 
 /*
- * The refusals: the first question that is not yes. The numbers 9, 10, 23 to 31, 40 to 42, 44 and
- * 45 are not in use.
+ * The refusals: the first question that is not yes. The numbers 9, 10, 23 to 31, 41, 42, 44 and 45
+ * are not in use.
  */
 enum qii_refusal {
     /* The model file does not begin with a whole field of tag 1 or 9 and length 16. */
@@ -467,6 +488,10 @@ enum qii_refusal {
     /* The buffer for the table file has fewer than QII_CUT_TABLE_BYTES(L, C, n) bytes. */
     QII_TABLE_ROOM = 39,
 
+    /* The buffer for the model file has fewer bytes than the file:
+       QII_MODEL_BYTES(n, L, E, B, C). */
+    QII_MODEL_ROOM = 40,
+
     /* The edition, the fifth word of a model, is neither 1 nor 2. Never given of a file: its first
        tag gives the edition, and any but 1 and 9 gets QII_MODEL_HEAD. */
     QII_EDITION = 43,
@@ -501,8 +526,12 @@ enum qii_refusal {
 #define QII_TABLE_WORDS(L, n) QII_CUT_TABLE_WORDS(L, 0, n)
 #define QII_TABLE_WORDS_MAX 19968
 
-/* The length of the longest model file. A longer one is refused, so a program that reads one byte
-   more than this has read enough. */
+/* The length of a model's file (40), with C locations cut; and of the longest. A longer one is
+   refused, so a program that reads one byte more than this has read enough. */
+#define QII_MODEL_BYTES(n, L, E, B, C)                                                   \
+    (19 + QII_AS(size_t, L) * (7 + 24 * QII_AS(size_t, n)) +                             \
+     QII_AS(size_t, E) * (27 + 16 * QII_AS(size_t, n)) +                                 \
+     QII_AS(size_t, B) * (7 + 8 * QII_AS(size_t, n)) + QII_AS(size_t, C) * 15)
 #define QII_MODEL_BYTES_MAX 29907
 
 /* The room for a table file (39): with C locations cut, where a piece's field is four bytes longer
@@ -542,7 +571,7 @@ static inline size_t qii_table_len(const uint8_t *table)
 }
 
 /* C: how many locations of a model are cut. Only of words that pass the model's questions, such as
-   those that qii_read_model has read; so too the two below. */
+   those that qii_read_model has read; so too the three below. */
 static inline int32_t qii_cuts(const int32_t *model)
 {
     size_t end = QII_MODEL_WORDS(model[0], model[1], model[2], model[3]);
@@ -552,6 +581,12 @@ static inline int32_t qii_cuts(const int32_t *model)
     for (at = end - 2 * QII_AS(size_t, model[1]); at < end; at += 2)
         cuts += model[at] != -1;
     return cuts;
+}
+
+/* The length of a model's file (40). */
+static inline size_t qii_model_bytes(const int32_t *model)
+{
+    return QII_MODEL_BYTES(model[0], model[1], model[2], model[3], qii_cuts(model));
 }
 
 /* The words of a model's table (20, 21). */
@@ -637,6 +672,8 @@ static inline const char *qii_meaning(uint32_t number)
         return "the table file goes on after its last piece";
     case QII_TABLE_ROOM:
         return "the byte buffer has no room for every table file of the model";
+    case QII_MODEL_ROOM:
+        return "the byte buffer is too short for the model's file";
     case QII_EDITION:
         return "the model's edition is neither 1 nor 2";
     case QII_CUT:

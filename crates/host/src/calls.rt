@@ -4,7 +4,7 @@
 ghost use mathlib.Core.Path.{_≡_};
 ghost use Rattle.plant.specs.Calls.{Reply, answerReply, verdictReply, ceilingReply, countReply, ceilingCall, checkCall, analyseCall};
 ghost use Rattle.desk.specs.Desks.{deskCall};
-ghost use Rattle.model_files.specs.ModelFile.{readModelCall};
+ghost use Rattle.model_files.specs.ModelFile.{readModelCall, writeModelCall};
 ghost use Rattle.table_files.specs.TableFile.{readTableCall, writeTableCall};
 ghost use Rattle.quote.specs.Quotes.{QuoteReply, quoteReply, quoteCall};
 ghost use Rattle.host.specs.ForC.{readForC, analysedForC, writtenForC, servedForC};
@@ -50,6 +50,15 @@ pub extern "C" fn qii_read_model(file: &[u8], words: &mut [i32], value: &mut u64
     ensures { λ r. ⌜ record { reply = record { code = r; value = now (value .exit) }; words = now (words .exit) } ≡ readForC (readModelCall (now (file .entry)) (now (words .entry))) ⌝ }
 {
     let count = model_files::read_model(file, words);
+    count_reply(count, value)
+}
+
+// Writes a model's file; the value is how many bytes it has.
+#[no_mangle]
+pub extern "C" fn qii_write_model(model: &[i32], file: &mut [u8], value: &mut u64) -> u32
+    ensures { λ r. ⌜ record { reply = record { code = r; value = now (value .exit) }; file = now (file .exit) } ≡ writtenForC (writeModelCall (now (model .entry)) (now (file .entry))) ⌝ }
+{
+    let count = model_files::write_model(model, file);
     count_reply(count, value)
 }
 

@@ -1,4 +1,4 @@
--- Plant P's file, read by computing with the definitions; in edition 2; and with a cut.
+-- Plant P's file, read and written by computing with the definitions; in edition 2; and with a cut.
 use mathlib.Core.Path.{_≡_, refl}
 use mathlib.Core.List.{List, [], _∷_, _++_}
 use Prim.Native.Nat.{ℕ}
@@ -13,11 +13,11 @@ use Rattle.plant.specs.declared.Count.the-variants.{Done, Refused}
 use Rattle.plant.specs.Ask.{_then_, first}
 use Rattle.plant.specs.Box.{low, high, boxBy, boxAt}
 use Rattle.plant.specs.Model.{locationAt, invariant, rate, startFlag, startBox, switchAt, source, target, wallVariable, sourceSide, targetSide, resetMask, masked, guard, reset, forbiddenAt, forbiddenLocation, forbiddenBox, cutAt, cutVariable, cutValue, modelSize, wall}
-use Rattle.plant.specs.Questions.{boxOk, insideOk, zerosOk, startOk, locationQuestions, placesOk, boxesOk, singleAt, singleOk, sourceWall, targetWall, guardOk, levelAfter, landsOk, switchQuestions, forbiddenQuestion, strictlyInside, cutOk, cutQuestion, rangesQuestions, recordsQuestions}
+use Rattle.plant.specs.Questions.{boxOk, insideOk, zerosOk, startOk, locationQuestions, placesOk, boxesOk, singleAt, singleOk, sourceWall, targetWall, guardOk, levelAfter, landsOk, switchQuestions, forbiddenQuestion, strictlyInside, cutOk, cutQuestion, editionQuestion, rangesQuestions, recordsQuestions, modelQuestions}
 use Rattle.plant.specs.Calls.{unlessRefused}
 use Rattle.plant.specs.Cases.{plantP, P}
 use Rattle.plant.proofs.ResetCases.{dosing, dose}
-use Rattle.model_files.specs.ModelFile.{modelFile, runQuestions, headWords, headQuestions, cutWordsOk, cutFieldQuestions, endQuestions, cutsQuestions, bodyQuestions, runWords, recordWords, fileCut, cutWords, fileWords, recordsFileQuestions, readModelCall}
+use Rattle.model_files.specs.ModelFile.{modelFile, runQuestions, headWords, headQuestions, cutWordsOk, cutFieldQuestions, endQuestions, cutsQuestions, bodyQuestions, runWords, recordWords, fileCut, cutWords, fileWords, recordsFileQuestions, readModelCall, writeModelQuestions, writeModelCall}
 
 -- P's file has 22 of P's 25 words, in 3 fields: its tag gives the edition, no field the two words of no cut; read into 26 words it gives P,
 -- and the last word is left
@@ -82,6 +82,30 @@ record CutRead : Type 0 where
   before-records : answered (withCut disordered (pos 0 ∷ negsuc 0 ∷ pos 0 ∷ [])) ≡ Refused 46
   after-records : answered (withCut disordered (pos 0 ∷ negsuc 1 ∷ pos 5 ∷ [])) ≡ Refused 11
 
+-- a buffer of so many bytes, all 7
+abbrev bytes : ℕ → List ℕ
+bytes k = replicate k 7
+
+-- location 0 of P cut at y 5
+abbrev cutP : List ℤ
+cutP = take 23 P ++ (pos 1 ∷ pos 5 ∷ [])
+
+-- document 02, T-01: P's file is written into as many bytes as it has; the rest is left; into fewer, nothing is. All the model's questions
+-- come before 40, the last one too
+record Write : Type 0 where
+  exact : writeModelCall P (bytes 97) ≡ record { count = Done 97; file = modelFile P }
+  rest-left : writeModelCall P (bytes 99) ≡ record { count = Done 97; file = modelFile P ++ (7 ∷ 7 ∷ []) }
+  one-byte-less : writeModelCall P (bytes 96) ≡ record { count = Refused 40; file = bytes 96 }
+  no-byte : writeModelCall P [] ≡ record { count = Refused 40; file = [] }
+  word-behind : writeModelCall (P ++ (pos 3 ∷ [])) (bytes 97) ≡ record { count = Done 97; file = modelFile P }
+  word-missing : writeModelCall (take 24 P) (bytes 97) ≡ record { count = Refused 5; file = bytes 97 }
+  not-ordered : writeModelCall disordered [] .count ≡ Refused 11
+  edition-2 : writeModelCall (set P 4 (pos 2)) (bytes 97) ≡ record { count = Done 97; file = tagged 9 (modelFile P) }
+  edition-3 : writeModelCall (set P 4 (pos 3)) [] .count ≡ Refused 43
+  cut : writeModelCall cutP (bytes 112) ≡ record { count = Done 112; file = withCut P (pos 0 ∷ pos 1 ∷ pos 5 ∷ []) }
+  cut-one-byte-less : writeModelCall cutP (bytes 111) .count ≡ Refused 40
+  cut-at-wall : writeModelCall (set cutP 24 (pos 10)) [] .count ≡ Refused 46
+
 read : Read
 unfolding onto cat allBelow bitsAt wordAt wordsAt wordBytes wordsBytes fieldAt field _then_ first low high boxBy boxAt locationAt invariant rate startFlag startBox switchAt forbiddenAt forbiddenLocation forbiddenBox cutAt cutVariable cutValue modelSize boxOk insideOk zerosOk startOk locationQuestions forbiddenQuestion strictlyInside cutOk cutQuestion rangesQuestions recordsQuestions plantP P modelFile runQuestions headWords headQuestions cutWordsOk cutFieldQuestions endQuestions cutsQuestions bodyQuestions runWords recordWords fileCut cutWords fileWords recordsFileQuestions unlessRefused readModelCall
 read = record { file-length = refl; reads = refl; too-short = refl; one-byte-more = refl; one-byte-less = refl; no-byte = refl }
@@ -121,4 +145,21 @@ cut-read = record {
   high-wall = refl;
   before-records = refl;
   after-records = refl;
+}
+
+write : Write
+unfolding onto cat allBelow bitsAt wordAt wordsAt wordBytes wordsBytes fieldAt field _then_ first low high boxBy boxAt locationAt invariant rate startFlag startBox switchAt forbiddenAt forbiddenLocation forbiddenBox cutAt cutVariable cutValue modelSize boxOk insideOk zerosOk startOk locationQuestions forbiddenQuestion strictlyInside cutOk cutQuestion rangesQuestions recordsQuestions plantP P modelFile runQuestions headWords headQuestions cutWordsOk cutFieldQuestions endQuestions cutsQuestions bodyQuestions runWords recordWords fileCut cutWords fileWords recordsFileQuestions unlessRefused readModelCall editionQuestion modelQuestions writeModelQuestions writeModelCall
+write = record {
+  exact = refl;
+  rest-left = refl;
+  one-byte-less = refl;
+  no-byte = refl;
+  word-behind = refl;
+  word-missing = refl;
+  not-ordered = refl;
+  edition-2 = refl;
+  edition-3 = refl;
+  cut = refl;
+  cut-one-byte-less = refl;
+  cut-at-wall = refl;
 }

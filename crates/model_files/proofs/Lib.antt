@@ -6,4 +6,6 @@ pub mod FirstField
 pub mod ModelReading
 pub mod Beginning
 pub mod ModelRoundTrip
+pub mod ModelWriting
+pub mod ModelBack
 pub mod UncutFile

@@ -83,7 +83,7 @@ front-two [] h = absurd (omega arith)
 front-two (a ∷ []) h = absurd (omega arith)
 front-two (a ∷ b ∷ s) h = refl
 
-two-words : (s : List ℤ) (at : ℕ) → at + 2 ≤ length s → part s at 2 ≡ word s at ∷ word s (at + 1) ∷ []
+pub two-words : (s : List ℤ) (at : ℕ) → at + 2 ≤ length s → part s at 2 ≡ word s at ∷ word s (at + 1) ∷ []
 two-words s at h = front-two (drop at s) (omega (arith, length-drop at s)) ∙ ap₂ (λ (a b : ℤ). a ∷ b ∷ []) (getD-drop at s 0 (pos 0) ∙ ap (word s) (omega arith)) (getD-drop at s 1 (pos 0))
 
 -- ---- a run of fields that is written is read back
@@ -107,10 +107,7 @@ module _ (s p : List ℕ) (tag : ℕ) (zs : ℕ → List ℤ) (k w : ℕ) (q : L
 
 -- ---- the file of a model's words is read
 
-module _ (m : List ℤ) (ok : Passed m) (f : AreWords m) where
-  w : model.Whole m
-  w = whole-passed m ok
-
+module _ (m : List ℤ) where
   abbrev locationWords : ℕ → List ℤ
   locationWords l = part m (locationAt m l) (6 * n# m + 1)
 
@@ -120,177 +117,179 @@ module _ (m : List ℤ) (ok : Passed m) (f : AreWords m) where
   abbrev forbiddenWords : ℕ → List ℤ
   forbiddenWords b = part m (forbiddenAt m b) (1 + 2 * n# m)
 
-  abbrev headField : List ℕ
+  abbrev pub headField : List ℕ
   headField = field (firstTag (edition m)) (wordsBytes (part m 0 4))
 
-  abbrev locations : List ℕ
+  abbrev pub locations : List ℕ
   locations = cat (L# m) (λ l. field 2 (wordsBytes (locationWords l)))
 
-  abbrev switches : List ℕ
+  abbrev pub switches : List ℕ
   switches = cat (E# m) (λ e. field 3 (wordsBytes (switchWords e)))
 
-  abbrev forbiddens : List ℕ
+  abbrev pub forbiddens : List ℕ
   forbiddens = cat (B# m) (λ b. field 4 (wordsBytes (forbiddenWords b)))
 
-  abbrev cuts : List ℕ
+  abbrev pub cuts : List ℕ
   cuts = cat (L# m) (λ l. cutField l (cutVariable m l) (cutValue m l))
 
   abbrev s : List ℕ
   s = headField ++ (locations ++ (switches ++ (forbiddens ++ cuts)))
 
-  -- lengths
+  module _ (w : model.Whole m) where
+    -- lengths
 
-  four : length (part m 0 4) ≡ 4
-  four = length-part m 0 4 (omega (arith, w .head .there))
+    four : length (part m 0 4) ≡ 4
+    four = length-part m 0 4 (omega (arith, w .head .there))
 
-  length-payload : length (wordsBytes (part m 0 4)) ≡ 16
-  length-payload = omega (arith, length-bytes (part m 0 4), four)
+    length-payload : length (wordsBytes (part m 0 4)) ≡ 16
+    length-payload = omega (arith, length-bytes (part m 0 4), four)
 
-  length-head-field : length headField ≡ 19
-  length-head-field = omega (arith, length-field (firstTag (edition m)) (wordsBytes (part m 0 4)), length-payload)
+    pub length-head-field : length headField ≡ 19
+    length-head-field = omega (arith, length-field (firstTag (edition m)) (wordsBytes (part m 0 4)), length-payload)
 
-  length-location : (l : ℕ) → l < L# m → length (locationWords l) ≡ 6 * n# m + 1
-  length-location l u = length-part m (locationAt m l) (6 * n# m + 1) (location-within m w l u)
+    length-location : (l : ℕ) → l < L# m → length (locationWords l) ≡ 6 * n# m + 1
+    length-location l u = length-part m (locationAt m l) (6 * n# m + 1) (location-within m w l u)
 
-  length-switch : (e : ℕ) → e < E# m → length (switchWords e) ≡ 6 + 4 * n# m
-  length-switch e u = length-part m (switchAt m e) (6 + 4 * n# m) (switch-within m w e u)
+    length-switch : (e : ℕ) → e < E# m → length (switchWords e) ≡ 6 + 4 * n# m
+    length-switch e u = length-part m (switchAt m e) (6 + 4 * n# m) (switch-within m w e u)
 
-  length-forbidden : (b : ℕ) → b < B# m → length (forbiddenWords b) ≡ 1 + 2 * n# m
-  length-forbidden b u = length-part m (forbiddenAt m b) (1 + 2 * n# m) (forbidden-within m w b u)
+    length-forbidden : (b : ℕ) → b < B# m → length (forbiddenWords b) ≡ 1 + 2 * n# m
+    length-forbidden b u = length-part m (forbiddenAt m b) (1 + 2 * n# m) (forbidden-within m w b u)
 
-  -- what stands before each run
+    -- what stands before each run
 
-  before-switches : length (headField ++ locations) ≡ switchesFrom m
-  before-switches =
-      omega (arith, length-append headField locations, length-head-field, length-fields headField 2 locationWords (L# m) (6 * n# m + 1) (switches ++ (forbiddens ++ cuts)) 19 length-head-field length-location (L# m) (omega arith))
+    pub before-switches : length (headField ++ locations) ≡ switchesFrom m
+    before-switches =
+        omega (arith, length-append headField locations, length-head-field, length-fields headField 2 locationWords (L# m) (6 * n# m + 1) (switches ++ (forbiddens ++ cuts)) 19 length-head-field length-location (L# m) (omega arith))
 
-  before-forbiddens : length ((headField ++ locations) ++ switches) ≡ forbiddensFrom m
-  before-forbiddens =
-      omega (arith, length-append (headField ++ locations) switches, before-switches, length-fields (headField ++ locations) 3 switchWords (E# m) (6 + 4 * n# m) (forbiddens ++ cuts) (switchesFrom m) before-switches length-switch (E# m) (omega arith))
+    pub before-forbiddens : length ((headField ++ locations) ++ switches) ≡ forbiddensFrom m
+    before-forbiddens =
+        omega (arith, length-append (headField ++ locations) switches, before-switches, length-fields (headField ++ locations) 3 switchWords (E# m) (6 + 4 * n# m) (forbiddens ++ cuts) (switchesFrom m) before-switches length-switch (E# m) (omega arith))
 
-  before-cuts : length (((headField ++ locations) ++ switches) ++ forbiddens) ≡ cutsFrom m
-  before-cuts =
-      omega (arith, length-append ((headField ++ locations) ++ switches) forbiddens, before-forbiddens, length-fields ((headField ++ locations) ++ switches) 4 forbiddenWords (B# m) (1 + 2 * n# m) cuts (forbiddensFrom m) before-forbiddens length-forbidden (B# m) (omega arith))
+    pub before-cuts : length (((headField ++ locations) ++ switches) ++ forbiddens) ≡ cutsFrom m
+    before-cuts =
+        omega (arith, length-append ((headField ++ locations) ++ switches) forbiddens, before-forbiddens, length-fields ((headField ++ locations) ++ switches) 4 forbiddenWords (B# m) (1 + 2 * n# m) cuts (forbiddensFrom m) before-forbiddens length-forbidden (B# m) (omega arith))
 
-  around-switches : s ≡ (headField ++ locations) ++ (switches ++ (forbiddens ++ cuts))
-  around-switches = sym (append-assoc headField locations (switches ++ (forbiddens ++ cuts)))
+    around-switches : s ≡ (headField ++ locations) ++ (switches ++ (forbiddens ++ cuts))
+    around-switches = sym (append-assoc headField locations (switches ++ (forbiddens ++ cuts)))
 
-  around-forbiddens : s ≡ ((headField ++ locations) ++ switches) ++ (forbiddens ++ cuts)
-  around-forbiddens = around-switches ∙ sym (append-assoc (headField ++ locations) switches (forbiddens ++ cuts))
+    around-forbiddens : s ≡ ((headField ++ locations) ++ switches) ++ (forbiddens ++ cuts)
+    around-forbiddens = around-switches ∙ sym (append-assoc (headField ++ locations) switches (forbiddens ++ cuts))
 
-  around-cuts : s ≡ (((headField ++ locations) ++ switches) ++ forbiddens) ++ cuts
-  around-cuts = around-forbiddens ∙ sym (append-assoc ((headField ++ locations) ++ switches) forbiddens cuts)
+    pub around-cuts : s ≡ (((headField ++ locations) ++ switches) ++ forbiddens) ++ cuts
+    around-cuts = around-forbiddens ∙ sym (append-assoc ((headField ++ locations) ++ switches) forbiddens cuts)
 
-  -- the words of each location's cut
+    module _ (ok : Passed m) (f : AreWords m) where
+      -- the words of each location's cut
 
-  cut-fits : (l : ℕ) → l < L# m → AreWords (pos l ∷ cutVariable m l ∷ cutValue m l ∷ [])
-  unfolding cutVariable cutValue
-  cut-fits l u zero = fits32 {z = pos l} (omega (arith, ok .L-small))
-  cut-fits l u (suc zero) = f (cutAt m l)
-  cut-fits l u (suc (suc zero)) = f (cutAt m l + 1)
-  cut-fits l u (suc (suc (suc i))) = sfits-lit tt
+      pub cut-fits : (l : ℕ) → l < L# m → AreWords (pos l ∷ cutVariable m l ∷ cutValue m l ∷ [])
+      unfolding cutVariable cutValue
+      cut-fits l u zero = fits32 {z = pos l} (omega (arith, ok .L-small))
+      cut-fits l u (suc zero) = f (cutAt m l)
+      cut-fits l u (suc (suc zero)) = f (cutAt m l + 1)
+      cut-fits l u (suc (suc (suc i))) = sfits-lit tt
 
-  no-value : (l : ℕ) → l < L# m → cutVariable m l ≡ negsuc 0 → cutValue m l ≡ pos 0
-  no-value l u e = ⊎-elim (λ (c : IsUncut m l). c .no-value) (λ (c : IsCut m l). absurd (subst (λ (z : ℤ). T (nonNeg z)) e (c .not-negative))) (ok .of-cut l u .words)
+      no-value : (l : ℕ) → l < L# m → cutVariable m l ≡ negsuc 0 → cutValue m l ≡ pos 0
+      no-value l u e = ⊎-elim (λ (c : IsUncut m l). c .no-value) (λ (c : IsCut m l). absurd (subst (λ (z : ℤ). T (nonNeg z)) e (c .not-negative))) (ok .of-cut l u .words)
 
-  -- the questions of the fields
+      -- the questions of the fields
 
-  body-yes : bodyQuestions s m ≡ 0
-  unfolding bodyQuestions
-  body-yes =
-      let small : n# m ≤ 6 = ok .n-small in
-      then-intro (run-yes s headField 2 locationWords (L# m) (6 * n# m + 1) (switches ++ (forbiddens ++ cuts)) 19 refl length-head-field length-location (omega arith))
-      (then-intro (run-yes s (headField ++ locations) 3 switchWords (E# m) (6 + 4 * n# m) (forbiddens ++ cuts) (switchesFrom m) around-switches before-switches length-switch (omega arith))
-      (then-intro (run-yes s ((headField ++ locations) ++ switches) 4 forbiddenWords (B# m) (1 + 2 * n# m) cuts (forbiddensFrom m) around-forbiddens before-forbiddens length-forbidden (omega arith))
-      (rw around-cuts (cuts-asked (((headField ++ locations) ++ switches) ++ forbiddens) (cutVariable m) (cutValue m) (cutsFrom m) (L# m) before-cuts cut-fits no-value))))
+      body-yes : bodyQuestions s m ≡ 0
+      unfolding bodyQuestions
+      body-yes =
+          let small : n# m ≤ 6 = ok .n-small in
+          then-intro (run-yes s headField 2 locationWords (L# m) (6 * n# m + 1) (switches ++ (forbiddens ++ cuts)) 19 refl length-head-field length-location (omega arith))
+          (then-intro (run-yes s (headField ++ locations) 3 switchWords (E# m) (6 + 4 * n# m) (forbiddens ++ cuts) (switchesFrom m) around-switches before-switches length-switch (omega arith))
+          (then-intro (run-yes s ((headField ++ locations) ++ switches) 4 forbiddenWords (B# m) (1 + 2 * n# m) cuts (forbiddensFrom m) around-forbiddens before-forbiddens length-forbidden (omega arith))
+          (rw around-cuts (cuts-asked (((headField ++ locations) ++ switches) ++ forbiddens) (cutVariable m) (cutValue m) (cutsFrom m) (L# m) before-cuts cut-fits no-value))))
 
-  head-yes : T (isHead (fieldAt s 0))
-  head-yes = head-is (fieldAt s 0) (edition m) (whole-is (fieldAt s 0) (firstTag (edition m)) 3 16 19 (field-back [] (firstTag (edition m)) (wordsBytes (part m 0 4)) (locations ++ (switches ++ (forbiddens ++ cuts))) 0 16 refl length-payload (omega arith)))
+      head-yes : T (isHead (fieldAt s 0))
+      head-yes = head-is (fieldAt s 0) (edition m) (whole-is (fieldAt s 0) (firstTag (edition m)) 3 16 19 (field-back [] (firstTag (edition m)) (wordsBytes (part m 0 4)) (locations ++ (switches ++ (forbiddens ++ cuts))) 0 16 refl length-payload (omega arith)))
 
-  -- the words
+      -- the words
 
-  first-byte : getD s 0 0 ≡ firstTag (edition m)
-  unfolding field
-  first-byte = refl
+      first-byte : getD s 0 0 ≡ firstTag (edition m)
+      unfolding field
+      first-byte = refl
 
-  head-words : headWords s ≡ take 5 m
-  unfolding headWords
-  head-words =
-      ap₂ (λ (x : List ℤ) (z : ℤ). x ++ (z ∷ []))
-      (field-words-back [] (firstTag (edition m)) (part m 0 4) (locations ++ (switches ++ (forbiddens ++ cuts))) 0 4 refl four (part-words m 0 4 f))
-      (ap editionOf first-byte ∙ edition-back (edition m) (ok .edition-is))
-      ∙ sym (one-more 4 m (omega (arith, w .head .there)))
+      head-words : headWords s ≡ take 5 m
+      unfolding headWords
+      head-words =
+          ap₂ (λ (x : List ℤ) (z : ℤ). x ++ (z ∷ []))
+          (field-words-back [] (firstTag (edition m)) (part m 0 4) (locations ++ (switches ++ (forbiddens ++ cuts))) 0 4 refl four (part-words m 0 4 f))
+          (ap editionOf first-byte ∙ edition-back (edition m) (ok .edition-is))
+          ∙ sym (one-more 4 m (omega (arith, w .head .there)))
 
-  same : SameHead (headWords s) m
-  same j l = rw head-words (getD-take 5 m j (pos 0) l)
+      same : SameHead (headWords s) m
+      same j l = rw head-words (getD-take 5 m j (pos 0) l)
 
-  location-parts : cat (L# m) locationWords ≡ part m 5 (L# m * (6 * n# m + 1))
-  unfolding locationAt
-  location-parts = cat-parts m 5 (6 * n# m + 1) (L# m)
+      location-parts : cat (L# m) locationWords ≡ part m 5 (L# m * (6 * n# m + 1))
+      unfolding locationAt
+      location-parts = cat-parts m 5 (6 * n# m + 1) (L# m)
 
-  switch-parts : cat (E# m) switchWords ≡ part m (5 + L# m * (6 * n# m + 1)) (E# m * (6 + 4 * n# m))
-  unfolding switchAt locationAt
-  switch-parts = cat-parts m (5 + L# m * (6 * n# m + 1)) (6 + 4 * n# m) (E# m)
+      switch-parts : cat (E# m) switchWords ≡ part m (5 + L# m * (6 * n# m + 1)) (E# m * (6 + 4 * n# m))
+      unfolding switchAt locationAt
+      switch-parts = cat-parts m (5 + L# m * (6 * n# m + 1)) (6 + 4 * n# m) (E# m)
 
-  forbidden-parts : cat (B# m) forbiddenWords ≡ part m (5 + L# m * (6 * n# m + 1) + E# m * (6 + 4 * n# m)) (B# m * (1 + 2 * n# m))
-  unfolding forbiddenAt switchAt locationAt
-  forbidden-parts = cat-parts m (5 + L# m * (6 * n# m + 1) + E# m * (6 + 4 * n# m)) (1 + 2 * n# m) (B# m)
+      forbidden-parts : cat (B# m) forbiddenWords ≡ part m (5 + L# m * (6 * n# m + 1) + E# m * (6 + 4 * n# m)) (B# m * (1 + 2 * n# m))
+      unfolding forbiddenAt switchAt locationAt
+      forbidden-parts = cat-parts m (5 + L# m * (6 * n# m + 1) + E# m * (6 + 4 * n# m)) (1 + 2 * n# m) (B# m)
 
-  runs : runWords s 19 (L# m) (6 * n# m + 1) ++ (runWords s (switchesFrom m) (E# m) (6 + 4 * n# m) ++ runWords s (forbiddensFrom m) (B# m) (1 + 2 * n# m))
-      ≡ cat (L# m) locationWords ++ (cat (E# m) switchWords ++ cat (B# m) forbiddenWords)
-  runs =
-      ap₂ (λ (x y : List ℤ). x ++ y) (run-words s headField 2 locationWords (L# m) (6 * n# m + 1) (switches ++ (forbiddens ++ cuts)) 19 refl length-head-field length-location (λ i. part-words m (locationAt m i) (6 * n# m + 1) f))
-      (ap₂ (λ (x y : List ℤ). x ++ y) (run-words s (headField ++ locations) 3 switchWords (E# m) (6 + 4 * n# m) (forbiddens ++ cuts) (switchesFrom m) around-switches before-switches length-switch (λ i. part-words m (switchAt m i) (6 + 4 * n# m) f))
-      (run-words s ((headField ++ locations) ++ switches) 4 forbiddenWords (B# m) (1 + 2 * n# m) cuts (forbiddensFrom m) around-forbiddens before-forbiddens length-forbidden (λ i. part-words m (forbiddenAt m i) (1 + 2 * n# m) f)))
+      runs : runWords s 19 (L# m) (6 * n# m + 1) ++ (runWords s (switchesFrom m) (E# m) (6 + 4 * n# m) ++ runWords s (forbiddensFrom m) (B# m) (1 + 2 * n# m))
+          ≡ cat (L# m) locationWords ++ (cat (E# m) switchWords ++ cat (B# m) forbiddenWords)
+      runs =
+          ap₂ (λ (x y : List ℤ). x ++ y) (run-words s headField 2 locationWords (L# m) (6 * n# m + 1) (switches ++ (forbiddens ++ cuts)) 19 refl length-head-field length-location (λ i. part-words m (locationAt m i) (6 * n# m + 1) f))
+          (ap₂ (λ (x y : List ℤ). x ++ y) (run-words s (headField ++ locations) 3 switchWords (E# m) (6 + 4 * n# m) (forbiddens ++ cuts) (switchesFrom m) around-switches before-switches length-switch (λ i. part-words m (switchAt m i) (6 + 4 * n# m) f))
+          (run-words s ((headField ++ locations) ++ switches) 4 forbiddenWords (B# m) (1 + 2 * n# m) cuts (forbiddensFrom m) around-forbiddens before-forbiddens length-forbidden (λ i. part-words m (forbiddenAt m i) (1 + 2 * n# m) f)))
 
-  cut-parts : cutWords s (cutsFrom m) (L# m) ≡ part m (5 + L# m * (6 * n# m + 1) + E# m * (6 + 4 * n# m) + B# m * (1 + 2 * n# m)) (L# m * 2)
-  unfolding cutWords cutVariable cutValue cutAt forbiddenAt switchAt locationAt
-  cut-parts =
-      cat-ext (L# m) (fileCut s (cutsFrom m) (L# m)) (λ l. part m (cutAt m l) 2)
-      (λ l u. subst (λ (x : List ℕ). fileCut x (cutsFrom m) (L# m) l ≡ cutVariable m l ∷ cutValue m l ∷ []) (sym around-cuts)
-      (cuts-read (((headField ++ locations) ++ switches) ++ forbiddens) (cutVariable m) (cutValue m) (cutsFrom m) (L# m) before-cuts cut-fits no-value l u)
-      ∙ sym (two-words m (cutAt m l) (cut-within m w l u)))
-      ∙ cat-parts m (5 + L# m * (6 * n# m + 1) + E# m * (6 + 4 * n# m) + B# m * (1 + 2 * n# m)) 2 (L# m)
+      cut-parts : cutWords s (cutsFrom m) (L# m) ≡ part m (5 + L# m * (6 * n# m + 1) + E# m * (6 + 4 * n# m) + B# m * (1 + 2 * n# m)) (L# m * 2)
+      unfolding cutWords cutVariable cutValue cutAt forbiddenAt switchAt locationAt
+      cut-parts =
+          cat-ext (L# m) (fileCut s (cutsFrom m) (L# m)) (λ l. part m (cutAt m l) 2)
+          (λ l u. subst (λ (x : List ℕ). fileCut x (cutsFrom m) (L# m) l ≡ cutVariable m l ∷ cutValue m l ∷ []) (sym around-cuts)
+          (cuts-read (((headField ++ locations) ++ switches) ++ forbiddens) (cutVariable m) (cutValue m) (cutsFrom m) (L# m) before-cuts cut-fits no-value l u)
+          ∙ sym (two-words m (cutAt m l) (cut-within m w l u)))
+          ∙ cat-parts m (5 + L# m * (6 * n# m + 1) + E# m * (6 + 4 * n# m) + B# m * (1 + 2 * n# m)) 2 (L# m)
 
-  size-is : 5 + L# m * (6 * n# m + 1) + E# m * (6 + 4 * n# m) + B# m * (1 + 2 * n# m) + L# m * 2 ≡ modelSize m
-  size-is = omega (arith, switches-at m, forbiddens-at m, cuts-at m, words-end m)
+      size-is : 5 + L# m * (6 * n# m + 1) + E# m * (6 + 4 * n# m) + B# m * (1 + 2 * n# m) + L# m * 2 ≡ modelSize m
+      size-is = omega (arith, switches-at m, forbiddens-at m, cuts-at m, words-end m)
 
-  words-are : fileWords s (headWords s) ≡ take (modelSize m) m
-  words-are =
-      same-words (headWords s) m same s
-      ∙ ap₂ (λ (x y : List ℤ). x ++ y)
-      (ap₂ (λ (x y : List ℤ). x ++ y) head-words (runs ∙ ap₂ (λ (x y : List ℤ). x ++ y) location-parts (ap₂ (λ (x y : List ℤ). x ++ y) switch-parts forbidden-parts))
-      ∙ four-parts m 5 (L# m * (6 * n# m + 1)) (E# m * (6 + 4 * n# m)) (B# m * (1 + 2 * n# m)))
-      cut-parts
-      ∙ sym (take-add (5 + L# m * (6 * n# m + 1) + E# m * (6 + 4 * n# m) + B# m * (1 + 2 * n# m)) (L# m * 2) m)
-      ∙ ap (λ (k : ℕ). take k m) size-is
+      words-are : fileWords s (headWords s) ≡ take (modelSize m) m
+      words-are =
+          same-words (headWords s) m same s
+          ∙ ap₂ (λ (x y : List ℤ). x ++ y)
+          (ap₂ (λ (x y : List ℤ). x ++ y) head-words (runs ∙ ap₂ (λ (x y : List ℤ). x ++ y) location-parts (ap₂ (λ (x y : List ℤ). x ++ y) switch-parts forbidden-parts))
+          ∙ four-parts m 5 (L# m * (6 * n# m + 1)) (E# m * (6 + 4 * n# m)) (B# m * (1 + 2 * n# m)))
+          cut-parts
+          ∙ sym (take-add (5 + L# m * (6 * n# m + 1) + E# m * (6 + 4 * n# m) + B# m * (1 + 2 * n# m)) (L# m * 2) m)
+          ∙ ap (λ (k : ℕ). take k m) size-is
 
-  -- the model's words alone pass, too
+      -- the model's words alone pass, too
 
-  front-same : SameHead (take (modelSize m) m) m
-  front-same j l = getD-take (modelSize m) m j (pos 0) (omega (arith, head-first m))
+      front-same : SameHead (take (modelSize m) m) m
+      front-same j l = getD-take (modelSize m) m j (pos 0) (omega (arith, head-first m))
 
-  front-whole : model.Whole (take (modelSize m) m)
-  front-whole =
-      let l : length (take (modelSize m) m) ≡ modelSize m = length-take-le (modelSize m) m (ok .long) in
-      record {
-        head = same-allowed (take (modelSize m) m) m front-same (omega (arith, l, head-first m)) (w .head);
-        long = omega (arith, l, same-size (take (modelSize m) m) m front-same);
-      }
+      front-whole : model.Whole (take (modelSize m) m)
+      front-whole =
+          let l : length (take (modelSize m) m) ≡ modelSize m = length-take-le (modelSize m) m (ok .long) in
+          record {
+            head = same-allowed (take (modelSize m) m) m front-same (omega (arith, l, head-first m)) (w .head);
+            long = omega (arith, l, same-size (take (modelSize m) m) m front-same);
+          }
 
-  front-records : recordsQuestions m ≡ 0 → recordsQuestions (take (modelSize m) m) ≡ 0
-  front-records h = records-yes (take (modelSize m) m) (drop (modelSize m) m) front-whole (ap recordsQuestions (take-append-drop (modelSize m) m) ∙ h)
+      front-records : recordsQuestions m ≡ 0 → recordsQuestions (take (modelSize m) m) ≡ 0
+      front-records h = records-yes (take (modelSize m) m) (drop (modelSize m) m) front-whole (ap recordsQuestions (take-append-drop (modelSize m) m) ∙ h)
 
-  reads : (words : List ℤ) → rangesQuestions m ≡ 0 → recordsQuestions m ≡ 0 → modelSize m ≤ length words
-      → record { count = Done (modelSize m); words = onto (take (modelSize m) m) words } ≡ readModelCall s words
-  unfolding readModelCall headQuestions recordsFileQuestions
-  reads words ranges records room =
-      let size : modelSize (headWords s) ≡ modelSize m = same-size (headWords s) m same in
-      past _
-      (then-intro (then-intro (ask-intro (isHead (fieldAt s 0)) 1 head-yes) (same-ranges (headWords s) m same ∙ ranges))
-      (ask-intro (leb (modelSize (headWords s)) (length words)) 5 (le→leb (modelSize (headWords s)) (length words) (omega (arith, size)))))
-      (past _ (then-intro (same-body (headWords s) m same s ∙ body-yes) (ap recordsQuestions words-are ∙ front-records records))
-      (rw (size, words-are) refl))
+      reads : (words : List ℤ) → rangesQuestions m ≡ 0 → recordsQuestions m ≡ 0 → modelSize m ≤ length words
+          → record { count = Done (modelSize m); words = onto (take (modelSize m) m) words } ≡ readModelCall s words
+      unfolding readModelCall headQuestions recordsFileQuestions
+      reads words ranges records room =
+          let size : modelSize (headWords s) ≡ modelSize m = same-size (headWords s) m same in
+          past _
+          (then-intro (then-intro (ask-intro (isHead (fieldAt s 0)) 1 head-yes) (same-ranges (headWords s) m same ∙ ranges))
+          (ask-intro (leb (modelSize (headWords s)) (length words)) 5 (le→leb (modelSize (headWords s)) (length words) (omega (arith, size)))))
+          (past _ (then-intro (same-body (headWords s) m same s ∙ body-yes) (ap recordsQuestions words-are ∙ front-records records))
+          (rw (size, words-are) refl))
 
 -- ---- no refusal is 100
 
@@ -475,7 +474,8 @@ file-read m words e f room =
     let y : (rangesQuestions m ≡ 0) × _ = then-both (rangesQuestions m) _ (x .1) in
     let k : (editionQuestion m ≡ 0) × _ = then-both (editionQuestion m) _ (y .1) in
     let z : _ × (recordsQuestions m ≡ 0) = asked (leb (modelSize m) (length m)) 5 (recordsQuestions m) (omega arith) (k .1) in
-    reads m (passed m e) f words (y .0) (z .1) room
+    let ok : Passed m = passed m e in
+    reads m (whole-passed m ok) ok f words (y .0) (z .1) room
 
 read-is-file : (s : List ℕ) (words : List ℤ) → AreBytes s → readReply (readModelCall s words) .code ≡ 100 → IsModelFile s (wordsRead (readModelCall s words))
 unfolding readModelCall recordsFileQuestions

@@ -1,5 +1,5 @@
 -- Document 01, "Files" and "The questions, in order": the file of a model, and what reading one gives. And document 02: its first tag,
--- which gives its edition (T-10), and the fields of its cuts (T-12).
+-- which gives its edition (T-10), the fields of its cuts (T-12), and what writing one gives (T-01).
 use mathlib.Core.Bool.{Bool, false, cond, not, _&&_, _||_}
 use mathlib.Core.List.{List, [], _∷_, _++_}
 use Prim.Native.Nat.{ℕ, zero, suc, _+_, _-_}
@@ -15,8 +15,8 @@ use Rattle.wire.specs.declared.Field.the-variants.{Whole, Cut, Short}
 use Rattle.plant.specs.Ask.{ask, _then_, first}
 use Rattle.plant.specs.declared.Count.the-variants.{Done}
 use Rattle.plant.specs.Model.{n#, L#, E#, B#, edition, locationSize, switchSize, forbiddenSize, locationAt, switchAt, forbiddenAt, cutVariable, cutValue, modelSize}
-use Rattle.plant.specs.Questions.{rangesQuestions, recordsQuestions}
-use Rattle.plant.specs.Calls.{ReadOutcome, unlessRefused, zeroed}
+use Rattle.plant.specs.Questions.{rangesQuestions, recordsQuestions, modelQuestions}
+use Rattle.plant.specs.Calls.{ReadOutcome, unlessRefused, zeroed, WriteOutcome, writeBy}
 
 -- ---- the file of a model's words: tag 1, or 9 in edition 2 (n, L, E, B), then L of tag 2, E of tag 3, B of tag 4, each one record;
 -- then one of tag 8 for each location that is cut (location, variable, value)
@@ -193,3 +193,15 @@ unfoldable pub readModelCall : (s : List ℕ) (words : List ℤ) → ReadOutcome
 readModelCall s words =
     unlessRefused (headQuestions s then bufferQuestion (headWords s) (length words)) words
     (readRecords s (headWords s) words)
+
+-- ---- writing a model: its questions, 40; a refusal changes nothing
+
+-- byte buffer long enough for the file? 40
+abbrev pub fileRoomQuestion : (m : List ℤ) (room : ℕ) → ℕ
+fileRoomQuestion m room = ask (leb (length (modelFile m)) room) 40
+
+unfoldable pub writeModelQuestions : (m : List ℤ) (room : ℕ) → ℕ
+writeModelQuestions m room = modelQuestions m then fileRoomQuestion m room
+
+unfoldable pub writeModelCall : (m : List ℤ) (file : List ℕ) → WriteOutcome
+writeModelCall m file = writeBy (writeModelQuestions m (length file)) (modelFile m) file

@@ -7,10 +7,13 @@ use lib.IntN.{ℤ}
 use lib.Signed.{nonNeg}
 use lib.ListN.{length}
 use Rattle.integers.specs.Words.{word}
+use Rattle.integers.specs.Counted.{cat}
 use Rattle.wire.specs.Fields.{payloadLength, fieldLength, fieldPlace, fieldAt, isField}
-use Rattle.plant.specs.Model.{cutSize, modelSize}
-use Rattle.records.specs.Whole.{Head}
-use Rattle.model_files.specs.ModelFile.{cutFieldSize, headWords, isHead, cutFieldWords, cutsQuestions}
+use Rattle.plant.specs.Model.{L#, cutSize, cutVariable, cutValue, modelSize}
+use Rattle.records.specs.Whole.{Head, Whole}
+use Rattle.model_files.specs.ModelFile.{recordField, cutField, modelFile, cutFieldSize, headWords, isHead, cutFieldWords, cutsQuestions}
+
+-- ---- reading
 
 -- count fields of one tag stand whole from a position on, each with a payload of w words, and there is room for these words
 pub record RunReady (s : List ℕ) (from count w : ℕ) (words : List ℤ) (to : ℕ) : Type 0 where
@@ -37,3 +40,36 @@ pub record HeadRead (s : List ℕ) (h words : List ℤ) : Type 0 where
   pub is-read : h ≡ headWords s
   pub head : Head h
   pub room : modelSize h ≤ length words
+
+-- ---- writing
+
+-- of records of w words each, which stand one after the other from a place of the model on: the field of record i; of count records
+abbrev pub fieldOf : (tag : ℕ) (m : List ℤ) (from w i : ℕ) → List ℕ
+fieldOf tag m from w i = recordField tag m (from + i * w) w
+
+abbrev pub recordFields : (tag : ℕ) (m : List ℤ) (from count w : ℕ) → List ℕ
+recordFields tag m from count w = cat count (fieldOf tag m from w)
+
+-- the records stand there, and there is room for their fields
+pub record RunRoom (m : List ℤ) (from count w : ℕ) (file : List ℕ) (to : ℕ) : Type 0 where
+  pub there : from + count * w ≤ length m
+  pub room : to + count * fieldLength w ≤ length file
+  pub w-small : w ≤ 37
+
+-- the field of location l's cut, if it is cut; the fields of all cuts
+abbrev pub cutFieldOf : (m : List ℤ) (l : ℕ) → List ℕ
+cutFieldOf m l = cutField l (cutVariable m l) (cutValue m l)
+
+unfoldable pub cutFields : List ℤ → List ℕ
+cutFields m = cat (L# m) (cutFieldOf m)
+
+-- a location's cut, and room for a field of it
+pub record CutRoom (m : List ℤ) (l : ℕ) (file : List ℕ) (to : ℕ) : Type 0 where
+  pub whole : Whole m
+  pub location : l < L# m
+  pub room : to + length (cutFieldOf m l) ≤ length file
+
+-- a whole model, and room for its file
+pub record FileRoom (m : List ℤ) (file : List ℕ) : Type 0 where
+  pub whole : Whole m
+  pub room : length (modelFile m) ≤ length file

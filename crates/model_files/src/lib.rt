@@ -1,4 +1,5 @@
-// Reading a model's file (document 01, "Files"; document 02, T-10 and T-12).
+// Reading and writing a model's file (document 01, "Files"; document 02, T-01, T-10 and T-12). Outsiders call read_model and
+// write_model.
 use plant::Count;
 ghost use mathlib.Core.Path.{_≡_};
 ghost use mathlib.Core.Bool.{true, cond};
@@ -15,6 +16,10 @@ ghost use Rattle.plant.specs.Questions.{rangesQuestions};
 ghost use Rattle.records.specs.Whole.{Head};
 ghost use Rattle.model_files.specs.ModelFile.{editionOf, cutFieldSize, headWords, isHead, hasTag, fieldQuestions, runQuestions, bufferQuestion, locationsFrom, switchesFrom, forbiddensFrom, cutsFrom, cutFieldWords, cutWordsOk, cutFieldQuestions, cutsQuestions, bodyQuestions, runWords, recordWords, namesLocation, cutWords, fileWords, readRecords, readModelCall};
 ghost use Rattle.model_files.specs.Room.{RunReady, CutThere, CutsReady, HeadRead};
+
+mod writing;
+
+pub use writing::write_model;
 
 // How many words the first field has, and a cut's: location, variable, value.
 const HEAD_FIELD_SIZE: usize = 4;
