@@ -246,8 +246,9 @@ uint32_t qii_read_model(const uint8_t *file, size_t file_len, int32_t *words, si
  *                         QII_MODEL_BYTES(n, L, E, B, C), never above QII_MODEL_BYTES_MAX
  *     value               how many bytes the file has
  *
- * Gives QII_DONE, or a refusal. Any words that pass the model's questions can be written.
- * qii_read_model reads the file as the same words, and every call takes it for the same model.
+ * Gives QII_DONE, or a refusal. Any words that pass the model's questions can be written; of such
+ * words, so after 40 too, qii_model_bytes gives the length of the file. qii_read_model reads the
+ * file as the same words, and decide and check take it for the same model.
  *
  * Leaves in the buffer, after QII_DONE, the file, and the rest as it was; after a refusal, all as
  * it was.
@@ -526,8 +527,8 @@ enum qii_refusal {
 #define QII_TABLE_WORDS(L, n) QII_CUT_TABLE_WORDS(L, 0, n)
 #define QII_TABLE_WORDS_MAX 19968
 
-/* The length of a model's file (40), with C locations cut; and of the longest. A longer one is
-   refused, so a program that reads one byte more than this has read enough. */
+/* The length of a model's file (40), with C locations cut; and of the longest. A file longer than
+   QII_MODEL_BYTES_MAX is refused, so a program that reads one byte more has read enough. */
 #define QII_MODEL_BYTES(n, L, E, B, C)                                                   \
     (19 + QII_AS(size_t, L) * (7 + 24 * QII_AS(size_t, n)) +                             \
      QII_AS(size_t, E) * (27 + 16 * QII_AS(size_t, n)) +                                 \

@@ -31,7 +31,7 @@ pub record AnalysedForC : Type 0 where
 abbrev pub analysedForC : Analysed → AnalysedForC
 analysedForC a = record { reply = replyOf a; table = a .table; work = a .work }
 
--- ---- writing a model's file, writing a table's file
+-- ---- writing a model file, writing a table file
 
 -- the reply, and the lent byte buffer
 pub record WrittenForC : Type 0 where

@@ -1,24 +1,29 @@
--- Words that follow a model's are no part of it: where the questions of the records of a list that begins with a model's
--- words are all yes, those of the model's words are.
-use mathlib.Core.Path.{_≡_, refl, sym, ap, _∙_, subst}
+-- Words that follow a model's are no part of it: a list that begins with a model's words has the same answer to the questions of the
+-- records, and the same file.
+use mathlib.Core.Path.{_≡_, refl, sym, ap, ap₂, _∙_}
+use mathlib.Core.Bool.{Bool, true, false}
 use mathlib.Core.List.{List, _++_}
 use Prim.Native.Nat.{ℕ, _+_, _*_, _<_, _≤_}
 use native.Mathlib.Omega.{arith}
-use lib.Dec.{T}
 use lib.IntN.{ℤ, pos, natAbs}
-use lib.ListN.{length, take, drop, length-drop, List·getD-append}
-use lib.Seq.{take-append-le, drop-append-le}
+use lib.ListN.{length, take, drop, length-drop, take-append-drop, List·getD-append}
+use lib.Seq.{length-take-le, take-append-le, drop-append-le, getD-take}
 use Rattle.integers.specs.Words.{word, num, eqZ}
 use Rattle.integers.proofs.Tests.{by-test₂}
 use Rattle.integers.proofs.Counted.{all-ext}
-use Rattle.plant.specs.Ask.{first}
+use Rattle.integers.proofs.Buffers.{cat-ext}
+use Rattle.wire.specs.Bytes.{wordsBytes, part}
+use Rattle.wire.specs.Fields.{field}
+use Rattle.plant.specs.Ask.{_then_}
 use Rattle.plant.specs.Box.{boxAt}
-use Rattle.plant.specs.Model.{n#, L#, E#, B#, edition, locationAt, invariant, rate, startFlag, startBox, switchAt, source, target, wallVariable, sourceSide, targetSide, resetMask, guard, reset, forbiddenAt, forbiddenBox, cutAt, cutVariable, cutValue}
+use Rattle.plant.specs.Model.{n#, L#, E#, B#, edition, locationSize, switchSize, forbiddenSize, locationAt, invariant, rate, startFlag, startBox, switchAt, source, target, wallVariable, sourceSide, targetSide, resetMask, guard, reset, forbiddenAt, forbiddenBox, cutAt, cutVariable, cutValue, modelSize}
 use Rattle.plant.specs.Questions.{startOk, locationQuestions, placesOk, boxesOk, singleAt, singleOk, sourceWall, targetWall, guardOk, levelAfter, landsOk, switchQuestions, forbiddenQuestion, cutOk, cutQuestion, recordsQuestions}
-use Rattle.plant.proofs.Asks.{asked, then-both, then-intro, first-each, first-intro}
+use Rattle.plant.proofs.Asks.{first-ext}
 use Rattle.plant.proofs.Passed.{PlacesPassed, places-passed}
 use Rattle.records.specs.Whole.{Whole}
-use Rattle.records.proofs.Positions.{location-within, switch-within, forbidden-within, cut-within}
+use Rattle.records.proofs.Positions.{head-first, location-within, switch-within, forbidden-within, cut-within}
+use Rattle.model_files.specs.ModelFile.{firstTag, headFieldSize, recordField, cutField, modelFile}
+use Rattle.model_files.proofs.ModelReading.{SameHead, same-size, same-allowed}
 
 module _ (a r : List ℤ) (w : Whole a) where
   abbrev m : List ℤ
@@ -45,9 +50,12 @@ module _ (a r : List ℤ) (w : Whole a) where
   edition-same : edition m ≡ edition a
   edition-same = word-same 4 (omega (arith, w .head .there))
 
+  part-same : (at k : ℕ) → at + k ≤ length a → part m at k ≡ part a at k
+  part-same at k l = ap (take k) (drop-append-le at a r (omega arith)) ∙ take-append-le k (drop at a) r (omega (arith, length-drop at a))
+
   box-same : (at : ℕ) → at + 2 * n# a ≤ length a → boxAt (n# a) m at ≡ boxAt (n# a) a at
   unfolding boxAt
-  box-same at l = ap (take (2 * n# a)) (drop-append-le at a r (omega arith)) ∙ take-append-le (2 * n# a) (drop at a) r (omega (arith, length-drop at a))
+  box-same at = part-same at (2 * n# a)
 
   -- ---- locations
 
@@ -161,11 +169,14 @@ module _ (a r : List ℤ) (w : Whole a) where
       unfolding switchQuestions
       switch-questions-same = rw (places-same, boxes-same, single-same, guard-ok-same, lands-same) refl
 
-    switch-yes : switchQuestions m e ≡ 0 → switchQuestions a e ≡ 0
-    unfolding switchQuestions
-    switch-yes h =
-        let p : T (placesOk a e) = subst T places-same (asked (placesOk m e) 14 _ (omega arith) h .0) in
-        sym (switch-questions-same (places-passed a e (w .head .n-positive) (w .head .L-positive) p)) ∙ h
+    -- where they don't exist, 14 is asked of the same words
+    switch-all-same : switchQuestions m e ≡ switchQuestions a e
+    unfolding switchQuestions _then_
+    switch-all-same = by (placesOk a e) refl
+      where
+        by : (b : Bool) → placesOk a e ≡ b → switchQuestions m e ≡ switchQuestions a e
+        by true t = switch-questions-same (places-passed a e (w .head .n-positive) (w .head .L-positive) (rw t tt))
+        by false t = rw (places-same, t) refl
 
   -- ---- forbidden boxes
 
@@ -202,13 +213,55 @@ module _ (a r : List ℤ) (w : Whole a) where
 
   -- ---- all records, and all cuts
 
-  pub records-yes : recordsQuestions m ≡ 0 → recordsQuestions a ≡ 0
+  records-same : recordsQuestions m ≡ recordsQuestions a
   unfolding recordsQuestions
-  records-yes h =
-      let f : (first (L# m) (locationQuestions m) ≡ 0) × _ = then-both (first (L# m) (locationQuestions m)) _ h in
-      let g : (first (E# m) (switchQuestions m) ≡ 0) × _ = then-both (first (E# m) (switchQuestions m)) _ (f .1) in
-      let k : (first (B# m) (forbiddenQuestion m) ≡ 0) × (first (L# m) (cutQuestion m) ≡ 0) = then-both (first (B# m) (forbiddenQuestion m)) (first (L# m) (cutQuestion m)) (g .1) in
-      then-intro (first-intro (L# a) (locationQuestions a) (λ l u. sym (location-questions-same l u) ∙ first-each (L# m) (locationQuestions m) (f .0) l (rw L-same u)))
-      (then-intro (first-intro (E# a) (switchQuestions a) (λ e u. switch-yes e u (first-each (E# m) (switchQuestions m) (g .0) e (rw E-same u))))
-      (then-intro (first-intro (B# a) (forbiddenQuestion a) (λ b u. sym (forbidden-question-same b u) ∙ first-each (B# m) (forbiddenQuestion m) (k .0) b (rw B-same u)))
-      (first-intro (L# a) (cutQuestion a) (λ l u. sym (cut-question-same l u) ∙ first-each (L# m) (cutQuestion m) (k .1) l (rw L-same u)))))
+  records-same =
+      rw (
+        L-same,
+        E-same,
+        B-same,
+        first-ext (L# a) (locationQuestions m) (locationQuestions a) location-questions-same,
+        first-ext (E# a) (switchQuestions m) (switchQuestions a) switch-all-same,
+        first-ext (B# a) (forbiddenQuestion m) (forbiddenQuestion a) forbidden-question-same,
+        first-ext (L# a) (cutQuestion m) (cutQuestion a) cut-question-same,
+      ) refl
+
+  -- ---- the file
+
+  field-same : (tag at size : ℕ) → at + size ≤ length a → recordField tag m at size ≡ recordField tag a at size
+  field-same tag at size l = ap (λ (zs : List ℤ). field tag (wordsBytes zs)) (part-same at size l)
+
+  file-same : modelFile m ≡ modelFile a
+  unfolding modelFile
+  file-same =
+      rw (n-same, L-same, E-same, B-same, edition-same)
+      (ap₂ (λ (s t : List ℕ). s ++ t) (field-same (firstTag (edition a)) 0 headFieldSize (omega (arith, w .head .there)))
+      (ap₂ (λ (s t : List ℕ). s ++ t) (cat-ext (L# a) _ _ (λ l u. rw (location-same l) (field-same 2 (locationAt a l) (locationSize (n# a)) (location-within a w l u))))
+      (ap₂ (λ (s t : List ℕ). s ++ t) (cat-ext (E# a) _ _ (λ e u. rw (switch-same e) (field-same 3 (switchAt a e) (switchSize (n# a)) (switch-within a w e u))))
+      (ap₂ (λ (s t : List ℕ). s ++ t) (cat-ext (B# a) _ _ (λ b u. rw (forbidden-same b) (field-same 4 (forbiddenAt a b) (forbiddenSize (n# a)) (forbidden-within a w b u))))
+      (cat-ext (L# a) _ _ (λ l u. ap₂ (cutField l) (cut-variable-same l u) (cut-value-same l u)))))))
+
+-- ---- the words of a model alone, and with words that follow
+
+module _ (m : List ℤ) where
+  abbrev pub alone : List ℤ
+  alone = take (modelSize m) m
+
+  pub same-alone : SameHead alone m
+  same-alone j l = getD-take (modelSize m) m j (pos 0) (omega (arith, head-first m))
+
+  module _ (w : Whole m) where
+    pub length-alone : length alone ≡ modelSize m
+    length-alone = length-take-le (modelSize m) m (w .long)
+
+    alone-whole : Whole alone
+    alone-whole = record {
+      head = same-allowed alone m same-alone (omega (arith, length-alone, head-first m)) (w .head);
+      long = omega (arith, length-alone, same-size alone m same-alone);
+    }
+
+    pub records-alone : recordsQuestions alone ≡ recordsQuestions m
+    records-alone = sym (records-same alone (drop (modelSize m) m) alone-whole) ∙ ap recordsQuestions (take-append-drop (modelSize m) m)
+
+    pub file-alone : modelFile alone ≡ modelFile m
+    file-alone = sym (file-same alone (drop (modelSize m) m) alone-whole) ∙ ap modelFile (take-append-drop (modelSize m) m)

@@ -106,6 +106,31 @@ record Write : Type 0 where
   cut-one-byte-less : writeModelCall cutP (bytes 111) .count ≡ Refused 40
   cut-at-wall : writeModelCall (set cutP 24 (pos 10)) [] .count ≡ Refused 46
 
+-- a plant of edition 2 with a field of every kind: n 1, two locations, a switch, a forbidden box, location 1 cut at 8
+abbrev small : List ℤ
+small =
+    pos 1 ∷ pos 2 ∷ pos 1 ∷ pos 1 ∷ pos 2 ∷
+    pos 0 ∷ pos 9 ∷ pos 1 ∷ pos 1 ∷ pos 1 ∷ pos 0 ∷ pos 3 ∷
+    pos 0 ∷ pos 9 ∷ negsuc 0 ∷ negsuc 0 ∷ pos 0 ∷ pos 0 ∷ pos 0 ∷
+    pos 0 ∷ pos 1 ∷ pos 0 ∷ pos 1 ∷ pos 1 ∷ pos 0 ∷ pos 9 ∷ pos 9 ∷ pos 0 ∷ pos 9 ∷
+    pos 1 ∷ negsuc 1 ∷ negsuc 0 ∷
+    negsuc 0 ∷ pos 0 ∷ pos 0 ∷ pos 8 ∷ []
+
+-- its file, byte by byte
+abbrev smallFile : List ℕ
+smallFile =
+    9 ∷ 0 ∷ 16 ∷ 0 ∷ 0 ∷ 0 ∷ 1 ∷ 0 ∷ 0 ∷ 0 ∷ 2 ∷ 0 ∷ 0 ∷ 0 ∷ 1 ∷ 0 ∷ 0 ∷ 0 ∷ 1 ∷
+    2 ∷ 0 ∷ 28 ∷ 0 ∷ 0 ∷ 0 ∷ 0 ∷ 0 ∷ 0 ∷ 0 ∷ 9 ∷ 0 ∷ 0 ∷ 0 ∷ 1 ∷ 0 ∷ 0 ∷ 0 ∷ 1 ∷ 0 ∷ 0 ∷ 0 ∷ 1 ∷ 0 ∷ 0 ∷ 0 ∷ 0 ∷ 0 ∷ 0 ∷ 0 ∷ 3 ∷
+    2 ∷ 0 ∷ 28 ∷ 0 ∷ 0 ∷ 0 ∷ 0 ∷ 0 ∷ 0 ∷ 0 ∷ 9 ∷ 255 ∷ 255 ∷ 255 ∷ 255 ∷ 255 ∷ 255 ∷ 255 ∷ 255 ∷ 0 ∷ 0 ∷ 0 ∷ 0 ∷ 0 ∷ 0 ∷ 0 ∷ 0 ∷ 0 ∷ 0 ∷ 0 ∷ 0 ∷
+    3 ∷ 0 ∷ 40 ∷ 0 ∷ 0 ∷ 0 ∷ 0 ∷ 0 ∷ 0 ∷ 0 ∷ 1 ∷ 0 ∷ 0 ∷ 0 ∷ 0 ∷ 0 ∷ 0 ∷ 0 ∷ 1 ∷ 0 ∷ 0 ∷ 0 ∷ 1 ∷ 0 ∷ 0 ∷ 0 ∷ 0 ∷ 0 ∷ 0 ∷ 0 ∷ 9 ∷ 0 ∷ 0 ∷ 0 ∷ 9 ∷ 0 ∷ 0 ∷ 0 ∷ 0 ∷ 0 ∷ 0 ∷ 0 ∷ 9 ∷
+    4 ∷ 0 ∷ 12 ∷ 0 ∷ 0 ∷ 0 ∷ 1 ∷ 255 ∷ 255 ∷ 255 ∷ 254 ∷ 255 ∷ 255 ∷ 255 ∷ 255 ∷
+    8 ∷ 0 ∷ 12 ∷ 0 ∷ 0 ∷ 0 ∷ 1 ∷ 0 ∷ 0 ∷ 0 ∷ 0 ∷ 0 ∷ 0 ∷ 0 ∷ 8 ∷ []
+
+record InBytes : Type 0 where
+  is-file : modelFile small ≡ smallFile
+  written : writeModelCall small (bytes 155) ≡ record { count = Done 154; file = smallFile ++ (7 ∷ []) }
+  reads : readModelCall smallFile (replicate 37 (pos 7)) ≡ record { count = Done 36; words = small ++ (pos 7 ∷ []) }
+
 read : Read
 unfolding onto cat allBelow bitsAt wordAt wordsAt wordBytes wordsBytes fieldAt field _then_ first low high boxBy boxAt locationAt invariant rate startFlag startBox switchAt forbiddenAt forbiddenLocation forbiddenBox cutAt cutVariable cutValue modelSize boxOk insideOk zerosOk startOk locationQuestions forbiddenQuestion strictlyInside cutOk cutQuestion rangesQuestions recordsQuestions plantP P modelFile runQuestions headWords headQuestions cutWordsOk cutFieldQuestions endQuestions cutsQuestions bodyQuestions runWords recordWords fileCut cutWords fileWords recordsFileQuestions unlessRefused readModelCall
 read = record { file-length = refl; reads = refl; too-short = refl; one-byte-more = refl; one-byte-less = refl; no-byte = refl }
@@ -163,3 +188,7 @@ write = record {
   cut-one-byte-less = refl;
   cut-at-wall = refl;
 }
+
+in-bytes : InBytes
+unfolding onto cat allBelow bitsAt wordAt wordsAt wordBytes wordsBytes fieldAt field _then_ first low high boxBy boxAt locationAt invariant rate startFlag startBox switchAt forbiddenAt forbiddenLocation forbiddenBox cutAt cutVariable cutValue modelSize boxOk insideOk zerosOk startOk locationQuestions forbiddenQuestion strictlyInside cutOk cutQuestion rangesQuestions recordsQuestions plantP P modelFile runQuestions headWords headQuestions cutWordsOk cutFieldQuestions endQuestions cutsQuestions bodyQuestions runWords recordWords fileCut cutWords fileWords recordsFileQuestions unlessRefused readModelCall source target wallVariable sourceSide targetSide resetMask masked guard reset wall placesOk boxesOk singleAt singleOk sourceWall targetWall guardOk levelAfter landsOk switchQuestions editionQuestion modelQuestions writeModelQuestions writeModelCall
+in-bytes = record { is-file = refl; written = refl; reads = refl }

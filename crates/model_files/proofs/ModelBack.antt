@@ -1,41 +1,38 @@
 -- Reading and writing a model file undo each other: both are about the file of the words, and reading is exact.
-use mathlib.Core.Path.{_≡_, refl, sym, ap, ap₂, subst, _∙_}
+use mathlib.Core.Path.{_≡_, refl, sym, ap, ap₂, _∙_}
 use mathlib.Core.Bool.{Bool, true, false, cond}
-use mathlib.Core.List.{List, [], _∷_, _++_}
+use mathlib.Core.List.{List}
 use Prim.Native.Nat.{ℕ, zero, suc, _+_, _*_, _≤_, _<_}
+use native.Mathlib.Decide.{decLt}
 use native.Mathlib.Omega.{arith}
-use borrow.Author.Tests.{lt-leb}
+use borrow.Author.Tests.{le-leb, lt-leb}
 use lib.Dec.{leb, le→leb, leb→le}
-use lib.IntN.{ℤ, pos, negsuc}
+use lib.IntN.{ℤ, negsuc}
 use lib.ListN.{length, take}
-use lib.Seq.{length-take-le}
+use lib.Seq.{length-take-le, take-all}
 use Rattle.integers.specs.Words.{eqZ, AreWords, AreBytes, onto}
-use Rattle.integers.specs.Counted.{cat, sumBelow}
-use Rattle.integers.proofs.Every.{every-append, every-cat}
-use Rattle.integers.proofs.Tests.{by-test}
+use Rattle.integers.specs.Counted.{sumBelow}
 use Rattle.integers.proofs.Buffers.{take-onto, length-cat-sum}
-use Rattle.wire.specs.Bytes.{wordsBytes, part}
 use Rattle.wire.specs.Fields.{fieldLength}
-use Rattle.wire.proofs.Words.{length-bytes, length-part, part-words, no-bytes, words-are-bytes}
-use Rattle.wire.proofs.Fields.{field-are-bytes}
 use Rattle.plant.specs.declared.Count.the-variants.{Done, Refused}
 use Rattle.plant.specs.Ask.{ask, _then_}
-use Rattle.plant.specs.Model.{n#, L#, E#, B#, edition, locationSize, switchSize, forbiddenSize, locationAt, switchAt, forbiddenAt, cutVariable, cutValue, modelSize}
-use Rattle.plant.specs.Questions.{modelQuestions}
-use Rattle.plant.specs.Calls.{ReadOutcome, readReply, wordsRead, writeReply, bytesWritten, writeBy}
+use Rattle.plant.specs.Model.{n#, L#, E#, B#, cutVariable, modelSize}
+use Rattle.plant.specs.Questions.{rangesQuestions, editionQuestion, recordsQuestions, modelQuestions}
+use Rattle.plant.specs.Calls.{readReply, wordsRead, writeReply, bytesWritten, writeBy}
 use Rattle.plant.proofs.Asks.{ask-intro, ask-le, ask-yes, then-both, then-intro, then-le}
 use Rattle.plant.proofs.Numbers.{model-le}
-use Rattle.plant.proofs.Passed.{Passed, passed}
+use Rattle.plant.proofs.Passed.{passed}
 use Rattle.plant.proofs.Writing.{not-refused}
 use Rattle.records.specs.Whole.{Whole}
-use Rattle.records.proofs.Positions.{location-within, switch-within, forbidden-within}
-use Rattle.model.proofs.Passing.{whole-passed}
-use Rattle.model_files.specs.ModelFile.{firstTag, headFieldSize, cutFieldSize, recordField, modelFile, fileRoomQuestion, readModelCall, writeModelQuestions, writeModelCall}
+use Rattle.records.proofs.Positions.{head-first}
+use Rattle.model.proofs.Passing.{head-passed, whole-passed}
+use Rattle.model_files.specs.ModelFile.{cutFieldSize, modelFile, fileRoomQuestion, readModelCall, writeModelQuestions, writeModelCall}
 use Rattle.model_files.specs.ModelFilesExact.{IsModelFile}
 use Rattle.model_files.specs.Room.{cutFieldOf, cutFields}
 use Rattle.model_files.specs.ModelBack.{cutLocations, ModelBack}
-use Rattle.model_files.proofs.ModelReading.{cuts-small}
-use Rattle.model_files.proofs.ModelRoundTrip.{headField, locations, switches, forbiddens, cuts, cut-fits, model-files-exact}
+use Rattle.model_files.proofs.ModelReading.{same-size, same-ranges, same-edition, cuts-small}
+use Rattle.model_files.proofs.Beginning.{alone, same-alone, records-alone, file-alone}
+use Rattle.model_files.proofs.ModelRoundTrip.{model-files-exact}
 use Rattle.model_files.proofs.ModelWriting as writing
 use Rattle.model_files.proofs.ModelWriting.{length-cut, cuts-most}
 
@@ -49,6 +46,10 @@ module _ (m : List ℤ) (bytes : List ℕ) (asks : modelQuestions m ≡ 0) where
   too-short : length bytes < length (modelFile m) → writeModelCall m bytes ≡ record { count = Refused 40; file = bytes }
   unfolding writeModelCall writeModelQuestions _then_
   too-short h = rw (asks, lt-leb (length (modelFile m)) (length bytes) h) refl
+
+refused-by : (m : List ℤ) (bytes : List ℕ) (q : ℕ) → modelQuestions m ≡ suc q → writeModelCall m bytes ≡ record { count = Refused (suc q); file = bytes }
+unfolding writeModelCall writeModelQuestions _then_
+refused-by m bytes q e = rw e refl
 
 -- a call that is done had its questions answered yes
 write-asked : (m : List ℤ) (bytes : List ℕ) → writeReply (writeModelCall m bytes) .code ≡ 100 → (modelQuestions m ≡ 0) × (length (modelFile m) ≤ length bytes)
@@ -101,64 +102,43 @@ read-written s words bytes b code = writes s (wordsRead (readModelCall s words))
 
 -- ---- words past the model's length
 
-module _ (m : List ℤ) (f : AreWords m) (asks : modelQuestions m ≡ 0) where
-  ok : Passed m
-  ok = passed m asks
+module _ (m : List ℤ) where
+  -- where there are some, the questions up to those of the records are of the same words, and 5 is yes of both
+  asked-alone : modelSize m ≤ length m → modelQuestions (alone m) ≡ modelQuestions m
+  unfolding modelQuestions _then_
+  asked-alone long =
+      let k : length (alone m) ≡ modelSize m = length-take-le (modelSize m) m long in
+      let same : modelSize (alone m) ≡ modelSize m = same-size (alone m) m (same-alone m) in
+      rw (le-leb 5 (length (alone m)) (omega (arith, k, head-first m)), le-leb 5 (length m) (omega (arith, head-first m)), same-ranges (alone m) m (same-alone m), same-edition (alone m) m (same-alone m), le-leb (modelSize (alone m)) (length (alone m)) (omega (arith, k, same)), le-leb (modelSize m) (length m) long)
+      (by (rangesQuestions m) refl)
+    where
+      by : (q : ℕ) → rangesQuestions m ≡ q → (0 then (q then (editionQuestion m then (0 then recordsQuestions (alone m))))) ≡ (0 then (q then (editionQuestion m then (0 then recordsQuestions m))))
+      by zero e = ap (λ (x : ℕ). editionQuestion m then x) (records-alone m (record { head = head-passed m (omega (arith, head-first m)) e; long = long }))
+      by (suc q) e = refl
 
-  w : Whole m
-  w = whole-passed m ok
+  questions-alone : modelQuestions (alone m) ≡ modelQuestions m
+  questions-alone = by (decLt (length m) (modelSize m))
+    where
+      by : Dec (length m < modelSize m) → modelQuestions (alone m) ≡ modelQuestions m
+      by (yes h) = ap modelQuestions (take-all (modelSize m) m (omega arith))
+      by (no h) = asked-alone (omega arith)
 
-  -- the file is bytes
-  record-bytes : (tag from size : ℕ) → tag < 256 → from + size ≤ length m → size ≤ 37 → AreBytes (recordField tag m from size)
-  record-bytes tag from size t there few =
-      field-are-bytes tag (wordsBytes (part m from size)) t (omega (arith, length-bytes (part m from size), length-part m from size there)) (words-are-bytes (part m from size) (part-words m from size f))
-
-  cut-are-bytes : (l : ℕ) → l < L# m → AreBytes (cutFieldOf m l)
-  cut-are-bytes l u =
-      let words : List ℤ = pos l ∷ cutVariable m l ∷ cutValue m l ∷ [] in
-      by-test AreBytes (eqZ (cutVariable m l) (negsuc 0)) (λ _. no-bytes) (λ _. field-are-bytes 8 (wordsBytes words) (omega arith) (omega (arith, length-bytes words)) (words-are-bytes words (cut-fits m w ok f l u)))
-
-  run-bytes : (k : ℕ) (g : ℕ → List ℕ) → ((i : ℕ) → i < k → AreBytes (g i)) → AreBytes (cat k g)
-  run-bytes k g = every-cat (λ (b : ℕ). b < 256) 0 (omega arith) k g
-
-  joined : (s t : List ℕ) → AreBytes s → AreBytes t → AreBytes (s ++ t)
-  joined s t = every-append (λ (b : ℕ). b < 256) 0 s t
-
-  file-bytes : AreBytes (modelFile m)
-  unfolding modelFile
-  file-bytes =
-      let small : n# m ≤ 6 = ok .n-small in
-      joined (headField m) (locations m ++ (switches m ++ (forbiddens m ++ cuts m)))
-      (record-bytes (firstTag (edition m)) 0 headFieldSize (by-test (λ (tag : ℕ). tag < 256) (eqZ (edition m) (pos 2)) (λ _. omega arith) (λ _. omega arith)) (omega (arith, w .head .there)) (omega arith))
-      (joined (locations m) (switches m ++ (forbiddens m ++ cuts m))
-      (run-bytes (L# m) (λ l. recordField 2 m (locationAt m l) (locationSize (n# m))) (λ l u. record-bytes 2 (locationAt m l) (locationSize (n# m)) (omega arith) (location-within m w l u) (omega arith)))
-      (joined (switches m) (forbiddens m ++ cuts m)
-      (run-bytes (E# m) (λ e. recordField 3 m (switchAt m e) (switchSize (n# m))) (λ e u. record-bytes 3 (switchAt m e) (switchSize (n# m)) (omega arith) (switch-within m w e u) (omega arith)))
-      (joined (forbiddens m) (cuts m)
-      (run-bytes (B# m) (λ b. recordField 4 m (forbiddenAt m b) (forbiddenSize (n# m))) (λ b u. record-bytes 4 (forbiddenAt m b) (forbiddenSize (n# m)) (omega arith) (forbidden-within m w b u) (omega arith)))
-      (run-bytes (L# m) (cutFieldOf m) cut-are-bytes))))
-
-  -- so it is read, and is the file of the words that are read: the model's alone
-  abbrev alone : List ℤ
-  alone = take (modelSize m) m
-
-  file-of-alone : IsModelFile (modelFile m) alone
-  file-of-alone =
-      let o : readModelCall (modelFile m) m ≡ record { count = Done (modelSize m); words = onto alone m } = model-files-exact .file-reads m m asks f (ok .long) in
-      let is : wordsRead (readModelCall (modelFile m) m) ≡ alone = ap wordsRead o ∙ take-onto alone m (modelSize m) (length-take-le (modelSize m) m (ok .long)) in
-      subst (IsModelFile (modelFile m)) is (model-files-exact .read-is-file (modelFile m) m file-bytes (ap (λ (x : ReadOutcome). readReply x .code) o))
-
-  no-more : (bytes : List ℕ) → writeModelCall alone bytes ≡ writeModelCall m bytes
+  words-behind : (bytes : List ℕ) → writeModelCall (alone m) bytes ≡ writeModelCall m bytes
   unfolding writeModelCall writeModelQuestions
-  no-more bytes = ap₂ (λ (q : ℕ) (s : List ℕ). writeBy (q then ask (leb (length s) (length bytes)) 40) s bytes) (file-of-alone .passes ∙ sym asks) (sym (file-of-alone .is-file))
+  words-behind bytes = by (modelQuestions m) refl
+    where
+      by : (q : ℕ) → modelQuestions m ≡ q → writeModelCall (alone m) bytes ≡ writeModelCall m bytes
+      by zero e = ap₂ (λ (q : ℕ) (s : List ℕ). writeBy (q then ask (leb (length s) (length bytes)) 40) s bytes) questions-alone (file-alone m (whole-passed m (passed m e)))
+      by (suc q) e = refused-by (alone m) bytes q (questions-alone ∙ e) ∙ sym (refused-by m bytes q e)
 
 pub model-back : ModelBack
 model-back = record {
   written = written;
   too-short = too-short;
+  refused-by = refused-by;
   file-length = file-length;
   longest = longest;
   written-read = written-read;
   read-written = read-written;
-  no-more = λ m bytes f asks. no-more m f asks bytes;
+  words-behind = words-behind;
 }

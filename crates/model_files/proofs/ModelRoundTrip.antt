@@ -10,7 +10,7 @@ use lib.Dec.{T, leb, eqb, le→leb, eqb-refl}
 use lib.IntN.{ℤ, pos, negsuc}
 use lib.Signed.{nonNeg}
 use lib.ListN.{length, getD, take, drop, length-append, length-drop, take-append-drop}
-use lib.Seq.{getD-at, take-add, take-at, drop-at, length-take-le, getD-take, getD-drop, getD-append-add}
+use lib.Seq.{getD-at, take-add, take-at, drop-at, getD-take, getD-drop, getD-append-add}
 use mir.Facts.{sfits-lit}
 use Rattle.integers.specs.Words.{word, within, AreWords, AreBytes, onto}
 use Rattle.integers.specs.Counted.{cat}
@@ -39,17 +39,17 @@ use Rattle.records.proofs.Positions.{head-first, location-within, switch-within
 use Rattle.model.proofs.Passing.{whole-passed}
 use Rattle.model_files.specs.ModelFile.{firstTag, editionOf, recordField, cutField, modelFile, hasTag, fieldQuestions, runQuestions, headWords, isHead, headQuestions, bufferQuestion, recordsFileQuestions, switchesFrom, forbiddensFrom, cutsFrom, cutPlace, cutFieldWords, leastLocation, cutWordsOk, cutFieldQuestions, endQuestions, cutsQuestions, bodyQuestions, runWords, recordWords, fileCut, cutWords, fileWords, readModelCall}
 use Rattle.model_files.specs.ModelFilesExact.{IsModelFile, ModelFilesExact}
-use Rattle.model_files.proofs.Beginning.{records-yes}
+use Rattle.model_files.proofs.Beginning.{records-alone}
 use Rattle.model_files.proofs.Cuts.{length-cut}
 use Rattle.model_files.proofs.CutsBack.{cuts-stand, cuts-asked, cuts-read}
 use Rattle.model_files.proofs.FirstField.{FirstField, first-field, edition-back, edition-within, head-is, length-head, one-more}
-use Rattle.model_files.proofs.ModelReading.{SameHead, same-size, same-ranges, same-edition, same-body, same-words, same-allowed, same-file, to-cuts, length-file, length-run, BodyPassed, body-passed, switches-at, forbiddens-at, cuts-at, words-end}
+use Rattle.model_files.proofs.ModelReading.{SameHead, same-size, same-ranges, same-edition, same-body, same-words, same-file, to-cuts, length-file, length-run, BodyPassed, body-passed, switches-at, forbiddens-at, cuts-at, words-end}
 
 -- ---- lists in four parts
 
 module _ {A : Type 0} where
   -- the front of a list, in four parts
-  pub four-parts : (l : List A) (x a b c : ℕ) → take x l ++ (part l x a ++ (part l (x + a) b ++ part l (x + a + b) c)) ≡ take (x + a + b + c) l
+  four-parts : (l : List A) (x a b c : ℕ) → take x l ++ (part l x a ++ (part l (x + a) b ++ part l (x + a + b) c)) ≡ take (x + a + b + c) l
   four-parts l x a b c =
       ap (λ (r : List A). take x l ++ r) (sym (append-assoc (part l x a) (part l (x + a) b) (part l (x + a + b) c)))
       ∙ sym (append-assoc (take x l) (part l x a ++ part l (x + a) b) (part l (x + a + b) c))
@@ -67,7 +67,7 @@ module _ {A : Type 0} where
       ∙ take-append-drop (x + a + b + c) l
 
   -- list i of lists of one length, after p
-  pub part-of-cat : (p : List A) (g : ℕ → List A) (q : List A) (k w at i : ℕ) → length p ≡ at → ((i : ℕ) → i < k → length (g i) ≡ w) → i < k → part (p ++ (cat k g ++ q)) (at + i * w) w ≡ g i
+  part-of-cat : (p : List A) (g : ℕ → List A) (q : List A) (k w at i : ℕ) → length p ≡ at → ((i : ℕ) → i < k → length (g i) ≡ w) → i < k → part (p ++ (cat k g ++ q)) (at + i * w) w ≡ g i
   part-of-cat p g q k w at i e lens l =
       let c = cat-at g k i l in
       let around : p ++ (cat k g ++ q) ≡ (p ++ cat i g) ++ (g i ++ (c .0 ++ q)) =
@@ -182,7 +182,7 @@ module _ (m : List ℤ) where
     module _ (ok : Passed m) (f : AreWords m) where
       -- the words of each location's cut
 
-      pub cut-fits : (l : ℕ) → l < L# m → AreWords (pos l ∷ cutVariable m l ∷ cutValue m l ∷ [])
+      cut-fits : (l : ℕ) → l < L# m → AreWords (pos l ∷ cutVariable m l ∷ cutValue m l ∷ [])
       unfolding cutVariable cutValue
       cut-fits l u zero = fits32 {z = pos l} (omega (arith, ok .L-small))
       cut-fits l u (suc zero) = f (cutAt m l)
@@ -264,22 +264,6 @@ module _ (m : List ℤ) where
           ∙ sym (take-add (5 + L# m * (6 * n# m + 1) + E# m * (6 + 4 * n# m) + B# m * (1 + 2 * n# m)) (L# m * 2) m)
           ∙ ap (λ (k : ℕ). take k m) size-is
 
-      -- the model's words alone pass, too
-
-      front-same : SameHead (take (modelSize m) m) m
-      front-same j l = getD-take (modelSize m) m j (pos 0) (omega (arith, head-first m))
-
-      front-whole : model.Whole (take (modelSize m) m)
-      front-whole =
-          let l : length (take (modelSize m) m) ≡ modelSize m = length-take-le (modelSize m) m (ok .long) in
-          record {
-            head = same-allowed (take (modelSize m) m) m front-same (omega (arith, l, head-first m)) (w .head);
-            long = omega (arith, l, same-size (take (modelSize m) m) m front-same);
-          }
-
-      front-records : recordsQuestions m ≡ 0 → recordsQuestions (take (modelSize m) m) ≡ 0
-      front-records h = records-yes (take (modelSize m) m) (drop (modelSize m) m) front-whole (ap recordsQuestions (take-append-drop (modelSize m) m) ∙ h)
-
       reads : (words : List ℤ) → rangesQuestions m ≡ 0 → recordsQuestions m ≡ 0 → modelSize m ≤ length words
           → record { count = Done (modelSize m); words = onto (take (modelSize m) m) words } ≡ readModelCall s words
       unfolding readModelCall headQuestions recordsFileQuestions
@@ -288,7 +272,7 @@ module _ (m : List ℤ) where
           past _
           (then-intro (then-intro (ask-intro (isHead (fieldAt s 0)) 1 head-yes) (same-ranges (headWords s) m same ∙ ranges))
           (ask-intro (leb (modelSize (headWords s)) (length words)) 5 (le→leb (modelSize (headWords s)) (length words) (omega (arith, size)))))
-          (past _ (then-intro (same-body (headWords s) m same s ∙ body-yes) (ap recordsQuestions words-are ∙ front-records records))
+          (past _ (then-intro (same-body (headWords s) m same s ∙ body-yes) (ap recordsQuestions words-are ∙ records-alone m w ∙ records))
           (rw (size, words-are) refl))
 
 -- ---- no refusal is 100
@@ -359,7 +343,7 @@ module _ (s : List ℕ) where
   length-read : length (fileWords s (headWords s)) ≡ modelSize (headWords s)
   length-read = length-file s (headWords s) (length-head s)
 
-  pub read-size : modelSize (fileWords s (headWords s)) ≡ modelSize (headWords s)
+  read-size : modelSize (fileWords s (headWords s)) ≡ modelSize (headWords s)
   read-size = same-size (fileWords s (headWords s)) (headWords s) same-read
 
   edition-read : edition (headWords s) ≡ editionOf (getD s 0 0)
@@ -455,7 +439,7 @@ module _ (s : List ℕ) (b : AreBytes s) (first : FirstField s) (some : 0 < L# (
       (cuts-again (5 + L# h * (6 * n# h + 1) + E# h * (6 + 4 * n# h) + B# h * (1 + 2 * n# h)) (to-cuts s h (length-head s) ∙ omega (arith, switches-at h, forbiddens-at h, cuts-at h))))))
       ∙ five-parts s 19 (L# h * (3 + 4 * (6 * n# h + 1))) (E# h * (3 + 4 * (6 + 4 * n# h))) (B# h * (3 + 4 * (1 + 2 * n# h))))
 
-  pub read-file : rangesQuestions h ≡ 0 → recordsQuestions a ≡ 0 → IsModelFile s a
+  read-file : rangesQuestions h ≡ 0 → recordsQuestions a ≡ 0 → IsModelFile s a
   read-file ranges records = record { is-file = is-file; passes = read-passes s ranges records; no-more = length-read s ∙ sym (read-size s) }
 
 head-passed : (s : List ℕ) → headQuestions s ≡ 0 → FirstField s × (rangesQuestions (headWords s) ≡ 0)

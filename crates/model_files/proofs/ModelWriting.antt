@@ -87,6 +87,10 @@ length-by : (cut : Bool) (l : ℕ) (v x : ℤ) → length (cond cut [] (field 8 
 length-by true l v x = refl
 length-by false l v x = omega (arith, length-field 8 (wordsBytes (pos l ∷ v ∷ x ∷ [])), length-bytes (pos l ∷ v ∷ x ∷ []))
 
+pub cut-le : (cut : Bool) → cond cut 0 (fieldLength cutFieldSize) ≤ fieldLength cutFieldSize
+cut-le true = omega arith
+cut-le false = omega arith
+
 module _ (m : List ℤ) where
   pub length-cut : (l : ℕ) → length (cutFieldOf m l) ≡ cond (eqZ (cutVariable m l) (negsuc 0)) 0 (fieldLength cutFieldSize)
   length-cut l = length-by (eqZ (cutVariable m l) (negsuc 0)) l (cutVariable m l) (cutValue m l)
@@ -94,10 +98,6 @@ module _ (m : List ℤ) where
   -- one location more
   pub cuts-more : (l : ℕ) {bytes r : ℕ} → bytes ≡ length (cat l (cutFieldOf m)) → r ≡ cond (eqZ (cutVariable m l) (negsuc 0)) 0 (fieldLength cutFieldSize) → bytes + r ≡ length (cat (l + 1) (cutFieldOf m))
   cuts-more l eb er = rw (cat-more l (cutFieldOf m)) (omega (arith, eb, er, length-cut l, length-append (cat l (cutFieldOf m)) (cutFieldOf m l)))
-
-  cut-le : (cut : Bool) → cond cut 0 (fieldLength cutFieldSize) ≤ fieldLength cutFieldSize
-  cut-le true = omega arith
-  cut-le false = omega arith
 
   pub cuts-le : (l : ℕ) → length (cat l (cutFieldOf m)) ≤ l * fieldLength cutFieldSize
   unfolding cat

@@ -2,7 +2,7 @@
 use mathlib.Core.Path.{_≡_}
 use mathlib.Core.Bool.{cond}
 use mathlib.Core.List.{List}
-use Prim.Native.Nat.{ℕ, _+_, _*_, _≤_, _<_}
+use Prim.Native.Nat.{ℕ, suc, _+_, _*_, _≤_, _<_}
 use lib.IntN.{ℤ, negsuc}
 use lib.ListN.{length, take}
 use Rattle.integers.specs.Words.{eqZ, AreWords, AreBytes, onto}
@@ -24,6 +24,8 @@ pub record ModelBack : Type 0 where
   -- and into no shorter one: 40, and nothing is written
   pub too-short : (m : List ℤ) (bytes : List ℕ) → modelQuestions m ≡ 0 → length bytes < length (modelFile m)
       → writeModelCall m bytes ≡ record { count = Refused 40; file = bytes }
+  -- every other list gets the number of the first question that it fails, whatever the buffer, and nothing is written
+  pub refused-by : (m : List ℤ) (bytes : List ℕ) (q : ℕ) → modelQuestions m ≡ suc q → writeModelCall m bytes ≡ record { count = Refused (suc q); file = bytes }
   -- how long the file is, and that none is longer than 29,907 bytes
   pub file-length : (m : List ℤ) → modelQuestions m ≡ 0
       → length (modelFile m) ≡ 19 + L# m * (24 * n# m + 7) + E# m * (16 * n# m + 27) + B# m * (8 * n# m + 7) + cutLocations m * 15
@@ -35,4 +37,4 @@ pub record ModelBack : Type 0 where
   pub read-written : (s : List ℕ) (words : List ℤ) (bytes : List ℕ) → AreBytes s → readReply (readModelCall s words) .code ≡ 100 → length s ≤ length bytes
       → writeModelCall (wordsRead (readModelCall s words)) bytes ≡ record { count = Done (length s); file = onto s bytes }
   -- words past the model's length are not part of it
-  pub no-more : (m : List ℤ) (bytes : List ℕ) → AreWords m → modelQuestions m ≡ 0 → writeModelCall (take (modelSize m) m) bytes ≡ writeModelCall m bytes
+  pub words-behind : (m : List ℤ) (bytes : List ℕ) → writeModelCall (take (modelSize m) m) bytes ≡ writeModelCall m bytes

@@ -203,5 +203,5 @@ fileRoomQuestion m room = ask (leb (length (modelFile m)) room) 40
 unfoldable pub writeModelQuestions : (m : List ℤ) (room : ℕ) → ℕ
 writeModelQuestions m room = modelQuestions m then fileRoomQuestion m room
 
-unfoldable pub writeModelCall : (m : List ℤ) (file : List ℕ) → WriteOutcome
-writeModelCall m file = writeBy (writeModelQuestions m (length file)) (modelFile m) file
+unfoldable pub writeModelCall : (m : List ℤ) (buffer : List ℕ) → WriteOutcome
+writeModelCall m buffer = writeBy (writeModelQuestions m (length buffer)) (modelFile m) buffer

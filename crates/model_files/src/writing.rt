@@ -15,7 +15,7 @@ ghost use lib.ListN.{length, take};
 ghost use Rattle.integers.specs.Words.{eqZ, onto};
 ghost use Rattle.wire.specs.Fields.{fieldLength};
 ghost use Rattle.records.specs.Whole.{Whole};
-ghost use Rattle.model_files.specs.ModelFile.{firstTag, cutFieldSize, recordField, modelFile, cutsFrom, fileRoomQuestion, writeModelQuestions, writeModelCall};
+ghost use Rattle.model_files.specs.ModelFile.{firstTag, cutFieldSize, recordField, modelFile, cutsFrom, writeModelQuestions, writeModelCall};
 ghost use Rattle.model_files.specs.UncutFile.{recordsFile};
 ghost use Rattle.model_files.specs.Room.{recordFields, RunRoom, cutFieldOf, cutFields, CutRoom, FileRoom};
 
@@ -23,7 +23,7 @@ ghost use Rattle.model_files.specs.Room.{recordFields, RunRoom, cutField
 
 // The field of a location's cut, by the cut's variable: none where it is uncut.
 fn cut_length(variable: i32) -> usize
-    ensures { λ r. ⌜ (r ≡ cond (eqZ variable (negsuc 0)) 0 (fieldLength cutFieldSize)) × (r ≤ fieldLength cutFieldSize) ⌝ }
+    ensures { λ r. ⌜ r ≡ cond (eqZ variable (negsuc 0)) 0 (fieldLength cutFieldSize) ⌝ }
 {
     if integers::same(variable, -1) {
         0

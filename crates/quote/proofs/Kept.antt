@@ -12,7 +12,6 @@ use Rattle.plant.specs.Questions.{modelQuestions}
 use Rattle.plant.specs.Tables.{tableSize, longestTableFile, tableOk, tableAfter, ceilingOf}
 use Rattle.plant.specs.Calls.{Analysed, replyOf, ceilingReply, ceilingBy, ceilingCall, passesOf, answerTable, analysis, analysisQuestions, answered, analyseBy, analyseCall, writeReply}
 use Rattle.plant.specs.Demands.{ceiling, answers, Room}
-use Rattle.plant.specs.Ask.{ask}
 use Rattle.plant.proofs.Asks.{ask-intro, ask-yes, then-both}
 use Rattle.plant.proofs.Passed.{passed}
 use Rattle.plant.proofs.Tables.{long-enough, made-ok}

@@ -27,20 +27,20 @@ module _ (n : ℕ) (inv : List ℤ) (levels : Levels n inv) where
       each true h = omega arith
       each false h = h
 
-per-location : (n w k : ℕ) → n ≤ k → w ≤ k * 2000000 → k ≤ 6 → uncutCeiling n w ≤ 2 * k + 2 * (k - 1) * (k * 2000000)
+per-location : (n w k : ℕ) → n ≤ k → w ≤ k * 2000000 → uncutCeiling n w ≤ 2 * k + 2 * (k - 1) * (k * 2000000)
 unfolding uncutCeiling
-per-location n w k u v h =
+per-location n w k u v =
     let few : 2 * (n - 1) ≤ 2 * (k - 1) = omega arith in
     omega (arith, mul-le-mul few v)
 
 location-most : (n : ℕ) (inv : List ℤ) → Levels n inv → n ≤ 6 → (c : Cut) → CutInside n inv c → locationCeiling n inv c ≤ 200000022
 unfolding locationCeiling
-location-most n inv levels few uncut h = omega (arith, per-location n (allWidths n inv) 6 few (omega (arith, widths-small inv n levels)) (omega arith))
+location-most n inv levels few uncut h = omega (arith, per-location n (allWidths n inv) 6 few (omega (arith, widths-small inv n levels)))
 location-most n inv levels few (cutBy v x) h =
     omega (
       arith,
-      per-location n (allWidths n inv) 6 few (omega (arith, widths-small inv n levels)) (omega arith),
-      per-location (n - 1) (otherWidths n v inv) 5 (omega arith) (omega (arith, others-small n inv levels v (h .0))) (omega arith),
+      per-location n (allWidths n inv) 6 few (omega (arith, widths-small inv n levels)),
+      per-location (n - 1) (otherWidths n v inv) 5 (omega arith) (omega (arith, others-small n inv levels v (h .0))),
     )
 
 pub ceiling-most : (m : List ℤ) → Passed m → ceilingOf m ≤ 12800001408

@@ -173,5 +173,5 @@ writeQuestions m t room =
     then ask (tableOk m t) 32
     then bytesQuestion m room
 
-unfoldable pub writeTableCall : (m t : List ℤ) (file : List ℕ) → WriteOutcome
-writeTableCall m t file = writeBy (writeQuestions m t (length file)) (tableFile m t) file
+unfoldable pub writeTableCall : (m t : List ℤ) (buffer : List ℕ) → WriteOutcome
+writeTableCall m t buffer = writeBy (writeQuestions m t (length buffer)) (tableFile m t) buffer

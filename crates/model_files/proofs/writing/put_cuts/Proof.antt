@@ -1,5 +1,4 @@
 -- The invariant: the fields of the cuts of the locations passed stand behind those of the records, and end at the position.
-use mathlib.Core.Path.{_≡_, refl}
 use Prim.Native.Nat.{_-_, _≤_}
 use native.Mathlib.Omega.{arith}
 use Rattle.wire.proofs.Buffers.{Written, written-none, written-more}

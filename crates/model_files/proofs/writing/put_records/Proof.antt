@@ -1,5 +1,4 @@
 -- The first field, then the three runs, each behind the one before.
-use Prim.Native.Nat.{_≤_}
 use native.Mathlib.Omega.{arith}
 use borrow.Author.Needs.{needs}
 use Rattle.integers.proofs.Signed.{got32}
