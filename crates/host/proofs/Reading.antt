@@ -10,7 +10,7 @@ use lib.Dec.{T, leb, le→leb, leb→le}
 use lib.IntN.{ℤ, pos}
 use lib.ListN.{length, take, replicate, length-replicate}
 use lib.Seq.{length-take-le}
-use Rattle.integers.specs.Words.{AreWords, AreBytes, onto}
+use Rattle.integers.specs.Words.{AreBytes, onto}
 use Rattle.integers.proofs.Buffers.{take-onto}
 use Rattle.plant.specs.Ask.{ask, _then_}
 use Rattle.plant.specs.Model.{headSize, modelSize}
@@ -171,14 +171,14 @@ module _ (s : List ℕ) where
     model-passes = ap modelQuestions (read-front .are) ∙ model-asked read-yes
 
 -- the file of a model that passes is read
-pub file-passes : (m : List ℤ) → modelQuestions m ≡ 0 → AreWords m → (modelFileQuestions (modelFile m) ≡ 0) × (modelOf (modelFile m) ≡ take (modelSize m) m)
+pub file-passes : (m : List ℤ) → modelQuestions m ≡ 0 → (modelFileQuestions (modelFile m) ≡ 0) × (modelOf (modelFile m) ≡ take (modelSize m) m)
 unfolding modelQuestions
-file-passes m asks words =
+file-passes m asks =
     let a : T (leb headSize (length m)) × _ = asked (leb headSize (length m)) 5 _ (omega arith) asks in
     let b : (rangesQuestions m ≡ 0) × _ = then-both (rangesQuestions m) _ (a .1) in
     let d : (editionQuestion m ≡ 0) × _ = then-both (editionQuestion m) _ (b .1) in
     let whole : modelSize m ≤ length m = leb→le (modelSize m) (length m) (asked (leb (modelSize m) (length m)) 5 _ (omega arith) (d .1) .0) in
     let held : List ℤ = replicate 7173 (pos 0) in
     let fit : modelSize m ≤ length held = omega (arith, most-words m (head-passed m (leb→le headSize (length m) (a .0)) (b .0)), length-replicate 7173 (pos 0)) in
-    let e = file-read m held asks words fit in
+    let e = file-read m held asks fit in
     (read-yes (modelFile m) held e, sym (read-front (modelFile m) held e .are) ∙ take-onto (take (modelSize m) m) held (modelSize m) (length-take-le (modelSize m) m whole))

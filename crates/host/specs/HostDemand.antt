@@ -5,7 +5,7 @@ use mathlib.Core.List.{List}
 use Prim.Native.Nat.{ℕ, suc, _/_, _%_, _<_, _≤_}
 use lib.IntN.{ℤ}
 use lib.ListN.{length, take}
-use Rattle.integers.specs.Words.{AreWords, AreBytes, onto}
+use Rattle.integers.specs.Words.{AreBytes, onto}
 use Rattle.plant.specs.Ask.{_then_}
 use Rattle.plant.specs.Model.{modelSize}
 use Rattle.plant.specs.Questions.{modelQuestions}
@@ -76,7 +76,7 @@ module _ (s file : List ℕ) (limit : ℕ) where
 
 pub record HostDemand : Type 0 where
   -- the file of every model that passes its questions passes, and is taken for that model
-  pub model-passes : (m : List ℤ) → modelQuestions m ≡ 0 → AreWords m → (modelFileQuestions (modelFile m) ≡ 0) × (modelOf (modelFile m) ≡ take (modelSize m) m)
+  pub model-passes : (m : List ℤ) → modelQuestions m ≡ 0 → (modelFileQuestions (modelFile m) ≡ 0) × (modelOf (modelFile m) ≡ take (modelSize m) m)
   -- and bytes that pass are the file of the model that they are taken for
   pub is-model : (s : List ℕ) → AreBytes s → modelFileQuestions s ≡ 0 → IsModelFile s (modelOf s)
   -- no model file is longer than 29,907 bytes, and 96,775 bytes are room for every table file

@@ -5,6 +5,7 @@ pub mod Cases
 pub mod FirstField
 pub mod ModelReading
 pub mod Beginning
+pub mod RecordWords
 pub mod ModelRoundTrip
 pub mod ModelWriting
 pub mod ModelBack

@@ -10,7 +10,7 @@ use lib.Dec.{leb, le→leb, leb→le}
 use lib.IntN.{ℤ, negsuc}
 use lib.ListN.{length, take}
 use lib.Seq.{length-take-le, take-all}
-use Rattle.integers.specs.Words.{eqZ, AreWords, AreBytes, onto}
+use Rattle.integers.specs.Words.{eqZ, AreBytes, onto}
 use Rattle.integers.specs.Counted.{sumBelow}
 use Rattle.integers.proofs.Buffers.{take-onto, length-cat-sum}
 use Rattle.wire.specs.Fields.{fieldLength}
@@ -83,12 +83,12 @@ module _ (m : List ℤ) where
 
 -- ---- both ways
 
-written-read : (m : List ℤ) (bytes : List ℕ) (words : List ℤ) → AreWords m → writeReply (writeModelCall m bytes) .code ≡ 100 → modelSize m ≤ length words
+written-read : (m : List ℤ) (bytes : List ℕ) (words : List ℤ) → writeReply (writeModelCall m bytes) .code ≡ 100 → modelSize m ≤ length words
     → readModelCall (bytesWritten (writeModelCall m bytes)) words ≡ record { count = Done (modelSize m); words = onto (take (modelSize m) m) words }
-written-read m bytes words f code room =
+written-read m bytes words code room =
     let y : (modelQuestions m ≡ 0) × (length (modelFile m) ≤ length bytes) = write-asked m bytes code in
     let s : bytesWritten (writeModelCall m bytes) ≡ modelFile m = ap bytesWritten (written m bytes (y .0) (y .1)) ∙ take-onto (modelFile m) bytes (length (modelFile m)) refl in
-    ap (λ (s : List ℕ). readModelCall s words) s ∙ model-files-exact .file-reads m words (y .0) f room
+    ap (λ (s : List ℕ). readModelCall s words) s ∙ model-files-exact .file-reads m words (y .0) room
 
 -- what is written of words whose file is s
 writes : (s : List ℕ) (m : List ℤ) (bytes : List ℕ) → IsModelFile s m → length s ≤ length bytes → writeModelCall m bytes ≡ record { count = Done (length s); file = onto s bytes }

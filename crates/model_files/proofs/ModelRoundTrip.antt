@@ -4,17 +4,15 @@ use mathlib.Core.Path.{_≡_, refl, sym, ap, ap₂, subst, _∙_}
 use mathlib.Core.Bool.{Bool}
 use mathlib.Core.Logic.{⊎-elim}
 use mathlib.Core.List.{List, [], _∷_, _++_, append-assoc}
-use Prim.Native.Nat.{ℕ, zero, suc, _+_, _*_, _≤_, _<_}
+use Prim.Native.Nat.{ℕ, suc, _+_, _*_, _≤_, _<_}
 use native.Mathlib.Omega.{arith}
 use lib.Dec.{T, leb, eqb, le→leb, eqb-refl}
 use lib.IntN.{ℤ, pos, negsuc}
 use lib.Signed.{nonNeg}
 use lib.ListN.{length, getD, take, drop, length-append, length-drop, take-append-drop}
 use lib.Seq.{getD-at, take-add, take-at, drop-at, getD-take, getD-drop, getD-append-add}
-use mir.Facts.{sfits-lit}
 use Rattle.integers.specs.Words.{word, within, AreWords, AreBytes, onto}
 use Rattle.integers.specs.Counted.{cat}
-use Rattle.integers.proofs.Signed.{fits32}
 use Rattle.integers.proofs.Tests.{by-test}
 use Rattle.integers.proofs.Counted as counted
 use Rattle.integers.proofs.Counted.{within-one}
@@ -23,7 +21,7 @@ use Rattle.wire.specs.Bytes.{wordsAt, wordsBytes, part}
 use Rattle.wire.specs.Fields.{fieldAt, field, fieldPlace, isField}
 use Rattle.wire.specs.declared.Field.{Field}
 use Rattle.wire.specs.declared.Field.the-variants.{Whole}
-use Rattle.wire.proofs.Words.{length-bytes, length-part, length-words, part-words, all-bytes-back}
+use Rattle.wire.proofs.Words.{length-bytes, length-part, length-words, all-bytes-back}
 use Rattle.wire.proofs.Fields.{length-field, field-back, field-words-back, field-part, length-fields, fields-back, fields-words-back, fields-stand, due, whole-is}
 use Rattle.plant.specs.Ask.{ask, _then_}
 use Rattle.plant.specs.Model.{n#, L#, E#, B#, edition, locationAt, switchAt, forbiddenAt, cutAt, cutVariable, cutValue, modelSize}
@@ -40,6 +38,7 @@ use Rattle.model.proofs.Passing.{whole-passed}
 use Rattle.model_files.specs.ModelFile.{firstTag, editionOf, recordField, cutField, modelFile, hasTag, fieldQuestions, runQuestions, headWords, isHead, headQuestions, bufferQuestion, recordsFileQuestions, switchesFrom, forbiddensFrom, cutsFrom, cutPlace, cutFieldWords, leastLocation, cutWordsOk, cutFieldQuestions, endQuestions, cutsQuestions, bodyQuestions, runWords, recordWords, fileCut, cutWords, fileWords, readModelCall}
 use Rattle.model_files.specs.ModelFilesExact.{IsModelFile, ModelFilesExact}
 use Rattle.model_files.proofs.Beginning.{records-alone}
+use Rattle.model_files.proofs.RecordWords.{head-fits, location-fits, switch-fits, forbidden-fits, cut-fits}
 use Rattle.model_files.proofs.Cuts.{length-cut}
 use Rattle.model_files.proofs.CutsBack.{cuts-stand, cuts-asked, cuts-read}
 use Rattle.model_files.proofs.FirstField.{FirstField, first-field, edition-back, edition-within, head-is, length-head, one-more}
@@ -101,9 +100,9 @@ module _ (s p : List ℕ) (tag : ℕ) (zs : ℕ → List ℤ) (k w : ℕ) (q : L
       first-intro k (λ i. fieldQuestions (fieldAt s (fieldPlace at w i)) tag (4 * w)) (λ i l.
       questions-yes (fieldAt s (fieldPlace at w i)) tag (fieldPlace at w i + 3) (4 * w) (fieldPlace at w i + 3 + 4 * w) (rw es (fields-back p tag zs k w q at ep ew i l h)))
 
-  run-words : ((i : ℕ) → AreWords (zs i)) → runWords s at k w ≡ cat k zs
+  run-words : ((i : ℕ) → i < k → AreWords (zs i)) → runWords s at k w ≡ cat k zs
   unfolding runWords
-  run-words f = cat-ext k (λ i. wordsAt s (fieldPlace at w i + 3) w) zs (λ i l. rw es (fields-words-back p tag zs k w q at ep ew i l (f i)))
+  run-words f = cat-ext k (λ i. wordsAt s (fieldPlace at w i + 3) w) zs (λ i l. rw es (fields-words-back p tag zs k w q at ep ew i l (f i l)))
 
 -- ---- the file of a model's words is read
 
@@ -179,15 +178,8 @@ module _ (m : List ℤ) where
     pub around-cuts : s ≡ (((headField ++ locations) ++ switches) ++ forbiddens) ++ cuts
     around-cuts = around-forbiddens ∙ sym (append-assoc ((headField ++ locations) ++ switches) forbiddens cuts)
 
-    module _ (ok : Passed m) (f : AreWords m) where
-      -- the words of each location's cut
-
-      cut-fits : (l : ℕ) → l < L# m → AreWords (pos l ∷ cutVariable m l ∷ cutValue m l ∷ [])
-      unfolding cutVariable cutValue
-      cut-fits l u zero = fits32 {z = pos l} (omega (arith, ok .L-small))
-      cut-fits l u (suc zero) = f (cutAt m l)
-      cut-fits l u (suc (suc zero)) = f (cutAt m l + 1)
-      cut-fits l u (suc (suc (suc i))) = sfits-lit tt
+    module _ (ok : Passed m) where
+      -- the value of a location that is not cut
 
       no-value : (l : ℕ) → l < L# m → cutVariable m l ≡ negsuc 0 → cutValue m l ≡ pos 0
       no-value l u e = ⊎-elim (λ (c : IsUncut m l). c .no-value) (λ (c : IsCut m l). absurd (subst (λ (z : ℤ). T (nonNeg z)) e (c .not-negative))) (ok .of-cut l u .words)
@@ -201,7 +193,7 @@ module _ (m : List ℤ) where
           then-intro (run-yes s headField 2 locationWords (L# m) (6 * n# m + 1) (switches ++ (forbiddens ++ cuts)) 19 refl length-head-field length-location (omega arith))
           (then-intro (run-yes s (headField ++ locations) 3 switchWords (E# m) (6 + 4 * n# m) (forbiddens ++ cuts) (switchesFrom m) around-switches before-switches length-switch (omega arith))
           (then-intro (run-yes s ((headField ++ locations) ++ switches) 4 forbiddenWords (B# m) (1 + 2 * n# m) cuts (forbiddensFrom m) around-forbiddens before-forbiddens length-forbidden (omega arith))
-          (rw around-cuts (cuts-asked (((headField ++ locations) ++ switches) ++ forbiddens) (cutVariable m) (cutValue m) (cutsFrom m) (L# m) before-cuts cut-fits no-value))))
+          (rw around-cuts (cuts-asked (((headField ++ locations) ++ switches) ++ forbiddens) (cutVariable m) (cutValue m) (cutsFrom m) (L# m) before-cuts (cut-fits m ok) no-value))))
 
       head-yes : T (isHead (fieldAt s 0))
       head-yes = head-is (fieldAt s 0) (edition m) (whole-is (fieldAt s 0) (firstTag (edition m)) 3 16 19 (field-back [] (firstTag (edition m)) (wordsBytes (part m 0 4)) (locations ++ (switches ++ (forbiddens ++ cuts))) 0 16 refl length-payload (omega arith)))
@@ -216,7 +208,7 @@ module _ (m : List ℤ) where
       unfolding headWords
       head-words =
           ap₂ (λ (x : List ℤ) (z : ℤ). x ++ (z ∷ []))
-          (field-words-back [] (firstTag (edition m)) (part m 0 4) (locations ++ (switches ++ (forbiddens ++ cuts))) 0 4 refl four (part-words m 0 4 f))
+          (field-words-back [] (firstTag (edition m)) (part m 0 4) (locations ++ (switches ++ (forbiddens ++ cuts))) 0 4 refl four (head-fits m ok))
           (ap editionOf first-byte ∙ edition-back (edition m) (ok .edition-is))
           ∙ sym (one-more 4 m (omega (arith, w .head .there)))
 
@@ -238,16 +230,16 @@ module _ (m : List ℤ) where
       runs : runWords s 19 (L# m) (6 * n# m + 1) ++ (runWords s (switchesFrom m) (E# m) (6 + 4 * n# m) ++ runWords s (forbiddensFrom m) (B# m) (1 + 2 * n# m))
           ≡ cat (L# m) locationWords ++ (cat (E# m) switchWords ++ cat (B# m) forbiddenWords)
       runs =
-          ap₂ (λ (x y : List ℤ). x ++ y) (run-words s headField 2 locationWords (L# m) (6 * n# m + 1) (switches ++ (forbiddens ++ cuts)) 19 refl length-head-field length-location (λ i. part-words m (locationAt m i) (6 * n# m + 1) f))
-          (ap₂ (λ (x y : List ℤ). x ++ y) (run-words s (headField ++ locations) 3 switchWords (E# m) (6 + 4 * n# m) (forbiddens ++ cuts) (switchesFrom m) around-switches before-switches length-switch (λ i. part-words m (switchAt m i) (6 + 4 * n# m) f))
-          (run-words s ((headField ++ locations) ++ switches) 4 forbiddenWords (B# m) (1 + 2 * n# m) cuts (forbiddensFrom m) around-forbiddens before-forbiddens length-forbidden (λ i. part-words m (forbiddenAt m i) (1 + 2 * n# m) f)))
+          ap₂ (λ (x y : List ℤ). x ++ y) (run-words s headField 2 locationWords (L# m) (6 * n# m + 1) (switches ++ (forbiddens ++ cuts)) 19 refl length-head-field length-location (location-fits m ok))
+          (ap₂ (λ (x y : List ℤ). x ++ y) (run-words s (headField ++ locations) 3 switchWords (E# m) (6 + 4 * n# m) (forbiddens ++ cuts) (switchesFrom m) around-switches before-switches length-switch (switch-fits m ok))
+          (run-words s ((headField ++ locations) ++ switches) 4 forbiddenWords (B# m) (1 + 2 * n# m) cuts (forbiddensFrom m) around-forbiddens before-forbiddens length-forbidden (forbidden-fits m ok)))
 
       cut-parts : cutWords s (cutsFrom m) (L# m) ≡ part m (5 + L# m * (6 * n# m + 1) + E# m * (6 + 4 * n# m) + B# m * (1 + 2 * n# m)) (L# m * 2)
       unfolding cutWords cutVariable cutValue cutAt forbiddenAt switchAt locationAt
       cut-parts =
           cat-ext (L# m) (fileCut s (cutsFrom m) (L# m)) (λ l. part m (cutAt m l) 2)
           (λ l u. subst (λ (x : List ℕ). fileCut x (cutsFrom m) (L# m) l ≡ cutVariable m l ∷ cutValue m l ∷ []) (sym around-cuts)
-          (cuts-read (((headField ++ locations) ++ switches) ++ forbiddens) (cutVariable m) (cutValue m) (cutsFrom m) (L# m) before-cuts cut-fits no-value l u)
+          (cuts-read (((headField ++ locations) ++ switches) ++ forbiddens) (cutVariable m) (cutValue m) (cutsFrom m) (L# m) before-cuts (cut-fits m ok) no-value l u)
           ∙ sym (two-words m (cutAt m l) (cut-within m w l u)))
           ∙ cat-parts m (5 + L# m * (6 * n# m + 1) + E# m * (6 + 4 * n# m) + B# m * (1 + 2 * n# m)) 2 (L# m)
 
@@ -450,16 +442,16 @@ head-passed s e =
 
 -- ---- the theorem
 
-pub file-read : (m words : List ℤ) → modelQuestions m ≡ 0 → AreWords m → modelSize m ≤ length words
+pub file-read : (m words : List ℤ) → modelQuestions m ≡ 0 → modelSize m ≤ length words
     → record { count = Done (modelSize m); words = onto (take (modelSize m) m) words } ≡ readModelCall (modelFile m) words
 unfolding modelFile modelQuestions
-file-read m words e f room =
+file-read m words e room =
     let x : _ × _ = asked (leb 5 (length m)) 5 _ (omega arith) e in
     let y : (rangesQuestions m ≡ 0) × _ = then-both (rangesQuestions m) _ (x .1) in
     let k : (editionQuestion m ≡ 0) × _ = then-both (editionQuestion m) _ (y .1) in
     let z : _ × (recordsQuestions m ≡ 0) = asked (leb (modelSize m) (length m)) 5 (recordsQuestions m) (omega arith) (k .1) in
     let ok : Passed m = passed m e in
-    reads m (whole-passed m ok) ok f words (y .0) (z .1) room
+    reads m (whole-passed m ok) ok words (y .0) (z .1) room
 
 read-is-file : (s : List ℕ) (words : List ℤ) → AreBytes s → readReply (readModelCall s words) .code ≡ 100 → IsModelFile s (wordsRead (readModelCall s words))
 unfolding readModelCall recordsFileQuestions
@@ -474,6 +466,6 @@ read-is-file s words b e =
 
 pub model-files-exact : ModelFilesExact
 model-files-exact = record {
-  file-reads = λ m words e f room. sym (file-read m words e f room);
+  file-reads = λ m words e room. sym (file-read m words e room);
   read-is-file = read-is-file;
 }

@@ -5,7 +5,7 @@ use mathlib.Core.List.{List}
 use Prim.Native.Nat.{ℕ, suc, _+_, _*_, _≤_, _<_}
 use lib.IntN.{ℤ, negsuc}
 use lib.ListN.{length, take}
-use Rattle.integers.specs.Words.{eqZ, AreWords, AreBytes, onto}
+use Rattle.integers.specs.Words.{eqZ, AreBytes, onto}
 use Rattle.integers.specs.Counted.{sumBelow}
 use Rattle.plant.specs.declared.Count.the-variants.{Done, Refused}
 use Rattle.plant.specs.Model.{n#, L#, E#, B#, cutVariable, modelSize}
@@ -31,7 +31,7 @@ pub record ModelBack : Type 0 where
       → length (modelFile m) ≡ 19 + L# m * (24 * n# m + 7) + E# m * (16 * n# m + 27) + B# m * (8 * n# m + 7) + cutLocations m * 15
   pub longest : (m : List ℤ) → modelQuestions m ≡ 0 → length (modelFile m) ≤ 29907
   -- what is written is read, into any buffer that is long enough, as the same words
-  pub written-read : (m : List ℤ) (bytes : List ℕ) (words : List ℤ) → AreWords m → writeReply (writeModelCall m bytes) .code ≡ 100 → modelSize m ≤ length words
+  pub written-read : (m : List ℤ) (bytes : List ℕ) (words : List ℤ) → writeReply (writeModelCall m bytes) .code ≡ 100 → modelSize m ≤ length words
       → readModelCall (bytesWritten (writeModelCall m bytes)) words ≡ record { count = Done (modelSize m); words = onto (take (modelSize m) m) words }
   -- what is read is written, into any buffer that is long enough, as the same bytes
   pub read-written : (s : List ℕ) (words : List ℤ) (bytes : List ℕ) → AreBytes s → readReply (readModelCall s words) .code ≡ 100 → length s ≤ length bytes

@@ -104,9 +104,9 @@ module _ (m : List ℤ) (l : ℕ) (u : l < L# m) (t : List ℤ) (room : tableSiz
   })
 
 module _ (m : List ℤ) (ok : Passed m) (l : ℕ) (u : l < L# m) where
-  -- the start box, under start flag 1, is one of levels, and the start part lies inside the invariant
-  pub start-in : startFlag m l ≡ pos 1 → Levels (n# m) (startBox m l)
-  start-in e = levels-from (n# m) (startBox m l) (length-startBox m (whole-passed m ok) l u) (ok .of-location l u .start-levels e)
+  -- the start box is one of levels, and the start part lies inside the invariant
+  pub start-in : Levels (n# m) (startBox m l)
+  start-in = levels-from (n# m) (startBox m l) (length-startBox m (whole-passed m ok) l u) (ok .of-location l u .start-levels)
 
   pub start-inside : FaceAll (InInvariant (n# m) (invariant m l)) (startPart m l)
   start-inside = start-all m l (InInvariant (n# m) (invariant m l)) (λ _ o.

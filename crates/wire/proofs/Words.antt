@@ -176,15 +176,6 @@ unfolding wordsAt cat
 words-fit s at zero b = λ i. sfits-lit tt
 words-fit s at (suc k) b = append-words (wordsAt s at k) (oneWordAt s at k) (words-fit s at k b) (one-word (wordAt s (at + 4 * k)) (word-fits s (at + 4 * k) b))
 
-pub part-words : (zs : List ℤ) (from k : ℕ) → AreWords zs → AreWords (part zs from k)
-part-words zs from k f = front (drop from zs) k (λ i. rw (getD-drop from zs i (pos 0)) (f (from + i)))
-  where
-    front : (zs : List ℤ) (k : ℕ) → AreWords zs → AreWords (take k zs)
-    front zs zero f i = sfits-lit tt
-    front [] (suc k) f i = sfits-lit tt
-    front (z ∷ zs) (suc k) f zero = f 0
-    front (z ∷ zs) (suc k) f (suc i) = front zs k (λ j. f (suc j)) i
-
 -- ---- the bytes of words are bytes
 
 pub three-bytes : (x y z : ℕ) (s : List ℕ) → x < 256 → y < 256 → z < 256 → AreBytes s → AreBytes (x ∷ y ∷ z ∷ s)

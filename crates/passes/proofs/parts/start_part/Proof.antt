@@ -3,9 +3,6 @@ use mathlib.Core.Path.{_≡_, sym, _∙_}
 use lib.IntN.{pos}
 use Rattle.integers.specs.Words.{eqZ}
 use Rattle.integers.proofs.Signed.{got32}
-use Rattle.integers.proofs.Tests.{true-is}
-use Rattle.integers.proofs.Counted.{eqZ-eq}
-use Rattle.plant.specs.Model.{startFlag}
 use Rattle.plant.proofs.Passed.{Passed, passed}
 use Rattle.records.specs.Whole.{Whole}
 use Rattle.passes.proofs.PartWords.{whole, invariant-in, start-in, start-cut, start-none}
@@ -19,9 +16,6 @@ whole-at c = whole (c .args .model .now) (c .pre .0)
 -- what the test of the flag tells
 told : (c : tie.After-same) → c .same .result ≡ eqZ (c .before .start-flag .result) (pos 1)
 told c = let f = c .before .start-flag in simp (got32 (f .result) (f .ok)) at (c .same .ensures)
-
-flagged : (c : tie.Then1) → startFlag (c .before .before .before .args .model .now) (c .before .before .before .args .l) ≡ pos 1
-flagged c = let f = c .before .before .start-flag in sym (f .ensures) ∙ eqZ-eq (f .result) (pos 1) (true-is (sym (told (c .before)) ∙ c .if1 .taken))
 
 start-flag-requires : tie.Need-start-flag-requires
 start-flag-requires c κs = (whole-at c, c .pre .1)
@@ -45,7 +39,7 @@ cut-box-requires c κs =
     let m = s .args .model .now in
     let ok : Passed m = passed m (s .pre .0) in
     rw (c .before .before .before .variables .ensures, c .before .before .start-box .ensures, c .before .invariant .ensures)
-    (record { a-in = start-in m ok (s .args .l) (s .pre .1) (flagged w); b-in = invariant-in m ok (s .args .l) (s .pre .1); room = s .pre .2 })
+    (record { a-in = start-in m ok (s .args .l) (s .pre .1); b-in = invariant-in m ok (s .args .l) (s .pre .1); room = s .pre .2 })
 
 same-length : tie.Need-same-length
 same-length c = search needs
