@@ -14,25 +14,9 @@
 
 #include <inttypes.h>
 
-#define USUAL_LIMIT 1000
-
 /* One byte more than the longest model file: a file that fills this is refused in any case. */
 static uint8_t model[QII_MODEL_BYTES_MAX + 1];
 static uint8_t table[QII_TABLE_BYTES_MAX];
-
-static const char *answer_word(uint32_t code)
-{
-    switch (code) {
-    case QII_SAFE:
-        return "safe";
-    case QII_UNKNOWN:
-        return "unknown";
-    case QII_UNFINISHED:
-        return "unfinished";
-    default:
-        return NULL;
-    }
-}
 
 /* Has the table of an answer checked, and prints what check says. */
 static void print_check(size_t model_len, size_t table_len)
@@ -49,17 +33,10 @@ static void print_check(size_t model_len, size_t table_len)
 static int print_answer(size_t model_len, uint32_t limit)
 {
     uint64_t decided = decide(model, model_len, table, sizeof table, limit);
-    const char *word = answer_word(qii_code(decided));
-    size_t table_len;
 
-    if (word == NULL) {
-        printf("refused %" PRIu32 "\n", qii_code(decided));
+    if (!print_decided(decided, table))
         return REFUSED;
-    }
-    table_len = qii_table_len(table);
-    printf("answer %s\npasses %" PRIu32 "\ntable bytes %zu\n", word, qii_passes(decided),
-           table_len);
-    print_check(model_len, table_len);
+    print_check(model_len, qii_table_len(table));
     return ANSWERED;
 }
 
@@ -68,7 +45,7 @@ int main(int argc, char **argv)
     uint32_t limit = USUAL_LIMIT;
     long model_len;
 
-    if (argc < 2 || argc > 3 || (argc == 3 && !read_limit(argv[2], &limit))) {
+    if (argc < 2 || argc > 3 || (argc == 3 && !read_number(argv[2], &limit))) {
         fprintf(stderr, "usage: %s MODEL [LIMIT]\n", argv[0]);
         return CALLED_WRONGLY;
     }

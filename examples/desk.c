@@ -43,20 +43,14 @@ static uint32_t answer(struct desk *desk, size_t file_len, uint32_t limit, uint6
 /* Prints what an order got. Gives whether it was answered. */
 static int print_order(const char *name, uint32_t number, uint64_t passes)
 {
-    switch (number) {
-    case QII_SAFE:
-        printf("%s: safe, passes %" PRIu64 "\n", name, passes);
-        return 1;
-    case QII_UNKNOWN:
-        printf("%s: unknown, passes %" PRIu64 "\n", name, passes);
-        return 1;
-    case QII_UNFINISHED:
-        printf("%s: unfinished, passes %" PRIu64 "\n", name, passes);
-        return 1;
-    default:
+    const char *word = answer_word(number);
+
+    if (word == NULL) {
         print_refused(name, number);
         return 0;
     }
+    printf("%s: %s, passes %" PRIu64 "\n", name, word, passes);
+    return 1;
 }
 
 int main(int argc, char **argv)
@@ -65,7 +59,7 @@ int main(int argc, char **argv)
     uint32_t limit;
     int order, status = ANSWERED;
 
-    if (argc < 3 || !read_limit(argv[1], &limit)) {
+    if (argc < 3 || !read_number(argv[1], &limit)) {
         fprintf(stderr, "usage: %s LIMIT MODEL..\n", argv[0]);
         return CALLED_WRONGLY;
     }

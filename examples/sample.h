@@ -1,4 +1,4 @@
-/* What the samples share: a file's bytes, a limit from its digits, and a refused order. */
+/* What the samples share: a file's bytes, a number from its digits, answers and refusals. */
 #ifndef SAMPLE_H
 #define SAMPLE_H
 
@@ -10,6 +10,9 @@
 #include <stdio.h>
 #include <stdlib.h>
 #include <string.h>
+
+/* The limit where none is given. */
+#define USUAL_LIMIT 1000
 
 /* Exit status of the samples. */
 #define ANSWERED 0
@@ -41,14 +44,58 @@ static inline long read_or_say(const char *program, const char *name, uint8_t *b
     return len;
 }
 
+/* Writes a file of these bytes. Gives 0, and says so, if it cannot be written. */
+static inline int write_or_say(const char *program, const char *name, const uint8_t *bytes,
+                               size_t len)
+{
+    FILE *file = fopen(name, "wb");
+    int written = file != NULL && fwrite(bytes, 1, len, file) == len;
+
+    if (file != NULL && fclose(file) != 0)
+        written = 0;
+    if (!written)
+        fprintf(stderr, "%s: cannot write %s\n", program, name);
+    return written;
+}
+
+/* The word for an answer; NULL for a refusal. */
+static inline const char *answer_word(uint32_t code)
+{
+    switch (code) {
+    case QII_SAFE:
+        return "safe";
+    case QII_UNKNOWN:
+        return "unknown";
+    case QII_UNFINISHED:
+        return "unfinished";
+    default:
+        return NULL;
+    }
+}
+
+/* Prints what decide gave, with the length of the table file that it left, or the refusal. Gives
+   whether it answered. */
+static inline int print_decided(uint64_t decided, const uint8_t *table)
+{
+    const char *word = answer_word(qii_code(decided));
+
+    if (word == NULL) {
+        printf("refused %" PRIu32 "\n", qii_code(decided));
+        return 0;
+    }
+    printf("answer %s\npasses %" PRIu32 "\ntable bytes %zu\n", word, qii_passes(decided),
+           qii_table_len(table));
+    return 1;
+}
+
 /* Prints an order's file, and the number that it is refused by with what it means in words. */
 static inline void print_refused(const char *name, uint32_t number)
 {
     printf("%s: refused %" PRIu32 ": %s\n", name, number, qii_meaning(number));
 }
 
-/* Takes a limit from its decimal digits. Gives 0 if there is none in 32 bits. */
-static inline int read_limit(const char *digits, uint32_t *limit)
+/* Takes a number from its decimal digits. Gives 0 if there is none in 32 bits. */
+static inline int read_number(const char *digits, uint32_t *number)
 {
     char *end;
     unsigned long long value;
@@ -59,7 +106,7 @@ static inline int read_limit(const char *digits, uint32_t *limit)
     value = strtoull(digits, &end, 10);
     if (*end != '\0' || errno != 0 || value > UINT32_MAX)
         return 0;
-    *limit = (uint32_t)value;
+    *number = (uint32_t)value;
     return 1;
 }
 

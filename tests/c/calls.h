@@ -116,6 +116,12 @@ static void make_quote(const struct inputs *in, unsigned empty, struct outcome *
                             &out->quoted_bytes, &out->quoted_ceiling);
 }
 
+static void make_write_model(const struct inputs *in, unsigned empty, struct outcome *out)
+{
+    out->number =
+        qii_write_model(SLICE(0, in->model, in->model_len), BUFFER(1, out->file), &out->value);
+}
+
 static const struct call calls[] = {
     {"decide", 2, make_decide},
     {"check", 2, make_check},
@@ -127,6 +133,7 @@ static const struct call calls[] = {
     {"qii_write_table", 3, make_write_table},
     {"qii_desk", 3, make_desk},
     {"qii_quote", 1, make_quote},
+    {"qii_write_model", 2, make_write_model},
 };
 
 #define CALLS ((int)(sizeof calls / sizeof calls[0]))

@@ -12,6 +12,12 @@ pub fn read_model(file: &[u8], mut buffer: Vec<i32>) -> (Result<usize, Refusal>,
     (outcome, buffer)
 }
 
+/// Write a model file: how many bytes; the byte buffer.
+pub fn write_model(model: &[i32], mut buffer: Vec<u8>) -> (Result<usize, Refusal>, Vec<u8>) {
+    let outcome = crate::files::write_model(model, &mut buffer);
+    (outcome, buffer)
+}
+
 /// Read a table file: how many words; the word buffer.
 pub fn read_table(model: &[i32], file: &[u8], mut buffer: Vec<i32>) -> (Result<usize, Refusal>, Vec<i32>) {
     let outcome = crate::files::read_table(model, file, &mut buffer);

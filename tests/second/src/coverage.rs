@@ -17,6 +17,7 @@ use crate::quoting::QUOTED;
 use crate::ranges::{any_range, range_kinds, RANGE_KINDS};
 use crate::simulate::Travelled;
 use crate::starts::{start_kinds, START_KINDS};
+use crate::writing::WRITTEN;
 
 /// The numbers that each call can give: refusals, then answers.
 pub const DECIDE_NUMBERS: [u32; 21] = [1, 2, 3, 4, 6, 7, 8, 11, 12, 13, 14, 15, 16, 17, 18, 19, 46, 39, 100, 101, 102];
@@ -157,6 +158,8 @@ pub struct Counts {
     pub extremes: Tally,
     /// Quotes that were held to an answer, by kind.
     pub quotes: Tally,
+    /// Models that were written and read again, by kind.
+    pub written: Tally,
     /// The most passes of an answer.
     pub most_passes: u32,
     /// Safe answers whose table was accepted.
@@ -209,7 +212,7 @@ impl Counts {
         self.extreme(EXTREMES[1].0, locations().any(|l| levels(&l)));
         self.extreme(EXTREMES[2].0, locations().any(|l| rates(&l) && levels(&l)));
         self.extreme(EXTREMES[3].0, locations().any(|l| wide_rates(&l)));
-        self.extreme("64 locations cut", locations().filter(|l| l.cut.is_some()).count() == MAX_LOCATIONS);
+        self.extreme("64 locations cut", plant.cuts() == MAX_LOCATIONS);
     }
 
     /// Counts what came up among the faces in two pieces of an answer's table.
@@ -231,8 +234,8 @@ impl Counts {
         self.extreme("a face with both its pieces", seen[2]);
     }
 
-    /// Extremes, kinds of start boxes, of reset ranges, of wall steps and of quotes, and changes by T-06 that did not
-    /// come up as often as they must under the full counts.
+    /// Extremes, kinds of start boxes, of reset ranges, of wall steps, of quotes and of written models, and changes by
+    /// T-06 that did not come up as often as they must under the full counts.
     pub fn too_seldom(&self) -> Vec<String> {
         let tallied = |tally: &Tally, kind: &str| tally.get(kind).copied().unwrap_or(0);
         let extremes = EXTREMES.map(|(kind, least)| (kind, least, tallied(&self.extremes, kind)));
@@ -241,7 +244,9 @@ impl Counts {
         let changes = CHANGES.map(|(kind, least, count)| (kind, least, count(&self.changes)));
         let ranges = RANGE_KINDS.map(|kind| (kind, EACH_RANGE, tallied(&self.range_kinds, kind)));
         let quotes = QUOTED.map(|(kind, least)| (kind, least, tallied(&self.quotes, kind)));
-        let counted = extremes.into_iter().chain(starts).chain(ranges).chain(steps).chain(changes).chain(quotes);
+        let written = WRITTEN.map(|(kind, least)| (kind, least, tallied(&self.written, kind)));
+        let counted = extremes.into_iter().chain(starts).chain(ranges).chain(steps).chain(changes);
+        let counted = counted.chain(quotes).chain(written);
         let seldom = counted.filter(|(_, least, count)| count < least);
         seldom.map(|(kind, least, count)| format!("{kind} ({count} of {least} times)")).collect()
     }
@@ -302,6 +307,7 @@ impl Counts {
             .for_each(|(kind, count)| expect(&format!("delays {kind}"), count > 0));
         CHANGES.iter().for_each(|(kind, _, count)| expect(kind, count(&self.changes) > 0));
         QUOTED.iter().for_each(|(kind, _)| expect(&format!("a quote: {kind}"), self.quotes.contains_key(*kind)));
+        WRITTEN.iter().for_each(|(kind, _)| expect(&format!("written: {kind}"), self.written.contains_key(*kind)));
         LIMIT_KINDS.iter().for_each(|kind| expect(&format!("limit {kind}"), self.limits.contains_key(*kind)));
         all_damage().iter().for_each(|kind| expect(kind, self.damage.contains_key(kind)));
         expect("a safe answer's table accepted", self.accepted > 0);
@@ -360,7 +366,7 @@ fn model_kinds(plant: &Plant) -> Vec<&'static str> {
     let switches = || (0..sizes.switches).map(|s| plant.switch(s));
     let invariant = |l: usize| plant.location(l).invariant;
     let starts = locations().filter(|l| l.start_part().is_some()).count();
-    let cuts = locations().filter(|l| l.cut.is_some()).count();
+    let cuts = plant.cuts();
     let cut_at = |side: usize, by: i32| {
         locations().any(|l| l.cut.is_some_and(|cut| cut.value == l.invariant[2 * cut.variable + side] + by))
     };

@@ -354,6 +354,49 @@ pub fn water_level_cut() -> Draft {
     Draft { cuts: vec![(1, 1, 10), (2, 0, 100)], ..water_level(20) }
 }
 
+/// What the C sample `draw` draws: a vat with one shut-off valve, which a float at a level closes. Variable 0 is the
+/// level, with the rim at 100, variable 1 the clock of the valve. In location 0 the vat is filled, by 4 to 6; at the
+/// float the valve begins to close, in location 1, for 4, and up to 6 still comes in; then the pump empties the vat, in
+/// location 2, down to 10. With the float at 70 the level comes to 94 at the most, with the float at 76 to the rim.
+pub fn shut_off(float: i32) -> Draft {
+    let location = |invariant: [i32; 4], rates: [i32; 4], start: Option<Vec<i32>>| LocationDraft {
+        invariant: invariant.to_vec(),
+        rates: rates.to_vec(),
+        start,
+    };
+    let at_level = |source, source_side, target, level: i32| SwitchDraft {
+        source,
+        target,
+        d: 0,
+        source_side,
+        target_side: 0,
+        mask: 0,
+        guard: vec![level, level, 0, 0],
+        reset: vec![level, level, 0, 0],
+    };
+    let when_shut = SwitchDraft {
+        source: 1,
+        target: 2,
+        d: 1,
+        source_side: 1,
+        target_side: 0,
+        mask: 0b10,
+        guard: vec![float, 120, 4, 4],
+        reset: vec![float, 120, 0, 0],
+    };
+    Draft {
+        n: 2,
+        locations: vec![
+            location([10, float, 0, 0], [4, 6, 0, 0], Some(vec![10, 20, 0, 0])),
+            location([float, 120, 0, 4], [0, 6, 1, 1], None),
+            location([10, 120, 0, 0], [-5, -3, 0, 0], None),
+        ],
+        switches: vec![at_level(0, 1, 1, float), when_shut, at_level(2, 0, 0, 10)],
+        forbidden: vec![(1, vec![100, 120, 0, 4]), (2, vec![100, 120, 0, 0])],
+        ..Draft::default()
+    }
+}
+
 /// A heated vat. Variable 0 is the level, 0 to the rim; variable 1 the heat, 0..300. In location 0 the vat is
 /// emptied and heated: the level falls by 1 to 2, the heat rises by 1 to 2. Empty, it is filled in location 1
 /// with fresh water, of heat 20, up to the rim, and emptied again. The drawing's start box is level 80..130,

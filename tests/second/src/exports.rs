@@ -8,7 +8,7 @@ use crate::analysis::{analysis, Answer};
 use crate::ceiling::ceiling;
 use crate::checker::checker;
 use crate::desk::{desk_call, Desk};
-use crate::files::{read_model, read_table, write_table};
+use crate::files::{read_model, read_table, write_model, write_table};
 use crate::quote::{quote, Quote};
 use crate::Refusal;
 
@@ -22,6 +22,7 @@ pub enum Call {
     WriteTable,
     Desk,
     Quote,
+    WriteModel,
 }
 
 /// What a call only reads.
@@ -42,7 +43,7 @@ pub struct Lent<'a> {
     pub words: &'a mut [i32],
     /// The work buffer of analyse and desk.
     pub work: &'a mut [i32],
-    /// The byte buffer of write_table.
+    /// The byte buffer of write_table and write_model.
     pub file: &'a mut [u8],
     /// The desk's counters.
     pub jobs: &'a mut u32,
@@ -54,7 +55,7 @@ pub struct Lent<'a> {
 }
 
 impl Call {
-    pub const ALL: [Call; 8] = [
+    pub const ALL: [Call; 9] = [
         Call::ReadModel,
         Call::Ceiling,
         Call::Check,
@@ -63,11 +64,20 @@ impl Call {
         Call::WriteTable,
         Call::Desk,
         Call::Quote,
+        Call::WriteModel,
     ];
 
     /// Those that take model words.
-    pub const ON_WORDS: [Call; 7] =
-        [Call::Ceiling, Call::Check, Call::Analyse, Call::ReadTable, Call::WriteTable, Call::Desk, Call::Quote];
+    pub const ON_WORDS: [Call; 8] = [
+        Call::Ceiling,
+        Call::Check,
+        Call::Analyse,
+        Call::ReadTable,
+        Call::WriteTable,
+        Call::Desk,
+        Call::Quote,
+        Call::WriteModel,
+    ];
 
     /// Its name in C.
     pub fn name(self) -> &'static str {
@@ -80,6 +90,7 @@ impl Call {
             Call::WriteTable => "qii_write_table",
             Call::Desk => "qii_desk",
             Call::Quote => "qii_quote",
+            Call::WriteModel => "qii_write_model",
         }
     }
 
@@ -95,8 +106,18 @@ impl Call {
             Call::ReadTable => &[43, 20, 32, 35, 36, 37, 38, 100],
             Call::WriteTable => &[43, 20, 32, 39, 100],
             Call::Desk => &[43, 20, 21, 22, 100, 101, 102],
+            Call::WriteModel => &[43, 40, 100],
         };
         model.chain(more.iter().copied()).collect()
+    }
+
+    /// The number that one on words gives of a model that passes its questions, with nothing else handed over.
+    pub fn of_a_model_alone(self) -> u32 {
+        match self {
+            Call::Ceiling | Call::Quote => 100,
+            Call::WriteModel => 40,
+            _ => 20,
+        }
     }
 
     /// Does its reply have a value?
@@ -117,6 +138,7 @@ impl Call {
             Call::Analyse | Call::Desk => &[Slice::Model, Slice::Words, Slice::Work],
             Call::ReadTable => &[Slice::Model, Slice::File, Slice::Words],
             Call::WriteTable => &[Slice::Model, Slice::Table, Slice::FileRoom],
+            Call::WriteModel => &[Slice::Model, Slice::FileRoom],
         }
     }
 }
@@ -133,6 +155,16 @@ pub enum Slice {
 }
 
 impl<'a> Input<'a> {
+    /// Model words alone.
+    pub fn of_model(model: &'a [i32]) -> Input<'a> {
+        Input { model, table: &[], file: &[], limit: 0 }
+    }
+
+    /// A file alone.
+    pub fn of_file(file: &'a [u8]) -> Input<'a> {
+        Input { model: &[], table: &[], file, limit: 0 }
+    }
+
     /// What of it the call takes.
     pub fn of(&self, call: Call) -> Input<'a> {
         Input {
@@ -164,6 +196,7 @@ pub fn answer(call: Call, input: &Input, lent: &mut Lent) -> u32 {
         Call::Analyse => answered(analysis(input.model, input.limit, lent.words, lent.work)),
         Call::ReadTable => counted(read_table(input.model, input.file, lent.words)),
         Call::WriteTable => counted(write_table(input.model, input.table, lent.file)),
+        Call::WriteModel => counted(write_model(input.model, lent.file)),
         Call::Desk => {
             let mut desk = Desk { jobs: *lent.jobs, passes: *lent.passes };
             let outcome = desk_call(&mut desk, input.model, input.limit, lent.words, lent.work);

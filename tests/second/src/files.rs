@@ -18,8 +18,13 @@ pub const HEAD_2: u8 = 9;
 
 /// Words of a model file's head field: n, L, E, B. The tag gives the edition.
 pub const HEAD_FIELD_WORDS: usize = 4;
+/// Words of a cut's field: location, variable, value.
+pub const CUT_FIELD_WORDS: usize = 3;
 /// Bytes of the head field.
 pub const HEAD_FIELD_BYTES: usize = 3 + 4 * HEAD_FIELD_WORDS;
+
+/// Bytes of the longest model file.
+pub const MOST_MODEL_BYTES: usize = 29_907;
 
 /// The first tag of an edition.
 pub fn head_tag(edition: Edition) -> u8 {
@@ -72,6 +77,35 @@ pub fn file_of_words(sizes: &Sizes, words: &[i32]) -> Vec<u8> {
         }
     }
     bytes
+}
+
+/// Bytes of a model's own file (question 40): of each field three and its words, with a field for each cut.
+pub fn model_file_bytes(plant: &Plant) -> usize {
+    let sizes = plant.sizes;
+    let fields = [
+        (1, HEAD_FIELD_WORDS),
+        (sizes.locations, sizes.location_words()),
+        (sizes.switches, sizes.switch_words()),
+        (sizes.forbidden, sizes.forbidden_words()),
+        (plant.cuts(), CUT_FIELD_WORDS),
+    ];
+    fields.into_iter().map(|(count, words)| count * (3 + 4 * words)).sum()
+}
+
+/// Writes a model's file into the byte buffer and gives how many bytes it has (document 02, T-01).
+/// The rest of the buffer is unchanged; a refusal changes nothing.
+pub fn write_model(model: &[i32], buffer: &mut [u8]) -> Result<usize, Refusal> {
+    let plant = Plant::from_words(model)?;
+    if buffer.len() < model_file_bytes(&plant) {
+        return Err(40);
+    }
+    Ok(put(&model_file(plant.words()), buffer))
+}
+
+/// Puts a file at the beginning of the buffer and gives how many bytes it has.
+pub fn put(file: &[u8], buffer: &mut [u8]) -> usize {
+    buffer[..file.len()].copy_from_slice(file);
+    file.len()
 }
 
 /// A cursor over the bytes of a file.
@@ -186,7 +220,7 @@ fn read_cuts(mut cursor: Cursor, sizes: &Sizes) -> Result<Vec<i32>, Refusal> {
         if cursor.bytes[0] != CUT {
             return Err(8);
         }
-        let Next::Payload(payload) = cursor.next(CUT, 3) else {
+        let Next::Payload(payload) = cursor.next(CUT, CUT_FIELD_WORDS) else {
             return Err(46);
         };
         let cut: Vec<i32> = words_of(payload).collect();
@@ -234,9 +268,7 @@ pub fn write_table(model: &[i32], list: &[i32], buffer: &mut [u8]) -> Result<usi
     if buffer.len() < plant.table_file_room() {
         return Err(39);
     }
-    let file = table_file(&plant, table);
-    buffer[..file.len()].copy_from_slice(&file);
-    Ok(file.len())
+    Ok(put(&table_file(&plant, table), buffer))
 }
 
 /// Reads a table file into the word buffer and gives how many words the table has.

@@ -2,7 +2,8 @@
 //! sweeps over every length, every bit and every word of small files. Those of the calls beside decide
 //! and check stand in `fixed_calls`, those of start boxes that cross the wall in `fixed_starts`, those of
 //! delays that all variables can live with in `fixed_delays`, those of locations that are cut in `fixed_cuts`,
-//! those of editions and reset ranges in `fixed_resets`, those of quotes in `fixed_quotes`.
+//! those of editions and reset ranges in `fixed_resets`, those of quotes in `fixed_quotes`, those of model files that
+//! are written in `fixed_written`.
 
 use crate::compare::{hex, written_table, Comparison, Difference, MOST_ROOM};
 use crate::draft::{grid, Draft};
@@ -171,7 +172,8 @@ impl Comparison {
         self.fixed_delays()?;
         self.fixed_cuts()?;
         self.fixed_resets()?;
-        self.fixed_quotes()
+        self.fixed_quotes()?;
+        self.fixed_written()
     }
 
     /// A decide call whose number the document gives.

@@ -19,8 +19,6 @@ pub(crate) struct Whole {
     model_file: Vec<u8>,
     table_file: Vec<u8>,
     lengths: Lengths,
-    /// The words of a model: the length of read_model's buffer.
-    model_words: usize,
 }
 
 impl Whole {
@@ -32,7 +30,6 @@ impl Whole {
             model_file: model_file(&model),
             table_file: table_file(&plant, &table),
             lengths: Lengths { words: size, work: size, file: plant.table_file_room() },
-            model_words: model.len(),
             model,
             table,
         }
@@ -62,7 +59,11 @@ impl Whole {
     }
 
     pub(crate) fn lengths(&self, call: Call) -> Lengths {
-        Lengths { words: if call == Call::ReadModel { self.model_words } else { self.lengths.words }, ..self.lengths }
+        match call {
+            Call::ReadModel => Lengths { words: self.model.len(), ..self.lengths },
+            Call::WriteModel => Lengths { file: self.model_file.len(), ..self.lengths },
+            _ => self.lengths,
+        }
     }
 }
 
@@ -124,6 +125,7 @@ impl Comparison {
             (Call::WriteTable, 100, 61),
             (Call::Desk, 100, 1),
             (Call::Quote, 100, 0),
+            (Call::WriteModel, 100, 97),
         ] {
             self.gives("P", call, &p.input(call, LIMIT), &p.lengths(call), (number, value))?;
         }
@@ -252,7 +254,7 @@ impl Comparison {
     }
 
     /// Every word of the water-level model at every edge, in every call that takes model words; the same
-    /// with cuts in two of its locations, and of a plant of edition 2.
+    /// with cuts in two of its locations, and of a plant of edition 2. What is written is read again.
     fn every_word_of_a_model(&mut self) -> Result<(), Difference> {
         let label = "a plant with another word";
         for draft in [examples::water_level(20), examples::water_level_cut(), examples::set_to([2, 5])] {
@@ -261,9 +263,10 @@ impl Comparison {
                 for edge in EDGES {
                     let mut changed = words.clone();
                     changed[index] = edge;
-                    for call in Call::ALL.into_iter().filter(|&call| call != Call::ReadModel) {
+                    for call in Call::ON_WORDS {
                         let input = Input { model: &changed, ..whole.input(call, 20) };
-                        self.fixed(label, call, &input, &whole.lengths(call), Desk::default())?;
+                        let left = self.fixed(label, call, &input, &whole.lengths(call), Desk::default())?;
+                        self.there_and_back(call, &input, &left)?;
                     }
                 }
             }
@@ -289,7 +292,7 @@ impl Comparison {
     }
 
     /// P's file and its table file at every length, and every bit of both flipped; the same of P cut and of a plant of
-    /// edition 2.
+    /// edition 2. A model file that still reads is written again.
     fn every_end_and_bit(&mut self) -> Result<(), Difference> {
         for p in [Whole::p(), Whole::cut_p(), Whole::at_rest(&examples::set_to([2, 5]))] {
             for call in [Call::ReadModel, Call::ReadTable] {
@@ -302,7 +305,8 @@ impl Comparison {
                     let mut flipped = whole.file.to_vec();
                     flipped[bit / 8] ^= 1 << (bit % 8);
                     let input = Input { file: &flipped, ..whole };
-                    self.fixed("a file with a bit flipped", call, &input, &lengths, Desk::default())?;
+                    let left = self.fixed("a file with a bit flipped", call, &input, &lengths, Desk::default())?;
+                    self.there_and_back(call, &input, &left)?;
                 }
             }
         }

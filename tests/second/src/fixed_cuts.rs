@@ -197,6 +197,7 @@ impl Comparison {
             (Call::WriteTable, 100, 7 + 3 * 31),
             (Call::Desk, 100, 1),
             (Call::Quote, 100, 0),
+            (Call::WriteModel, 100, 97 + 15),
         ] {
             self.gives("P cut", call, &whole.input(call, LIMIT), &whole.lengths(call), (number, value))?;
         }
@@ -246,10 +247,10 @@ impl Comparison {
             let mut model = examples::plant_p().words();
             model[P_CUT..].copy_from_slice(&cut);
             for call in Call::ON_WORDS {
-                // With no buffers at all, so that every call stops at 20 if it comes so far.
-                let wanted = match (number, call) {
-                    (100, Call::Ceiling | Call::Quote) => continue,
-                    (100, _) => 20,
+                // With no buffers at all, so that a call stops at 20 or 40 if it comes so far.
+                let wanted = match (number, call.of_a_model_alone()) {
+                    (100, 100) => continue,
+                    (100, stopped) => stopped,
                     _ => number,
                 };
                 let input = Input { model: &model, ..none };

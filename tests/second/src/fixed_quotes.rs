@@ -17,7 +17,7 @@ use crate::quote::Quote;
 /// A plant with its quote: words, bytes and ceiling.
 type Quoted = (&'static str, Draft, [u64; 3]);
 
-fn cut(draft: Draft, cuts: &[(usize, usize, i32)]) -> Draft {
+pub(crate) fn cut(draft: Draft, cuts: &[(usize, usize, i32)]) -> Draft {
     Draft { cuts: cuts.to_vec(), ..draft }
 }
 
@@ -118,7 +118,7 @@ impl Comparison {
             let plant = Plant::from_words(&words).expect("an example passes its questions");
             self.quote_gives(label, &words, quote)?;
             for limit in [0, 1, u32::MAX] {
-                self.program_case(&plant, &model_file(&words), limit)?;
+                self.program_case(&plant, limit)?;
             }
         }
         for (label, draft, passes, ceiling, longest) in taken_whole() {
@@ -155,7 +155,7 @@ impl Comparison {
             if quote.ceiling != ceiling || (code == 100 && as_long != longest) {
                 return Err(unwanted(label, (ceiling, longest), (quote, as_long)));
             }
-            self.program_case(&plant, &file, limit)?;
+            self.program_case(&plant, limit)?;
         }
         Ok(())
     }

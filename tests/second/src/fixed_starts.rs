@@ -201,9 +201,6 @@ pub(crate) fn unwanted(label: &str, wanted: impl std::fmt::Debug, found: impl st
     Difference { text: format!("{label}: wanted {wanted:?}, both give {found:?}") }
 }
 
-/// The calls on model words, but for the ceiling and the quote.
-const ON_WORDS: [Call; 5] = [Call::Check, Call::Analyse, Call::ReadTable, Call::WriteTable, Call::Desk];
-
 impl Comparison {
     pub(crate) fn fixed_starts(&mut self) -> Result<(), Difference> {
         let sizes = Sizes { n: 2, locations: 1, switches: 0, forbidden: 1 };
@@ -227,7 +224,7 @@ impl Comparison {
     }
 
     /// The model's questions in every call on words; a model that passes them has this ceiling, in its quote too, and
-    /// gets 20 without buffers. A quote is all zeros on a refusal.
+    /// gets 20 or 40 without buffers. A quote is all zeros on a refusal.
     pub(crate) fn asked_of_words(
         &mut self,
         label: &str,
@@ -242,9 +239,9 @@ impl Comparison {
         if quote.ceiling != of_ceiling.1 || (number != 100 && quote != Quote::default()) {
             return Err(unwanted(label, of_ceiling, quote));
         }
-        let wanted = (if number == 100 { 20 } else { number }, 0);
-        for call in ON_WORDS {
-            self.gives(label, call, &input, &Lengths::default(), wanted)?;
+        for call in Call::ON_WORDS.into_iter().filter(|call| call.of_a_model_alone() != 100) {
+            let wanted = if number == 100 { call.of_a_model_alone() } else { number };
+            self.gives(label, call, &input, &Lengths::default(), (wanted, 0))?;
         }
         Ok(())
     }

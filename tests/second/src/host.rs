@@ -2,7 +2,7 @@
 
 use crate::analysis::{run, run_quick, Answer};
 use crate::checker::{ask_fixpoint, ask_fixpoint_quick};
-use crate::files::{model_of_file, parse_table, table_file};
+use crate::files::{model_of_file, parse_table, put, table_file};
 use crate::model::{Plant, HEAD_WORDS, MAX_FORBIDDEN, MAX_LOCATIONS, MAX_SWITCHES};
 use crate::Refusal;
 
@@ -39,8 +39,7 @@ fn try_decide(model: &[u8], buffer: &mut [u8], limit: u32, run: Run) -> Result<(
     let mut table = vec![0; plant.table_words()];
     let mut work = table.clone();
     let answer = run(&plant, limit, &mut table, &mut work);
-    let file = table_file(&plant, &table);
-    buffer[..file.len()].copy_from_slice(&file);
+    put(&table_file(&plant, &table), buffer);
     Ok(answer)
 }
 

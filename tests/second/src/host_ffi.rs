@@ -59,6 +59,13 @@ mod library {
             file_length: usize,
             value: *mut u64,
         ) -> u32;
+        pub fn qii_write_model(
+            model: Words,
+            model_length: usize,
+            file: *mut u8,
+            file_length: usize,
+            value: *mut u64,
+        ) -> u32;
         pub fn qii_desk(
             jobs: *mut u32,
             passes: *mut u32,
@@ -111,6 +118,7 @@ pub fn answer(call: Call, input: &Input, lent: &mut Lent) -> u32 {
                 library::qii_desk(jobs, passes, model, model_len, limit, words, words_len, work, work_len, value)
             }
             Call::Quote => library::qii_quote(model, model_len, quoted_words, bytes, ceiling),
+            Call::WriteModel => library::qii_write_model(model, model_len, room, room_len, value),
         }
     }
 }

@@ -8,12 +8,13 @@ use crate::coverage::note;
 use crate::damage::{damage_table, damaged_ranges, damaged_starts, edited_words, RANGE_DAMAGE, START_DAMAGE};
 use crate::desk::Desk;
 use crate::exports::{answer, Call, Input, Lent, Slice};
-use crate::files::{model_file, table_file};
+use crate::files::{model_file, model_file_bytes, table_file};
 use crate::generate::{pass_budget, random_limit};
 use crate::model::{Plant, HEAD_WORDS};
 use crate::quote::{Quote, Taken};
 use crate::quoting::quoted_lengths;
 use crate::random::Random;
+use crate::writing::Decided;
 
 /// Words or bytes on both sides of a lent buffer that nobody may touch, unless the comparison is tight.
 const MARGIN: usize = 8;
@@ -45,6 +46,7 @@ impl Lengths {
 }
 
 /// What the tested call gave, and left in the memory that was lent to it.
+#[derive(Default)]
 pub struct Left {
     pub number: u32,
     pub value: u64,
@@ -54,22 +56,31 @@ pub struct Left {
     pub old: Vec<i32>,
     pub work: Vec<i32>,
     pub file: Vec<u8>,
+    /// What the file's bytes were before.
+    pub old_file: Vec<u8>,
     pub desk: Desk,
 }
 
-/// The lengths that are due: of the model's words, its table, the file that is handed over, and
-/// the room for a table file.
+/// The lengths that are due: of the model's words, its table, the file that is handed over, the room for
+/// a table file, and the model's own file.
 #[derive(Clone, Copy)]
 struct Due {
     model: usize,
     table: usize,
     file: usize,
     room: usize,
+    model_file: usize,
 }
 
 impl Due {
     fn new(plant: &Plant, file: usize) -> Due {
-        Due { model: plant.words().len(), table: plant.table_words(), file, room: plant.table_file_room() }
+        Due {
+            model: plant.words().len(),
+            table: plant.table_words(),
+            file,
+            room: plant.table_file_room(),
+            model_file: model_file_bytes(plant),
+        }
     }
 
     fn of(&self, call: Call, slice: Slice) -> usize {
@@ -78,8 +89,26 @@ impl Due {
             Slice::Words if call == Call::ReadModel => self.model,
             Slice::Table | Slice::Words | Slice::Work => self.table,
             Slice::File => self.file,
+            Slice::FileRoom if call == Call::WriteModel => self.model_file,
             Slice::FileRoom => self.room,
         }
+    }
+
+    /// Lengths for the buffers that are lent, each by the one that is due.
+    fn lent(&self, call: Call, mut length: impl FnMut(usize) -> usize) -> Lengths {
+        let mut length = |slice: Slice| length(self.of(call, slice));
+        Lengths { words: length(Slice::Words), work: length(Slice::Work), file: length(Slice::FileRoom) }
+    }
+}
+
+/// Did a call that gave this number come as far as to ask for the length of a lent buffer? What is read counts always.
+fn asked_for(call: Call, slice: Slice, number: u32) -> bool {
+    match slice {
+        Slice::Model | Slice::Table | Slice::File => true,
+        Slice::Words if call == Call::ReadModel => number >= 5,
+        Slice::Words => matches!(number, 20..=40 | 100..),
+        Slice::Work => matches!(number, 21..=40 | 100..),
+        Slice::FileRoom => matches!(number, 39..=40 | 100..),
     }
 }
 
@@ -108,7 +137,7 @@ fn random_length(random: &mut Random, due: usize) -> usize {
 }
 
 /// The list's beginning, or the list followed by words that are not part of it.
-fn of_length(random: &mut Random, list: &[i32], length: usize) -> Vec<i32> {
+pub(crate) fn of_length(random: &mut Random, list: &[i32], length: usize) -> Vec<i32> {
     let mut list = list[..list.len().min(length)].to_vec();
     list.extend((list.len()..length).map(|_| random.next() as i32));
     list
@@ -197,17 +226,18 @@ impl Memory {
             .or_else(|| (self.quote != other.quote).then(|| format!("{:?} and {:?}", self.quote, other.quote)))
     }
 
-    /// What a call left of this, with the words as they were before.
+    /// What a call left of this, with words and file as they were before.
     fn left(mut self, number: u32, mut before: Memory, margin: usize) -> Left {
-        let lent = self.lent(margin);
+        let (lent, before) = (self.lent(margin), before.lent(margin));
         Left {
             number,
             value: *lent.value,
             quote: *lent.quote,
             words: lent.words.to_vec(),
-            old: before.lent(margin).words.to_vec(),
+            old: before.words.to_vec(),
             work: lent.work.to_vec(),
             file: lent.file.to_vec(),
+            old_file: before.file.to_vec(),
             desk: Desk { jobs: *lent.jobs, passes: *lent.passes },
         }
     }
@@ -287,15 +317,15 @@ impl Comparison {
     ) -> Result<Left, Difference> {
         let left = self.call(label, call, input, lengths, Desk::default())?;
         for &slice in call.slices() {
-            let (length, read) = match slice {
-                Slice::Model => (input.model.len(), true),
-                Slice::Table => (input.table.len(), true),
-                Slice::File => (input.file.len(), true),
-                Slice::Words => (lengths.words, false),
-                Slice::Work => (lengths.work, false),
-                Slice::FileRoom => (lengths.file, false),
+            let length = match slice {
+                Slice::Model => input.model.len(),
+                Slice::Table => input.table.len(),
+                Slice::File => input.file.len(),
+                Slice::Words => lengths.words,
+                Slice::Work => lengths.work,
+                Slice::FileRoom => lengths.file,
             };
-            if read || matches!(left.number, 5 | 20..=39 | 100..) {
+            if asked_for(call, slice, left.number) {
                 let kind = length_kind(length, due.of(call, slice));
                 note(&mut self.counts.lengths, format!("{} {slice:?} {kind}", call.name()));
             }
@@ -316,9 +346,8 @@ impl Comparison {
             let mut file = file_for(call, plant, table);
             let due = Due::new(plant, file.len());
             let random = &mut self.random;
+            let lengths = due.lent(call, |due| random_length(random, due));
             let mut length = |slice: Slice| random_length(random, due.of(call, slice));
-            let lengths =
-                Lengths { words: length(Slice::Words), work: length(Slice::Work), file: length(Slice::FileRoom) };
             let (model_length, table_length) = (length(Slice::Model), length(Slice::Table));
             let file_length = length(Slice::File);
             let words = of_length(&mut self.random, plant.words(), model_length);
@@ -327,16 +356,17 @@ impl Comparison {
             let input = Input { model: &words, table: &table, file: &file, limit };
             self.sized_call("a random model", call, &input, &lengths, &due)?;
         }
-        self.program_case(plant, &model_file(plant.words()), limit)
+        self.program_case(plant, limit)
     }
 
-    /// As a program uses the calls: the model's file is read, the order quoted, the model analysed in
-    /// buffers of the quoted lengths and charged to the desk, the table checked, written, and read
-    /// again; each on what the call before it left. All of it keeps to the quote.
-    pub(crate) fn program_case(&mut self, plant: &Plant, file: &[u8], limit: u32) -> Result<(), Difference> {
+    /// As a program uses the calls: the model is written and its file read, the order quoted, the model analysed
+    /// in buffers of the quoted lengths and charged to the desk, the table checked, written, and read again;
+    /// each on what the call before it left. The model's file is decided alike, and all of it keeps to the quote.
+    pub(crate) fn program_case(&mut self, plant: &Plant, limit: u32) -> Result<(), Difference> {
+        let file = self.written_case(plant)?;
         let none = Input { model: &[], table: &[], file: &[], limit };
         let model_words = Lengths { words: plant.words().len(), ..Lengths::default() };
-        let read = self.program_call(Call::ReadModel, &Input { file, ..none }, &model_words)?;
+        let read = self.program_call(Call::ReadModel, &Input { file: &file, ..none }, &model_words)?;
         let with_model = Input { model: &read.words, ..none };
         let quote = self.quote_of(&with_model)?;
         let buffers = quoted_lengths(&quote);
@@ -349,12 +379,14 @@ impl Comparison {
         let written = self.program_call(Call::WriteTable, &with_table, &buffers)?;
         let with_file = Input { file: &written.file[..written.value as usize], ..with_table };
         let again = self.program_call(Call::ReadTable, &with_file, &buffers)?;
-        if read.words != plant.words() || again.words != found.words {
-            return Err(Difference { text: format!("a file reads back as something else\nmodel {}", hex(file)) });
+        if again.words != found.words {
+            return Err(Difference { text: format!("a table file reads as something else\nmodel {}", hex(&file)) });
         }
+        let by_words = Decided { code: found.number as u64, passes: found.value, table: with_file.file.to_vec() };
+        self.decided_alike(plant, &file, limit, buffers.file, &by_words)?;
         let taken = Taken { passes: found.value.max(charged), words: again.value, bytes: written.value };
-        self.short_of_the_quote(&with_file, file, &quote)?;
-        self.quote_case(plant, file, limit, &quote, &taken)
+        self.short_of_the_quote(&with_file, &file, &quote)?;
+        self.quote_case(plant, limit, &quote, &taken)
     }
 
     /// A call of such a program, on a fresh desk.
@@ -394,19 +426,36 @@ impl Comparison {
         Ok(left.value)
     }
 
-    /// One damaged input of one of the calls.
+    /// One damaged input of one of the calls. A model that is read or written of it goes back too.
     pub(crate) fn damaged_call(&mut self, plant: &Plant, rest: &[i32], other: &[i32]) -> Result<(), Difference> {
         self.counts.damaged_calls += 1;
         let call = Call::ALL[self.random.below(Call::ALL.len())];
         let table = if self.random.chance(2, 3) { rest } else { other };
+        let (words, list, file) = self.damaged_slices(call, plant, table);
+        // A model that still passes its questions may have another table and another file.
+        let damaged = Plant::from_words(&words);
+        let due = Due::new(damaged.as_ref().unwrap_or(plant), file_for(call, plant, table).len());
+        let random = &mut self.random;
+        let exact = random.chance(3, 4);
+        let lengths = due.lent(call, |due| if exact { due } else { random_length(random, due) });
+        let limit = self.random.below(pass_budget(plant).min(30) as usize) as u32;
+        let input = Input { model: &words, table: &list, file: &file, limit };
+        if call == Call::WriteModel {
+            // The model's questions come before 40.
+            self.sized_call("a damaged model, and no buffer", call, &input, &Lengths::default(), &due)?;
+        }
+        let left = self.sized_call("a damaged input", call, &input, &lengths, &due)?;
+        self.there_and_back(call, &input, &left)
+    }
+
+    /// Model words, a table's words and a file for a call, with one damaged that it reads.
+    fn damaged_slices(&mut self, call: Call, plant: &Plant, table: &[i32]) -> (Vec<i32>, Vec<i32>, Vec<u8>) {
         let read = |slice: &Slice| matches!(slice, Slice::Model | Slice::Table | Slice::File);
         let slices: Vec<Slice> = call.slices().iter().copied().filter(read).collect();
-        let chosen = self.random.pick(&slices);
         let mut words = plant.words().to_vec();
         let mut list = table.to_vec();
         let mut file = file_for(call, plant, table);
-        let due = Due::new(plant, file.len());
-        match chosen {
+        match self.random.pick(&slices) {
             Slice::Model => words = self.damaged_words(plant),
             Slice::Table => {
                 for _ in 0..1 + self.random.below(2) {
@@ -417,15 +466,7 @@ impl Comparison {
             _ if call == Call::ReadModel => file = self.damaged_model(plant, &file),
             _ => file = self.damaged_table(plant, table),
         }
-        let random = &mut self.random;
-        let exact = random.chance(3, 4);
-        let mut length = |due: usize| if exact { due } else { random_length(random, due) };
-        let lengths =
-            Lengths { words: length(due.of(call, Slice::Words)), work: length(due.table), file: length(due.room) };
-        let limit = self.random.below(pass_budget(plant).min(30) as usize) as u32;
-        let input = Input { model: &words, table: &list, file: &file, limit };
-        self.sized_call("a damaged input", call, &input, &lengths, &due)?;
-        Ok(())
+        (words, list, file)
     }
 
     /// Model words, edited, shortened or thrown together.

@@ -24,8 +24,9 @@
 //! * `compare`   – compares two implementations of the C calls, `lending` those of `exports`;
 //!   `trimming` a model and the same one with its start boxes trimmed; `editions` a model in both editions, and with
 //!   narrower ranges; `changes` counts what T-06 changes, and holds what it must not; `quoting` holds answers to their
-//!   quotes; `fixed`, `fixed_calls`, `fixed_starts`, `fixed_delays`, `fixed_cuts`, `fixed_resets` and `fixed_quotes`
-//!   have the fixed cases, `coverage` counts what came up
+//!   quotes, `writing` written model files to their words; `fixed`, `fixed_calls`, `fixed_starts`, `fixed_delays`,
+//!   `fixed_cuts`, `fixed_resets`, `fixed_quotes` and `fixed_written` have the fixed cases, `coverage` counts what came
+//!   up
 //! * `host_ffi`  – the C calls of libhost.a (feature `host`), or a stand-in
 
 pub mod analysis;
@@ -51,6 +52,7 @@ pub mod fixed_delays;
 pub mod fixed_quotes;
 pub mod fixed_resets;
 pub mod fixed_starts;
+pub mod fixed_written;
 pub mod fraction;
 pub mod generate;
 pub mod host;
@@ -70,6 +72,7 @@ pub mod starts;
 pub mod steps;
 pub mod tables;
 pub mod trimming;
+pub mod writing;
 
 /// A refusal: the number of the first question that was answered no.
 pub type Refusal = u32;

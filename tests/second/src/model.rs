@@ -29,7 +29,7 @@ pub fn words_per_location(n: usize) -> usize {
 
 /// A model's edition (document 02, T-10). In the first a masked variable has one reset value; in the second one
 /// other than d may have a reset range.
-#[derive(Clone, Copy, Debug, Default, PartialEq, Eq)]
+#[derive(Clone, Copy, Debug, Default, PartialEq, Eq, PartialOrd)]
 pub enum Edition {
     #[default]
     One,
@@ -277,6 +277,11 @@ impl<'a> Plant<'a> {
     pub fn cut(&self, l: usize) -> Option<Cut> {
         let (variable, value) = (self.cuts[2 * l], self.cuts[2 * l + 1]);
         (variable != -1).then_some(Cut { variable: variable as usize, value })
+    }
+
+    /// How many locations are cut.
+    pub fn cuts(&self) -> usize {
+        (0..self.sizes.locations).filter(|&l| self.cut(l).is_some()).count()
     }
 
     /// Is any location cut? Then the fields of a table file and the lines of a listing name the piece.

@@ -3,9 +3,10 @@
 
 use std::cmp::Ordering;
 
-use crate::compare::{hex, written_table, Comparison, Difference};
+use crate::compare::{hex, Comparison, Difference};
 use crate::coverage::note;
 use crate::exports::{Call, Input};
+use crate::files::model_file;
 use crate::lending::Lengths;
 use crate::model::Plant;
 use crate::quote::{Quote, Taken};
@@ -32,7 +33,7 @@ pub(crate) fn quoted_lengths(quote: &Quote) -> Lengths {
 fn kinds(plant: &Plant, limit: u32, quote: &Quote, taken: &Taken) -> [bool; QUOTED.len()] {
     let by_ceiling = (limit as u64).cmp(&quote.ceiling);
     // What is always absent: the second pieces on both walls of each cut variable.
-    let absent = 2 * (0..plant.sizes.locations).filter(|&l| plant.cut(l).is_some()).count() as u64;
+    let absent = 2 * plant.cuts() as u64;
     let field_bytes = 3 + 4 * plant.field_words() as u64;
     [
         limit == 0,
@@ -85,24 +86,19 @@ impl Comparison {
         Err(Difference { text: format!("{quote:?}, but short of it numbers and those due are {numbers:?}") })
     }
 
-    /// What the calls on words took and what decide takes in a buffer of the quoted bytes keeps to the quote.
+    /// What the calls took keeps to the quote.
     pub(crate) fn quote_case(
         &mut self,
         plant: &Plant,
-        model: &[u8],
         limit: u32,
         quote: &Quote,
-        by_words: &Taken,
+        taken: &Taken,
     ) -> Result<(), Difference> {
-        let (decided, buffer) = self.decide("in the quoted bytes", model, quote.bytes as usize, limit)?;
-        let (code, passes) = (decided >> 32, decided as u32 as u64);
-        let bytes = if code < 100 { 0 } else { written_table(plant, &buffer).len() as u64 };
-        let taken = Taken { passes: passes.max(by_words.passes), bytes: bytes.max(by_words.bytes), ..*by_words };
-        if code < 100 || !quote.holds(&taken) {
-            let text = format!("{quote:?}, but {taken:?} under limit {limit}, decided {code}\nmodel {}", hex(model));
-            return Err(Difference { text });
+        if !quote.holds(taken) {
+            let model = hex(&model_file(plant.words()));
+            return Err(Difference { text: format!("{quote:?}, but {taken:?} under limit {limit}\nmodel {model}") });
         }
-        for ((kind, _), is) in QUOTED.iter().zip(kinds(plant, limit, quote, &taken)) {
+        for ((kind, _), is) in QUOTED.iter().zip(kinds(plant, limit, quote, taken)) {
             if is {
                 note(&mut self.counts.quotes, *kind);
             }

@@ -4,14 +4,15 @@ use second::analysis::Answer;
 use second::before;
 use second::calls::{self, Buffers};
 use second::ceiling;
-use second::damage::{damaged_ranges, damaged_starts, RANGE_DAMAGE, START_DAMAGE};
+use second::damage::{damage_bytes, damaged_ranges, damaged_starts, edited_model_file, RANGE_DAMAGE, START_DAMAGE};
 use second::draft::{Draft, LocationDraft};
 use second::examples::*;
 use second::exports::{answer, Call, Input, Lent};
-use second::files::{field, file_of_words, model_file};
+use second::files::{field, file_of_words, model_file, model_file_bytes};
 use second::fixed_quotes::quotes;
 use second::fixed_resets::{short_lists, NO_EDITION};
 use second::fixed_starts::STARTS_OF_P;
+use second::fixed_written::{files, lengths};
 use second::generate::{extreme_model, random_model};
 use second::host::MOST_MODEL_WORDS;
 use second::listing::listing;
@@ -24,6 +25,118 @@ use second::steps::wall_step;
 
 fn buffers(words: usize) -> Buffers {
     Buffers { table: vec![-7; words], work: vec![-9; words] }
+}
+
+/// What value and quote hold before a call.
+const OLD_VALUE: u64 = 3;
+const OLD_QUOTE: Quote = Quote { words: 11, bytes: 12, ceiling: 13 };
+
+/// A call on model words that writes neither words nor counters: its number, value and quote.
+fn answered(call: Call, model: &[i32], file: &mut [u8]) -> (u32, u64, Quote) {
+    let (mut jobs, mut passes, mut value, mut quote) = (1, 2, OLD_VALUE, OLD_QUOTE);
+    let (words, work) = (&mut [4][..], &mut [5][..]);
+    let mut lent =
+        Lent { words, work, file, jobs: &mut jobs, passes: &mut passes, value: &mut value, quote: &mut quote };
+    let number = answer(call, &Input::of_model(model), &mut lent);
+    assert_eq!((&*lent.words, &*lent.work), (&[4][..], &[5][..]));
+    assert_eq!((jobs, passes), (1, 2));
+    (number, value, quote)
+}
+
+/// T-01: files worked out by hand, byte by byte. Words behind a model's are not part of it; bytes behind its file
+/// stand; 40 changes nothing.
+#[test]
+fn model_files_by_hand() {
+    for (label, words, file) in files() {
+        let write = |list: &[i32], length: usize| calls::write_model(list, vec![7; length]);
+        let longer = [&words[..], &[1, -1, 0]].concat();
+        for list in [&words, &longer] {
+            assert_eq!(write(list, file.len()), (Ok(file.len()), file.clone()), "{label}");
+            assert_eq!(write(list, file.len() + 2), (Ok(file.len()), [&file[..], &[7, 7]].concat()), "{label}");
+            for length in [0, 1, file.len() - 1] {
+                assert_eq!(write(list, length), (Err(40), vec![7; length]), "{label}");
+            }
+        }
+        assert_eq!(calls::read_model(&file, vec![3; words.len()]), (Ok(words.len()), words), "{label}");
+    }
+}
+
+/// T-01: question 40 asks for this model's own file, whose length is worked out by hand, and not for the longest.
+#[test]
+fn lengths_of_model_files() {
+    for (label, draft, bytes) in lengths() {
+        let words = draft.words();
+        assert_eq!(model_file_bytes(&Plant::from_words(&words).unwrap()), bytes, "{label}");
+        assert_eq!(calls::write_model(&words, vec![7; bytes]), (Ok(bytes), model_file(&words)), "{label}");
+        assert_eq!(calls::write_model(&words, vec![7; bytes - 1]), (Err(40), vec![7; bytes - 1]), "{label}");
+    }
+}
+
+/// T-01: the value is written in every case, 0 on a refusal, and nothing is but the file. The model's questions come
+/// before 40.
+#[test]
+fn model_files_are_asked_for_last() {
+    let p = plant_p().words();
+    let written = |model: &[i32], length: usize| {
+        let mut file = vec![7; length];
+        let (number, value, quote) = answered(Call::WriteModel, model, &mut file);
+        assert!(number == 100 || file == vec![7; length]);
+        assert_eq!(quote, OLD_QUOTE);
+        (number, value)
+    };
+    assert_eq!([97, 98, 29_907].map(|length| written(&p, length)), [(100, 97); 3]);
+    assert_eq!([0, 1, 96].map(|length| written(&p, length)), [(40, 0); 3]);
+    for length in 0..p.len() {
+        assert_eq!([0, 97].map(|room| written(&p[..length], room)), [(5, 0); 2]);
+    }
+    for (place, word, number) in [
+        (0, 7, 2),
+        (1, 65, 3),
+        (2, -1, 4),
+        (EDITION_AT, 3, 43),
+        (P_LOCATION, 11, 11),
+        (P_LOCATION + 4, 2, 12),
+        (P_START_FLAG, 2, 13),
+        (P_FORBIDDEN, 1, 19),
+        (P_CUT, 0, 46),
+    ] {
+        let mut words = p.clone();
+        words[place] = word;
+        assert_eq!([0, 96, 97, 200].map(|room| written(&words, room)), [(number, 0); 4]);
+    }
+    // Cut, P's file is longer by a field; in edition 2 it is as long.
+    let (cut, second) = (plant_p_cut().words(), Draft { edition: Edition::Two, ..plant_p() }.words());
+    assert_eq!([97, 111, 112].map(|room| written(&cut, room)), [(40, 0), (40, 0), (100, 112)]);
+    assert_eq!([96, 97].map(|room| written(&second, room)), [(40, 0), (100, 97)]);
+}
+
+/// T-01: the reader gives the same words back, and a file that reads is written again with the same bytes, a damaged
+/// one too.
+#[test]
+fn model_files_there_and_back() {
+    let mut random = Random::new(1);
+    // Damaged files that read, and how many of them have cuts.
+    let (mut damaged, mut cuts) = (0, 0);
+    for _ in 0..3_000 {
+        let words = random_model(&mut random).words();
+        let plant = Plant::from_words(&words).unwrap();
+        let (written, file) = calls::write_model(&words, vec![7; model_file_bytes(&plant)]);
+        assert_eq!(written, Ok(file.len()));
+        assert_eq!(calls::read_model(&file, vec![3; words.len()]), (Ok(words.len()), words.clone()));
+        let mut bytes = file;
+        if random.chance(1, 2) {
+            bytes = edited_model_file(&mut random, &plant);
+        } else {
+            damage_bytes(&mut random, &mut bytes);
+        }
+        let (read, words) = calls::read_model(&bytes, vec![3; words.len()]);
+        if read.is_ok() {
+            assert_eq!(calls::write_model(&words, vec![7; bytes.len()]), (Ok(bytes.len()), bytes));
+            damaged += 1;
+            cuts += Plant::from_words(&words).unwrap().any_cut() as u64;
+        }
+    }
+    assert!(damaged > 300 && cuts > 150, "{damaged}, {cuts}");
 }
 
 /// T-02: question 13 asks for flag, order, range, and zeros under flag 0.
@@ -359,15 +472,10 @@ fn shares_of_a_location() {
 /// T-07: the quote is written in every case, zeros on a refusal, and nothing else is.
 #[test]
 fn quotes_are_always_written() {
-    let old = Quote { words: 11, bytes: 12, ceiling: 13 };
     let quoted = |model: &[i32]| {
-        let (mut jobs, mut passes, mut value, mut quote) = (1, 2, 3, old);
-        let (words, work, file) = (&mut [4][..], &mut [5][..], &mut [6][..]);
-        let mut lent =
-            Lent { words, work, file, jobs: &mut jobs, passes: &mut passes, value: &mut value, quote: &mut quote };
-        let number = answer(Call::Quote, &Input { model, table: &[], file: &[], limit: 9 }, &mut lent);
-        assert_eq!((&*lent.words, &*lent.work, &*lent.file), (&[4][..], &[5][..], &[6][..]));
-        assert_eq!((jobs, passes, value), (1, 2, 3));
+        let mut file = [6];
+        let (number, value, quote) = answered(Call::Quote, model, &mut file);
+        assert_eq!((value, file), (OLD_VALUE, [6]));
         (number, quote)
     };
     let p = plant_p().words();

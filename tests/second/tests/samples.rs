@@ -2,10 +2,11 @@
 
 use second::analysis::{run, Answer};
 use second::before;
+use second::compare::written_table;
 use second::draft::Draft;
 use second::examples::{
-    hand_filled, heated_vat, three_tanks, water_level, worn_pump, AT_THE_STIRRER, BY_HAND, OVER_THE_RIM, RUNS_DRY,
-    RUNS_OVER,
+    hand_filled, heated_vat, shut_off, three_tanks, water_level, worn_pump, AT_THE_STIRRER, BY_HAND, OVER_THE_RIM,
+    RUNS_DRY, RUNS_OVER,
 };
 use second::files::{model_file, model_of_file, parse_table};
 use second::listing::{listing, LIMIT};
@@ -78,6 +79,58 @@ fn quotes() {
         };
         let found: Vec<_> = expected.lines().filter(|found| found.starts_with(&begins)).collect();
         assert!(!found.is_empty() && found.iter().all(|found| found.starts_with(&line)), "{line}, {found:?}");
+    }
+}
+
+/// What the C sample `draw` is to print with its float at a level.
+fn said(float: i32) -> Vec<String> {
+    let words = shut_off(float).words();
+    let plant = match Plant::from_words(&words) {
+        Ok(plant) => plant,
+        Err(number) => return vec![format!("the plant: refused {number}: ")],
+    };
+    let file = model_file(&words);
+    let mut buffer = vec![0; plant.table_file_room()];
+    let number = second::host::decide(&file, &mut buffer, LIMIT);
+    let (answer, valve) = match number >> 32 {
+        100 => ("safe", "can be left out"),
+        101 => ("unknown", "stays"),
+        code => panic!("{float}: answered {code}"),
+    };
+    vec![
+        format!("model bytes {}", file.len()),
+        format!("answer {answer}"),
+        format!("passes {}", number as u32),
+        format!("table bytes {}", written_table(&plant, &buffer).len()),
+        format!("the second shut-off valve {valve}"),
+    ]
+}
+
+/// What the C sample `draw` is expected to print, and the file that it is expected to save, are what is found here of
+/// its plant: safe with the float up to 75, unknown from 76 up, refused below 10 and above 120.
+#[test]
+fn drawn() {
+    let expected = std::fs::read_to_string(concat!(env!("CARGO_MANIFEST_DIR"), "/../c/draw.expected")).unwrap();
+    let bytes = expected.lines().filter(|line| line.starts_with(' ')).flat_map(str::split_whitespace);
+    let saved: Vec<u8> = bytes.map(|digits| u8::from_str_radix(digits, 16).unwrap()).collect();
+    assert_eq!(saved, model_file(&shut_off(70).words()));
+    let mut levels = Vec::new();
+    for called in expected.split("$ draw ").skip(1) {
+        let (words, printed) = called.split_once('\n').unwrap();
+        let printed: Vec<_> = printed.lines().take_while(|line| !line.starts_with("status")).collect();
+        if printed.is_empty() {
+            continue;
+        }
+        let float = words.split(' ').next().unwrap().parse().unwrap();
+        let said = said(float);
+        assert!(printed.len() == said.len() && printed.iter().zip(&said).all(|(line, said)| line.starts_with(said)));
+        levels.push(float);
+    }
+    assert_eq!(levels, [70, 70, 75, 76, 120, 121, 9, i32::MAX]);
+    for (float, answer) in
+        [(9, "refused"), (10, "safe"), (75, "safe"), (76, "unknown"), (120, "unknown"), (121, "refused")]
+    {
+        assert!(said(float).concat().contains(answer), "{float}");
     }
 }
 

@@ -1,12 +1,14 @@
 //! Does the comparison find wrong C calls? Each function here is this package's own answer with one
-//! mistake, in a number, a value or lent memory; each must be found within few random models.
+//! mistake, in a number, a value or lent memory; each must be found within few random models. Wrong writers
+//! of model files stand in `wrong_writers`.
 
+mod finding;
+
+use finding::{found_after, must_be_found, Answer};
 use second::before;
 use second::ceiling;
-use second::compare::{Comparison, Tested};
 use second::exports::{answer, Call, Input, Lent};
 use second::files::{HEAD, HEAD_2};
-use second::host;
 use second::model::{
     ask_head, ordered_inside, words_per_location, Edition, Location, Piece, Plant, Sizes, EDITION_AT, LEVEL,
 };
@@ -14,8 +16,6 @@ use second::quote::{by_widths, Quote};
 use second::ranges::{highs_alone, lows_alone, with_ranges};
 use second::starts::{any_crosses, table_of_whole_boxes, touched_by_whole_boxes};
 use second::tables::well_formed;
-
-type Answer = fn(Call, &Input, &mut Lent) -> u32;
 
 fn refused(number: u32) -> bool {
     number < 100
@@ -995,19 +995,9 @@ const WRONG: [(&str, Answer); 91] = [
     ("longer model not quoted", longer_model_not_quoted),
 ];
 
-/// How many random models were compared until the mistake was found; None if it was not.
-fn found_after(answer: Answer, models: u64) -> Option<u64> {
-    let mut comparison = Comparison::new(Tested { decide: host::decide, check: host::check, answer }, 11);
-    (1..=models).find(|_| comparison.random_case(6).is_err())
-}
-
 #[test]
 fn every_wrong_call_is_found() {
-    for (name, wrong) in WRONG {
-        let found = found_after(wrong, 2_000);
-        println!("{name}: found with model {found:?}");
-        assert!(found.is_some(), "not found: {name}");
-    }
+    WRONG.into_iter().for_each(|(name, wrong)| must_be_found(name, wrong));
 }
 
 /// Writes past a lent buffer are found too: the margins are compared.

@@ -105,6 +105,7 @@ fn print_counts(counts: &Counts) {
     print_calls(counts);
     println!("extremes: {}", listed(&counts.extremes));
     println!("quotes held to answers: {}", listed(&counts.quotes));
+    println!("models written and read again: {}", listed(&counts.written));
     println!(
         "tables accepted of {} safe answers, {} tables refused for models answered unknown",
         counts.accepted, counts.refused

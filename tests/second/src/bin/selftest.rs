@@ -4,7 +4,8 @@
 //!
 //! Stops with a panic at the first breach. What is asked of every random model:
 //!
-//! * its file reads back as its words, and a file that reads is what writing gives;
+//! * its file, as it is written into buffers of all lengths, reads back as its words, and a file that reads is what
+//!   writing gives;
 //! * the answer, k and table are those of the literal passes (module `plain`), k being the
 //!   first index; k is at most the ceiling, and below it if unfinished;
 //! * buffers after the call stand as document 01 says;
@@ -24,7 +25,7 @@ use second::ceiling;
 use second::checker::ask_table;
 use second::damage::*;
 use second::desk::Desk;
-use second::files::{model_file, table_file};
+use second::files::{model_file, model_file_bytes, table_file, MOST_MODEL_BYTES};
 use second::generate::*;
 use second::host::{self, MOST_MODEL_WORDS};
 use second::model::{Edition, Plant, HEAD_WORDS};
@@ -101,6 +102,25 @@ fn read_model(random: &mut Random, counts: &mut Counts, file: &[u8], length: usi
     }
 }
 
+/// Write a model into a buffer, and ask that the buffer stands as its number says, and that what was written reads as
+/// the model's words. Gives how many bytes it has.
+fn write_model(random: &mut Random, counts: &mut Counts, list: &[i32], length: usize) -> Result<usize, u32> {
+    let before: Vec<u8> = (0..length).map(|_| random.next() as u8).collect();
+    let (outcome, after) = calls::write_model(list, before.clone());
+    note(&mut counts.seen, "write model", &outcome);
+    match outcome {
+        Ok(count) => {
+            let plant = Plant::from_words(list).expect("what is written passes its questions");
+            assert_eq!(count, model_file_bytes(&plant));
+            assert_eq!(after[count..], before[count..]);
+            let (read, words) = calls::read_model(&after[..count], vec![9; plant.words().len()]);
+            assert_eq!((read, &words[..]), (Ok(words.len()), plant.words()));
+        }
+        Err(_) => assert_eq!(after, before),
+    }
+    outcome
+}
+
 /// Read a table, and ask that the buffer stands as its number says.
 fn read_table(random: &mut Random, counts: &mut Counts, model: &[i32], file: &[u8], length: usize) {
     let before = random_words(random, length);
@@ -162,6 +182,10 @@ fn one_model(random: &mut Random, counts: &mut Counts) {
     let file = model_file(&words);
     let spare = random.below(5);
     assert_eq!(read_model(random, counts, &file, words.len() + spare), Some(words.clone()));
+    let bytes = file.len();
+    for (length, due) in [(bytes, Ok(bytes)), (bytes + 1 + spare, Ok(bytes)), (bytes - 1, Err(40)), (0, Err(40))] {
+        assert_eq!(write_model(random, counts, &words, length), due);
+    }
 
     // The answer, against the literal passes.
     let limit = random_limit(random, &plant);
@@ -294,6 +318,10 @@ fn damaged_inputs(random: &mut Random, counts: &mut Counts, plant: &Plant, file:
         let outcome = calls::quote(&list);
         note(&mut counts.seen, "quote", &outcome);
         assert_eq!(outcome.err(), model_number);
+        let outcome = write_model(random, counts, &list, 0);
+        assert_eq!(outcome.err(), model_number.or(Some(40)));
+        let outcome = write_model(random, counts, &list, MOST_MODEL_BYTES);
+        assert_eq!(outcome.err(), model_number);
         let size = plant.table_words();
         let short = |random: &mut Random| if random.chance(1, 6) { random.below(size) } else { size };
         let (table_length, work_length) = (short(random), short(random));
@@ -399,6 +427,7 @@ fn possible(call: &str) -> Vec<u32> {
         "analysis" => &[43, 20, 21],
         "read table" => &[43, 20, 35, 36, 37, 38, 32],
         "write table" => &[43, 20, 32, 39],
+        "write model" => &[43, 40],
         // The desk's model questions are the analysis's; here it is called on whole models.
         "desk" => return vec![0, 20, 22],
         _ => unreachable!(),

@@ -99,11 +99,13 @@ fn inputs_of_a_model(random: &mut Random, pool: &mut Vec<Asked>) {
             (file.clone(), damaged_table_file(random, &plant, &table).0)
         };
         let due = if call == Call::ReadModel { words.len() } else { size };
+        let room = if call == Call::WriteModel { model.len() } else { length };
         let mut other = table.clone();
         damage_table(random, &plant, &mut other);
         let edited = if random.chance(1, 2) { edited_words(random, &plant) } else { words.clone() };
-        let whole = Lengths { words: due, work: due, file: length };
-        let short = Lengths { words: due - random.below(2), work: due - random.below(2), ..whole };
+        let whole = Lengths { words: due, work: due, file: room };
+        let mut shorter = |due: usize| due - random.below(2);
+        let short = Lengths { words: shorter(due), work: shorter(due), file: shorter(room) };
         let (model, table) = (words.clone(), table.clone());
         pool.push(Asked::Other { call, model, table, file, limit, lengths: whole });
         pool.push(Asked::Other { call, model: edited, table: other, file: broken, limit, lengths: short });
