@@ -2,14 +2,14 @@
  * draw LEVEL [FILE] - draws a vat with one shut-off valve in words, writes its model file, and has
  * it decided. For drawing offices.
  *
- * The vat is filled by 4 to 6 a second. At LEVEL hangs a float: there the valve begins to close,
- * which takes 4 seconds, and 0 to 6 a second still come in. Then the pump empties the vat down to
- * 10, and it is filled again. The rim is at 100. With the float at 70 the level comes to 70 + 4 * 6
- * = 94 at the most; with the float at 76 it can come to the rim.
+ * The vat is filled from 10 on, by 4 to 6 a second. At LEVEL hangs a float: there the valve begins
+ * to close, which takes 4 seconds, and 0 to 6 a second still come in. Then the pump empties the vat
+ * down to 10, and it is filled again. The rim is at 100. With the float at 70 the level comes to
+ * 70 + 4 * 6 = 94 at the most; with the float at 76 it can come to the rim.
  *
  * Saves the model file as FILE, if one is named. Prints its length, the answer, its passes, the
- * length of its table file, and what becomes of the second shut-off valve; or 'refused', the number
- * and what it means in words.
+ * length of its table file, and what becomes of the second shut-off valve; or that the plant is
+ * refused, with the number and what it means in words.
  *
  * Exit status: 0 answered, 1 refused, 2 called wrongly or a file that cannot be written.
  *
@@ -50,10 +50,10 @@ static uint8_t table[QII_TABLE_BYTES_MAX];
 static uint32_t write_plant(int32_t at, uint64_t *len)
 {
     const int32_t model[] = {
-        2, 3, 3, 2, 1, /* n, L, E, B, edition 1 */
+        2, 3, 3, 3, 1, /* n, L, E, B, edition 1 */
 
         /* Each location: its invariant, its rates, and where runs start. */
-        BOX(10, at, 0, 0), BOX(4, 6, 0, 0), STARTS_IN(BOX(10, 20, 0, 0)), /* FILLING */
+        BOX(10, at, 0, 0), BOX(4, 6, 0, 0), STARTS_IN(BOX(10, 10, 0, 0)), /* FILLING */
         BOX(at, TOP, 0, 4), BOX(0, 6, 1, 1), NO_START,                    /* CLOSING */
         BOX(10, TOP, 0, 0), BOX(-5, -3, 0, 0), NO_START,                  /* EMPTYING */
 
@@ -66,7 +66,8 @@ static uint32_t write_plant(int32_t at, uint64_t *len)
         EMPTYING, FILLING, LEVEL, LOW, LOW, SETS_NOTHING, /* when the vat is empty */
         BOX(10, 10, 0, 0), BOX(10, 10, 0, 0),
 
-        /* Each forbidden box: its location, then all from the rim up. */
+        /* Each forbidden box: its location, then all from the rim up; in every location. */
+        FILLING, BOX(RIM, TOP, 0, 0),
         CLOSING, BOX(RIM, TOP, 0, 4),
         EMPTYING, BOX(RIM, TOP, 0, 0),
 

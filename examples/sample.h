@@ -88,7 +88,7 @@ static inline int print_decided(uint64_t decided, const uint8_t *table)
     return 1;
 }
 
-/* Prints an order's file, and the number that it is refused by with what it means in words. */
+/* Prints what is refused, an order's file or a plant, and the number with its meaning in words. */
 static inline void print_refused(const char *name, uint32_t number)
 {
     printf("%s: refused %" PRIu32 ": %s\n", name, number, qii_meaning(number));

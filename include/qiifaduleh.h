@@ -243,12 +243,13 @@ uint32_t qii_read_model(const uint8_t *file, size_t file_len, int32_t *words, si
  *
  *     model, model_len    model words
  *     file, file_len      a buffer for the file, of at least as many bytes as it has:
- *                         QII_MODEL_BYTES(n, L, E, B, C), never above QII_MODEL_BYTES_MAX
+ *                         QII_MODEL_BYTES(n, L, E, B, C); QII_MODEL_BYTES_MAX is always enough
  *     value               how many bytes the file has
  *
- * Gives QII_DONE, or a refusal. Any words that pass the model's questions can be written; of such
- * words, so after 40 too, qii_model_bytes gives the length of the file. qii_read_model reads the
- * file as the same words, and decide and check take it for the same model.
+ * Gives QII_DONE, or a refusal. Any words that pass the model's questions can be written, and of
+ * these qii_model_bytes gives the file's length: a caller that got 40 learns by it how long a
+ * buffer to bring. qii_read_model reads the file as the same words, and decide and check take it
+ * for the same model.
  *
  * Leaves in the buffer, after QII_DONE, the file, and the rest as it was; after a refusal, all as
  * it was.

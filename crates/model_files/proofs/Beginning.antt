@@ -250,14 +250,14 @@ module _ (m : List ℤ) where
   pub same-alone : SameHead alone m
   same-alone j l = getD-take (modelSize m) m j (pos 0) (omega (arith, head-first m))
 
-  module _ (w : Whole m) where
-    pub length-alone : length alone ≡ modelSize m
-    length-alone = length-take-le (modelSize m) m (w .long)
+  pub length-alone : modelSize m ≤ length m → length alone ≡ modelSize m
+  length-alone long = length-take-le (modelSize m) m long
 
+  module _ (w : Whole m) where
     alone-whole : Whole alone
     alone-whole = record {
-      head = same-allowed alone m same-alone (omega (arith, length-alone, head-first m)) (w .head);
-      long = omega (arith, length-alone, same-size alone m same-alone);
+      head = same-allowed alone m same-alone (omega (arith, length-alone (w .long), head-first m)) (w .head);
+      long = omega (arith, length-alone (w .long), same-size alone m same-alone);
     }
 
     pub records-alone : recordsQuestions alone ≡ recordsQuestions m

@@ -59,10 +59,14 @@ record EditionRead : Type 0 where
   range-under-1 : readModelCall (tagged 1 (modelFile (dose (pos 2) 5 8))) (replicate 54 (pos 7)) ≡ record { count = Refused 16; words = replicate 54 (pos 0) }
   range-tag : take 3 (modelFile (dose (pos 2) 5 8)) ≡ 9 ∷ 0 ∷ 16 ∷ []
 
+-- location 0 of P cut at y 5
+abbrev cutP : List ℤ
+cutP = take 23 P ++ (pos 1 ∷ pos 5 ∷ [])
+
 record CutRead : Type 0 where
-  -- location 0 cut at y 5, and its file is that of P with the cut
-  reads : readModelCall (withCut P (pos 0 ∷ pos 1 ∷ pos 5 ∷ [])) (replicate 25 (pos 7)) ≡ record { count = Done 25; words = take 23 P ++ (pos 1 ∷ pos 5 ∷ []) }
-  written : modelFile (take 23 P ++ (pos 1 ∷ pos 5 ∷ [])) ≡ withCut P (pos 0 ∷ pos 1 ∷ pos 5 ∷ [])
+  -- its file is that of P with the cut
+  reads : readModelCall (withCut P (pos 0 ∷ pos 1 ∷ pos 5 ∷ [])) (replicate 25 (pos 7)) ≡ record { count = Done 25; words = cutP }
+  written : modelFile cutP ≡ withCut P (pos 0 ∷ pos 1 ∷ pos 5 ∷ [])
   -- a first byte of 8 alone; a field of two words; one of the right length of which a byte is missing
   tag-alone : readModelCall (modelFile P ++ (8 ∷ [])) (replicate 25 (pos 7)) ≡ record { count = Refused 46; words = replicate 25 (pos 0) }
   two-words : answered (withCut P (pos 0 ∷ pos 1 ∷ [])) ≡ Refused 46
@@ -85,10 +89,6 @@ record CutRead : Type 0 where
 -- a buffer of so many bytes, all 7
 abbrev bytes : ℕ → List ℕ
 bytes k = replicate k 7
-
--- location 0 of P cut at y 5
-abbrev cutP : List ℤ
-cutP = take 23 P ++ (pos 1 ∷ pos 5 ∷ [])
 
 -- document 02, T-01: P's file is written into as many bytes as it has; the rest is left; into fewer, nothing is. All the model's questions
 -- come before 40, the last one too
@@ -173,7 +173,7 @@ cut-read = record {
 }
 
 write : Write
-unfolding onto cat allBelow bitsAt wordAt wordsAt wordBytes wordsBytes fieldAt field _then_ first low high boxBy boxAt locationAt invariant rate startFlag startBox switchAt forbiddenAt forbiddenLocation forbiddenBox cutAt cutVariable cutValue modelSize boxOk insideOk zerosOk startOk locationQuestions forbiddenQuestion strictlyInside cutOk cutQuestion rangesQuestions recordsQuestions plantP P modelFile runQuestions headWords headQuestions cutWordsOk cutFieldQuestions endQuestions cutsQuestions bodyQuestions runWords recordWords fileCut cutWords fileWords recordsFileQuestions unlessRefused readModelCall editionQuestion modelQuestions writeModelQuestions writeModelCall
+unfolding onto cat allBelow wordBytes wordsBytes field _then_ first low high boxBy boxAt locationAt invariant rate startFlag startBox switchAt forbiddenAt forbiddenLocation forbiddenBox cutAt cutVariable cutValue modelSize boxOk insideOk zerosOk startOk locationQuestions forbiddenQuestion strictlyInside cutOk cutQuestion rangesQuestions recordsQuestions plantP P modelFile editionQuestion modelQuestions writeModelQuestions writeModelCall
 write = record {
   exact = refl;
   rest-left = refl;

@@ -6,10 +6,10 @@ use Prim.Native.Nat.{ℕ, zero, suc, _+_, _*_, _≤_, _<_}
 use native.Mathlib.Decide.{decLt}
 use native.Mathlib.Omega.{arith}
 use borrow.Author.Tests.{le-leb, lt-leb}
-use lib.Dec.{leb, le→leb, leb→le}
+use lib.Dec.{leb, le→leb}
 use lib.IntN.{ℤ, negsuc}
 use lib.ListN.{length, take}
-use lib.Seq.{length-take-le, take-all}
+use lib.Seq.{take-all}
 use Rattle.integers.specs.Words.{eqZ, AreBytes, onto}
 use Rattle.integers.specs.Counted.{sumBelow}
 use Rattle.integers.proofs.Buffers.{take-onto, length-cat-sum}
@@ -19,22 +19,22 @@ use Rattle.plant.specs.Ask.{ask, _then_}
 use Rattle.plant.specs.Model.{n#, L#, E#, B#, cutVariable, modelSize}
 use Rattle.plant.specs.Questions.{rangesQuestions, editionQuestion, recordsQuestions, modelQuestions}
 use Rattle.plant.specs.Calls.{readReply, wordsRead, writeReply, bytesWritten, writeBy}
-use Rattle.plant.proofs.Asks.{ask-intro, ask-le, ask-yes, then-both, then-intro, then-le}
+use Rattle.plant.proofs.Asks.{ask-intro, ask-le, then-both, then-intro, then-le}
 use Rattle.plant.proofs.Numbers.{model-le}
 use Rattle.plant.proofs.Passed.{passed}
 use Rattle.plant.proofs.Writing.{not-refused}
 use Rattle.records.specs.Whole.{Whole}
 use Rattle.records.proofs.Positions.{head-first}
 use Rattle.model.proofs.Passing.{head-passed, whole-passed}
-use Rattle.model_files.specs.ModelFile.{cutFieldSize, modelFile, fileRoomQuestion, readModelCall, writeModelQuestions, writeModelCall}
+use Rattle.model_files.specs.ModelFile.{cutFieldSize, modelFile, readModelCall, writeModelQuestions, writeModelCall}
 use Rattle.model_files.specs.ModelFilesExact.{IsModelFile}
 use Rattle.model_files.specs.Room.{cutFieldOf, cutFields}
 use Rattle.model_files.specs.ModelBack.{cutLocations, ModelBack}
 use Rattle.model_files.proofs.ModelReading.{same-size, same-ranges, same-edition, cuts-small}
-use Rattle.model_files.proofs.Beginning.{alone, same-alone, records-alone, file-alone}
+use Rattle.model_files.proofs.Beginning.{alone, same-alone, length-alone, records-alone, file-alone}
 use Rattle.model_files.proofs.ModelRoundTrip.{model-files-exact}
 use Rattle.model_files.proofs.ModelWriting as writing
-use Rattle.model_files.proofs.ModelWriting.{length-cut, cuts-most}
+use Rattle.model_files.proofs.ModelWriting.{length-cut-field, cuts-most}
 
 -- ---- how the call ends
 
@@ -56,8 +56,8 @@ write-asked : (m : List ℤ) (bytes : List ℕ) → writeReply (writeModelCall m
 unfolding writeModelCall writeModelQuestions
 write-asked m bytes code =
     let few : writeModelQuestions m (length bytes) ≤ 46 = then-le (modelQuestions m) _ 46 (model-le m) (omega (arith, ask-le (leb (length (modelFile m)) (length bytes)) 40)) in
-    let a : (modelQuestions m ≡ 0) × (fileRoomQuestion m (length bytes) ≡ 0) = then-both (modelQuestions m) _ (not-refused (modelFile m) bytes (writeModelQuestions m (length bytes)) (omega (arith, few)) code) in
-    (a .0, leb→le (length (modelFile m)) (length bytes) (ask-yes (leb (length (modelFile m)) (length bytes)) 40 (omega arith) (a .1)))
+    let q : writeModelQuestions m (length bytes) ≡ 0 = not-refused (modelFile m) bytes (writeModelQuestions m (length bytes)) (omega (arith, few)) code in
+    (then-both (modelQuestions m) _ q .0, writing.write-yes m bytes q .room)
 
 -- ---- how long the file is
 
@@ -69,7 +69,7 @@ module _ (m : List ℤ) where
   some-cuts : (l : ℕ) → sumBelow l (λ i. length (cutFieldOf m i)) ≡ sumBelow l (λ i. cond (eqZ (cutVariable m i) (negsuc 0)) 0 1) * 15
   unfolding sumBelow
   some-cuts zero = refl
-  some-cuts (suc l) = omega (arith, some-cuts l, length-cut m l, cut-bytes (eqZ (cutVariable m l) (negsuc 0)))
+  some-cuts (suc l) = omega (arith, some-cuts l, length-cut-field m l, cut-bytes (eqZ (cutVariable m l) (negsuc 0)))
 
   cuts-length : length (cutFields m) ≡ cutLocations m * 15
   unfolding cutFields cutLocations
@@ -107,7 +107,7 @@ module _ (m : List ℤ) where
   asked-alone : modelSize m ≤ length m → modelQuestions (alone m) ≡ modelQuestions m
   unfolding modelQuestions _then_
   asked-alone long =
-      let k : length (alone m) ≡ modelSize m = length-take-le (modelSize m) m long in
+      let k : length (alone m) ≡ modelSize m = length-alone m long in
       let same : modelSize (alone m) ≡ modelSize m = same-size (alone m) m (same-alone m) in
       rw (le-leb 5 (length (alone m)) (omega (arith, k, head-first m)), le-leb 5 (length m) (omega (arith, head-first m)), same-ranges (alone m) m (same-alone m), same-edition (alone m) m (same-alone m), le-leb (modelSize (alone m)) (length (alone m)) (omega (arith, k, same)), le-leb (modelSize m) (length m) long)
       (by (rangesQuestions m) refl)

@@ -79,7 +79,7 @@ module _ (m : List ℤ) (tag : ℕ) (d : List ℕ) {from count w to : ℕ} (r : 
       (omega (arith, record-there i u), omega (arith, p, r .room, row-within (fieldLength w) u), r .w-small)
 
   pub run-written : {i next : ℕ} {x : List ℕ} → i ≡ count → Written (fieldOf tag m from w) d to i next x → x ≡ onto (take to d ++ recordFields tag m from count w) d
-  run-written e h = h .file-is ∙ ap (λ (k : ℕ). onto (take to d ++ cat k (fieldOf tag m from w)) d) e
+  run-written e h = h .buffer-is ∙ ap (λ (k : ℕ). onto (take to d ++ cat k (fieldOf tag m from w)) d) e
 
 -- ---- the cuts
 
@@ -92,17 +92,17 @@ cut-le true = omega arith
 cut-le false = omega arith
 
 module _ (m : List ℤ) where
-  pub length-cut : (l : ℕ) → length (cutFieldOf m l) ≡ cond (eqZ (cutVariable m l) (negsuc 0)) 0 (fieldLength cutFieldSize)
-  length-cut l = length-by (eqZ (cutVariable m l) (negsuc 0)) l (cutVariable m l) (cutValue m l)
+  pub length-cut-field : (l : ℕ) → length (cutFieldOf m l) ≡ cond (eqZ (cutVariable m l) (negsuc 0)) 0 (fieldLength cutFieldSize)
+  length-cut-field l = length-by (eqZ (cutVariable m l) (negsuc 0)) l (cutVariable m l) (cutValue m l)
 
   -- one location more
   pub cuts-more : (l : ℕ) {bytes r : ℕ} → bytes ≡ length (cat l (cutFieldOf m)) → r ≡ cond (eqZ (cutVariable m l) (negsuc 0)) 0 (fieldLength cutFieldSize) → bytes + r ≡ length (cat (l + 1) (cutFieldOf m))
-  cuts-more l eb er = rw (cat-more l (cutFieldOf m)) (omega (arith, eb, er, length-cut l, length-append (cat l (cutFieldOf m)) (cutFieldOf m l)))
+  cuts-more l eb er = rw (cat-more l (cutFieldOf m)) (omega (arith, eb, er, length-cut-field l, length-append (cat l (cutFieldOf m)) (cutFieldOf m l)))
 
   pub cuts-le : (l : ℕ) → length (cat l (cutFieldOf m)) ≤ l * fieldLength cutFieldSize
   unfolding cat
   cuts-le zero = omega arith
-  cuts-le (suc l) = omega (arith, length-append (cat l (cutFieldOf m)) (cutFieldOf m l), cuts-le l, length-cut l, cut-le (eqZ (cutVariable m l) (negsuc 0)))
+  cuts-le (suc l) = omega (arith, length-append (cat l (cutFieldOf m)) (cutFieldOf m l), cuts-le l, length-cut-field l, cut-le (eqZ (cutVariable m l) (negsuc 0)))
 
   pub cuts-all : {l bytes : ℕ} → l ≡ L# m → bytes ≡ length (cat l (cutFieldOf m)) → bytes ≡ length (cutFields m)
   unfolding cutFields
@@ -126,7 +126,7 @@ module _ (m : List ℤ) where
   -- the field of one that is: header, location, variable and value, each put behind the one before
   module _ (l : ℕ) (cut : eqZ (cutVariable m l) (negsuc 0) ≡ false) where
     pub cut-next : (to : ℕ) {r : ℕ} → r ≡ fieldLength cutFieldSize → to + r ≡ to + length (cutFieldOf m l)
-    cut-next to e = ap (λ (k : ℕ). to + k) (e ∙ sym (length-cut l ∙ rw cut refl))
+    cut-next to e = ap (λ (k : ℕ). to + k) (e ∙ sym (length-cut-field l ∙ rw cut refl))
 
     pub cut-put : (d x y z : List ℕ) (to : ℕ) {at len : ℕ} → Whole m → l < L# m → at ≡ cutAt m l → to ≤ length d → len ≡ payloadLength cutFieldSize
         → x ≡ onto (take to d ++ header 8 len) d
@@ -146,9 +146,19 @@ module _ (m : List ℤ) where
 -- ---- the whole file
 
 module _ (m : List ℤ) (w : Whole m) where
-  pub file-length : length (modelFile m) ≡ cutsFrom m + length (cutFields m)
+  -- the fields of the records, in turn, and then those of the cuts
+  records-in-turn : ((headField m ++ locations m) ++ switches m) ++ forbiddens m ≡ recordsFile m
+  records-in-turn = append-assoc (headField m ++ locations m) (switches m) (forbiddens m) ∙ append-assoc (headField m) (locations m) (switches m ++ forbiddens m)
+
+  records-length : length (recordsFile m) ≡ cutsFrom m
+  records-length = ap length (sym records-in-turn) ∙ before-cuts m w
+
+  file-is : modelFile m ≡ recordsFile m ++ cutFields m
   unfolding modelFile cutFields
-  file-length = ap length (around-cuts m w) ∙ length-append (((headField m ++ locations m) ++ switches m) ++ forbiddens m) (cuts m) ∙ ap (λ (k : ℕ). k + length (cuts m)) (before-cuts m w)
+  file-is = around-cuts m w ∙ ap (λ (s : List ℕ). s ++ cuts m) records-in-turn
+
+  pub file-length : length (modelFile m) ≡ cutsFrom m + length (cutFields m)
+  file-length = ap length file-is ∙ length-append (recordsFile m) (cutFields m) ∙ ap (λ (k : ℕ). k + length (cutFields m)) records-length
 
   -- the three runs, as the loops write them
   locations-are : recordFields 2 m (locationAt m 0) (L# m) (locationSize (n# m)) ≡ locations m
@@ -173,17 +183,11 @@ module _ (m : List ℤ) (w : Whole m) where
       let f₂ : x₂ ≡ onto (headField m ++ locations m) d = rw locations-are at e₂ ∙ onto-then (headField m) (locations m) d x₁ 0 19 e₁ (omega arith) (omega (arith, length-head-field m w)) in
       let f₃ : x₃ ≡ onto ((headField m ++ locations m) ++ switches m) d = rw switches-are at e₃ ∙ onto-then (headField m ++ locations m) (switches m) d x₂ 0 (switchesFrom m) f₂ (omega arith) (omega (arith, before-switches m w)) in
       let f₄ : x₄ ≡ onto (((headField m ++ locations m) ++ switches m) ++ forbiddens m) d = rw forbiddens-are at e₄ ∙ onto-then ((headField m ++ locations m) ++ switches m) (forbiddens m) d x₃ 0 (forbiddensFrom m) f₃ (omega arith) (omega (arith, before-forbiddens m w)) in
-      f₄ ∙ ap (λ (s : List ℕ). onto s d) (append-assoc (headField m ++ locations m) (switches m) (forbiddens m) ∙ append-assoc (headField m) (locations m) (switches m ++ forbiddens m))
+      f₄ ∙ ap (λ (s : List ℕ). onto s d) records-in-turn
 
   -- the records, then the cuts
   pub file-put : (d x y : List ℕ) → x ≡ onto (recordsFile m) d → y ≡ onto (take (cutsFrom m) x ++ cutFields m) x → y ≡ onto (modelFile m) d
-  unfolding modelFile cutFields
-  file-put d x y ex ey =
-      let before : length (recordsFile m) ≡ cutsFrom m = ap length (sym records-around) ∙ before-cuts m w in
-      ey ∙ onto-then (recordsFile m) (cuts m) d x 0 (cutsFrom m) ex (omega arith) (omega (arith, before)) ∙ ap (λ (s : List ℕ). onto s d) (ap (λ (s : List ℕ). s ++ cuts m) (sym records-around) ∙ sym (around-cuts m w))
-    where
-      records-around : ((headField m ++ locations m) ++ switches m) ++ forbiddens m ≡ recordsFile m
-      records-around = append-assoc (headField m ++ locations m) (switches m) (forbiddens m) ∙ append-assoc (headField m) (locations m) (switches m ++ forbiddens m)
+  file-put d x y ex ey = ey ∙ onto-then (recordsFile m) (cutFields m) d x 0 (cutsFrom m) ex (omega arith) (omega (arith, records-length)) ∙ ap (λ (s : List ℕ). onto s d) (sym file-is)
 
   pub cuts-most : length (cutFields m) ≤ 960
   unfolding cutFields
@@ -215,7 +219,7 @@ module _ (m : List ℤ) (d : List ℕ) (r : FileRoom m d) where
 
   pub cuts-written : {l to : ℕ} {x : List ℕ} → l ≡ L# m → Written (cutFieldOf m) d (cutsFrom m) l to x → (x ≡ onto (take (cutsFrom m) d ++ cutFields m) d) × (to ≡ cutsFrom m + length (cutFields m))
   unfolding cutFields
-  cuts-written e h = (h .file-is ∙ ap (λ (k : ℕ). onto (take (cutsFrom m) d ++ cat k (cutFieldOf m)) d) e, h .to-is ∙ ap (λ (k : ℕ). cutsFrom m + length (cat k (cutFieldOf m))) e)
+  cuts-written e h = (h .buffer-is ∙ ap (λ (k : ℕ). onto (take (cutsFrom m) d ++ cat k (cutFieldOf m)) d) e, h .to-is ∙ ap (λ (k : ℕ). cutsFrom m + length (cat k (cutFieldOf m))) e)
 
 -- what a yes to all questions of the call tells
 pub write-yes : (m : List ℤ) (d : List ℕ) → writeModelQuestions m (length d) ≡ 0 → FileRoom m d

@@ -1,4 +1,4 @@
--- What the code on model files asks of what it is lent.
+-- What the code on model files asks of what it is lent, and which fields its parts write.
 use mathlib.Core.Path.{_≡_}
 use mathlib.Core.List.{List}
 use Prim.Native.Nat.{ℕ, _+_, _*_, _<_, _≤_}

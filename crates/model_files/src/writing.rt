@@ -52,8 +52,8 @@ fn file_length(model: &[i32]) -> usize
     requires { ⌜ Whole (now model) ⌝ }
     ensures { λ r. ⌜ r ≡ length (modelFile (now (model .entry))) ⌝ }
 {
-    let records = cuts_from(model);
-    records + cuts_length(model)
+    let cuts_at = cuts_from(model);
+    cuts_at + cuts_length(model)
 }
 
 // The model's questions; then: byte buffer long enough for the file? 40

@@ -289,7 +289,7 @@ module _ (m t : List ℤ) (d : List ℕ) {width before l to : ℕ} (r : Location
 
   pub location-written : {q next : ℕ} {x : List ℕ} → q ≡ pieces m l → Written (fieldsOf m t l) d to q next x → (x ≡ onto (take to d ++ locationFields m t l) d) × (next ≡ to + length (locationFields m t l))
   unfolding locationFields
-  location-written e w = (w .file-is ∙ ap (λ (k : ℕ). onto (take to d ++ cat k (fieldsOf m t l)) d) e, w .to-is ∙ ap (λ (k : ℕ). to + length (cat k (fieldsOf m t l))) e)
+  location-written e w = (w .buffer-is ∙ ap (λ (k : ℕ). onto (take to d ++ cat k (fieldsOf m t l)) d) e, w .to-is ∙ ap (λ (k : ℕ). to + length (cat k (fieldsOf m t l))) e)
 
 module _ (m t : List ℤ) (d : List ℕ) (r : WriteReady m t d) where
   pub head-room : 7 ≤ length d
@@ -316,7 +316,7 @@ module _ (m t : List ℤ) (d : List ℕ) (r : WriteReady m t d) where
 
   pub all-written : {l to : ℕ} {x : List ℕ} → l ≡ L# m → Written (locationFields m t) d 7 l to x → (x ≡ onto (take 7 d ++ pieceFields m t) d) × (to ≡ 7 + length (pieceFields m t))
   unfolding pieceFields
-  all-written e w = (w .file-is ∙ ap (λ (k : ℕ). onto (take 7 d ++ cat k (locationFields m t)) d) e, w .to-is ∙ ap (λ (k : ℕ). 7 + length (cat k (locationFields m t))) e)
+  all-written e w = (w .buffer-is ∙ ap (λ (k : ℕ). onto (take 7 d ++ cat k (locationFields m t)) d) e, w .to-is ∙ ap (λ (k : ℕ). 7 + length (cat k (locationFields m t))) e)
 
 -- ---- the whole file
 

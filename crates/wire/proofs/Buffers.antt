@@ -29,21 +29,21 @@ module _ {A : Type 0} where
 -- the buffer x after k of the lists g, from a place and up to another; it was d
 pub record Written {A : Type 0} (g : ℕ → List A) (d : List A) (from k to : ℕ) (x : List A) : Type 0 where
   pub to-is : to ≡ from + length (cat k g)
-  pub file-is : x ≡ onto (take from d ++ cat k g) d
+  pub buffer-is : x ≡ onto (take from d ++ cat k g) d
 
 module _ {A : Type 0} (g : ℕ → List A) (d : List A) (from : ℕ) (room : from ≤ length d) where
   pub written-none : {to : ℕ} → to ≡ from → Written g d from 0 to d
   written-none e = record {
     to-is = rw (cat-none g) (omega arith);
-    file-is = onto-start from d room ∙ ap (λ (s : List A). onto (take from d ++ s) d) (sym (cat-none g));
+    buffer-is = onto-start from d room ∙ ap (λ (s : List A). onto (take from d ++ s) d) (sym (cat-none g));
   }
 
   pub written-more : {k to next : ℕ} {x y : List A} → Written g d from k to x → y ≡ onto (take to x ++ g k) x → next ≡ to + length (g k) → Written g d from (k + 1) next y
   written-more {k} {to} {next} {x} {y} w ey en = record {
     to-is = rw (cat-more k g) (omega (arith, en, w .to-is, length-append (cat k g) (g k)));
-    file-is = ey ∙ cat-turn g from k to d x (w .file-is) room (sym (w .to-is));
+    buffer-is = ey ∙ cat-turn g from k to d x (w .buffer-is) room (sym (w .to-is));
   }
 
   pub length-written : {k to : ℕ} {x : List A} → Written g d from k to x → to ≤ length d → length x ≡ length d
-  length-written {k} {to} {x} w h = rw (w .file-is) (length-onto (take from d ++ cat k g) d
+  length-written {k} {to} {x} w h = rw (w .buffer-is) (length-onto (take from d ++ cat k g) d
       (omega (arith, length-append (take from d) (cat k g), length-take-le from d room, w .to-is)))

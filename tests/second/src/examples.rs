@@ -355,8 +355,8 @@ pub fn water_level_cut() -> Draft {
 }
 
 /// What the C sample `draw` draws: a vat with one shut-off valve, which a float at a level closes. Variable 0 is the
-/// level, with the rim at 100, variable 1 the clock of the valve. In location 0 the vat is filled, by 4 to 6; at the
-/// float the valve begins to close, in location 1, for 4, and up to 6 still comes in; then the pump empties the vat, in
+/// level, with the rim at 100, variable 1 the clock of the valve. In location 0 the vat is filled from 10 on, by 4 to
+/// 6; at the float the valve begins to close, in location 1, for 4, and up to 6 still comes in; then the pump empties the vat, in
 /// location 2, down to 10. With the float at 70 the level comes to 94 at the most, with the float at 76 to the rim.
 pub fn shut_off(float: i32) -> Draft {
     let location = |invariant: [i32; 4], rates: [i32; 4], start: Option<Vec<i32>>| LocationDraft {
@@ -387,12 +387,12 @@ pub fn shut_off(float: i32) -> Draft {
     Draft {
         n: 2,
         locations: vec![
-            location([10, float, 0, 0], [4, 6, 0, 0], Some(vec![10, 20, 0, 0])),
+            location([10, float, 0, 0], [4, 6, 0, 0], Some(vec![10, 10, 0, 0])),
             location([float, 120, 0, 4], [0, 6, 1, 1], None),
             location([10, 120, 0, 0], [-5, -3, 0, 0], None),
         ],
         switches: vec![at_level(0, 1, 1, float), when_shut, at_level(2, 0, 0, 10)],
-        forbidden: vec![(1, vec![100, 120, 0, 4]), (2, vec![100, 120, 0, 0])],
+        forbidden: vec![(0, vec![100, 120, 0, 0]), (1, vec![100, 120, 0, 4]), (2, vec![100, 120, 0, 0])],
         ..Draft::default()
     }
 }

@@ -23,6 +23,19 @@ use second::random::Random;
 use second::simulate::{may_move, may_start, Configuration, Move};
 use second::steps::wall_step;
 
+/// Bad words of plant P: place, word, and the number by which the model's questions refuse it.
+const BAD_WORDS_OF_P: [(usize, i32, u32); 9] = [
+    (0, 7, 2),
+    (1, 65, 3),
+    (2, -1, 4),
+    (EDITION_AT, 3, 43),
+    (P_LOCATION, 11, 11),
+    (P_LOCATION + 4, 2, 12),
+    (P_START_FLAG, 2, 13),
+    (P_FORBIDDEN, 1, 19),
+    (P_CUT, 0, 46),
+];
+
 fn buffers(words: usize) -> Buffers {
     Buffers { table: vec![-7; words], work: vec![-9; words] }
 }
@@ -89,17 +102,7 @@ fn model_files_are_asked_for_last() {
     for length in 0..p.len() {
         assert_eq!([0, 97].map(|room| written(&p[..length], room)), [(5, 0); 2]);
     }
-    for (place, word, number) in [
-        (0, 7, 2),
-        (1, 65, 3),
-        (2, -1, 4),
-        (EDITION_AT, 3, 43),
-        (P_LOCATION, 11, 11),
-        (P_LOCATION + 4, 2, 12),
-        (P_START_FLAG, 2, 13),
-        (P_FORBIDDEN, 1, 19),
-        (P_CUT, 0, 46),
-    ] {
+    for (place, word, number) in BAD_WORDS_OF_P {
         let mut words = p.clone();
         words[place] = word;
         assert_eq!([0, 96, 97, 200].map(|room| written(&words, room)), [(number, 0); 4]);
@@ -484,17 +487,7 @@ fn quotes_are_always_written() {
     for length in 0..p.len() {
         assert_eq!(quoted(&p[..length]), (5, Quote::default()));
     }
-    for (place, word, number) in [
-        (0, 7, 2),
-        (1, 65, 3),
-        (2, -1, 4),
-        (EDITION_AT, 3, 43),
-        (P_LOCATION, 11, 11),
-        (P_LOCATION + 4, 2, 12),
-        (P_START_FLAG, 2, 13),
-        (P_FORBIDDEN, 1, 19),
-        (P_CUT, 0, 46),
-    ] {
+    for (place, word, number) in BAD_WORDS_OF_P {
         let mut words = p.clone();
         words[place] = word;
         assert_eq!(quoted(&words), (number, Quote::default()));

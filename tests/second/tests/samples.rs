@@ -127,9 +127,12 @@ fn drawn() {
         levels.push(float);
     }
     assert_eq!(levels, [70, 70, 75, 76, 120, 121, 9, i32::MAX]);
-    for (float, answer) in
-        [(9, "refused"), (10, "safe"), (75, "safe"), (76, "unknown"), (120, "unknown"), (121, "refused")]
-    {
+    for float in 0..=130 {
+        let answer = match float {
+            10..=75 => "safe",
+            76..=120 => "unknown",
+            _ => "refused",
+        };
         assert!(said(float).concat().contains(answer), "{float}");
     }
 }

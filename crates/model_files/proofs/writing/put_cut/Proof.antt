@@ -21,22 +21,19 @@ use Rattle.model_files.proofs.writing.put_cut.Tie as tie
 within : (c : tie.Start) → cutAt (c .args .model .now) (c .args .l) + cutSize ≤ length (c .args .model .now)
 within c = cut-within _ (c .pre .whole) _ (c .pre .location)
 
--- by the test of its variable
-not-cut : (c : tie.Then1) → eqZ (cutVariable (c .before .before .before .before .before .args .model .now) (c .before .before .before .before .before .args .l)) (negsuc 0) ≡ true
+-- what the test of its variable tells
+told : (c : tie.After-same) → c .same .result ≡ eqZ (cutVariable (c .before .before .before .before .args .model .now) (c .before .before .before .before .args .l)) (negsuc 0)
 unfolding cutVariable
-not-cut c =
-    let m = c .before .before .before .before .before .args .model .now in
-    let at = c .before .before .before .cut-at in
-    let e = simp (got32 (word m (at .result)) (c .before .before .same-arg .given)) at (c .before .same .ensures) in
-    ap (λ (k : ℕ). eqZ (word m k) (negsuc 0)) (sym (at .ensures)) ∙ (sym e ∙ c .if1 .taken)
+told c =
+    let m = c .before .before .before .before .args .model .now in
+    let at = c .before .before .cut-at in
+    simp (got32 (word m (at .result)) (c .before .same-arg .given)) at (c .same .ensures) ∙ ap (λ (k : ℕ). eqZ (word m k) (negsuc 0)) (at .ensures)
+
+not-cut : (c : tie.Then1) → eqZ (cutVariable (c .before .before .before .before .before .args .model .now) (c .before .before .before .before .before .args .l)) (negsuc 0) ≡ true
+not-cut c = sym (told (c .before)) ∙ c .if1 .taken
 
 is-cut : (c : tie.Else1) → eqZ (cutVariable (c .before .before .before .before .before .args .model .now) (c .before .before .before .before .before .args .l)) (negsuc 0) ≡ false
-unfolding cutVariable
-is-cut c =
-    let m = c .before .before .before .before .before .args .model .now in
-    let at = c .before .before .before .cut-at in
-    let e = simp (got32 (word m (at .result)) (c .before .before .same-arg .given)) at (c .before .same .ensures) in
-    ap (λ (k : ℕ). eqZ (word m k) (negsuc 0)) (sym (at .ensures)) ∙ (sym e ∙ c .if1 .left)
+is-cut c = sym (told (c .before)) ∙ c .if1 .left
 
 room : (c : tie.Else1) → c .before .before .before .before .before .args .to + fieldLength cutFieldSize ≤ length (c .before .before .before .before .before .args .file .now)
 room c = let s = c .before .before .before .before .before in omega (arith, s .pre .room, cut-next _ _ (is-cut c) (s .args .to) refl)
