@@ -356,8 +356,9 @@ pub fn water_level_cut() -> Draft {
 
 /// What the C sample `draw` draws: a vat with one shut-off valve, which a float at a level closes. Variable 0 is the
 /// level, with the rim at 100, variable 1 the clock of the valve. In location 0 the vat is filled from 10 on, by 4 to
-/// 6; at the float the valve begins to close, in location 1, for 4, and up to 6 still comes in; then the pump empties the vat, in
-/// location 2, down to 10. With the float at 70 the level comes to 94 at the most, with the float at 76 to the rim.
+/// 6; at the float the valve begins to close, in location 1, for 4, and up to 6 still comes in; then the pump empties
+/// the vat, in location 2, down to 10. With the float at 70 the level comes to 94 at the most, with the float at 76 to
+/// the rim.
 pub fn shut_off(float: i32) -> Draft {
     let location = |invariant: [i32; 4], rates: [i32; 4], start: Option<Vec<i32>>| LocationDraft {
         invariant: invariant.to_vec(),

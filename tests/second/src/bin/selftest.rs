@@ -4,8 +4,8 @@
 //!
 //! Stops with a panic at the first breach. What is asked of every random model:
 //!
-//! * its file, as it is written into buffers of all lengths, reads back as its words, and a file that reads is what
-//!   writing gives;
+//! * its file, as it is written into buffers of its length and of others, reads back as its words, and a file that
+//!   reads is what writing gives;
 //! * the answer, k and table are those of the literal passes (module `plain`), k being the
 //!   first index; k is at most the ceiling, and below it if unfinished;
 //! * buffers after the call stand as document 01 says;
@@ -25,6 +25,7 @@ use second::ceiling;
 use second::checker::ask_table;
 use second::damage::*;
 use second::desk::Desk;
+use second::draft::Draft;
 use second::files::{model_file, model_file_bytes, table_file, MOST_MODEL_BYTES};
 use second::generate::*;
 use second::host::{self, MOST_MODEL_WORDS};
@@ -77,6 +78,10 @@ fn random_words(random: &mut Random, length: usize) -> Vec<i32> {
     (0..length).map(|_| random.next() as i32).collect()
 }
 
+fn random_bytes(random: &mut Random, length: usize) -> Vec<u8> {
+    (0..length).map(|_| random.next() as u8).collect()
+}
+
 /// Read a model into a buffer, and ask that the buffer stands as its number says.
 fn read_model(random: &mut Random, counts: &mut Counts, file: &[u8], length: usize) -> Option<Vec<i32>> {
     let before = random_words(random, length);
@@ -105,7 +110,7 @@ fn read_model(random: &mut Random, counts: &mut Counts, file: &[u8], length: usi
 /// Write a model into a buffer, and ask that the buffer stands as its number says, and that what was written reads as
 /// the model's words. Gives how many bytes it has.
 fn write_model(random: &mut Random, counts: &mut Counts, list: &[i32], length: usize) -> Result<usize, u32> {
-    let before: Vec<u8> = (0..length).map(|_| random.next() as u8).collect();
+    let before = random_bytes(random, length);
     let (outcome, after) = calls::write_model(list, before.clone());
     note(&mut counts.seen, "write model", &outcome);
     match outcome {
@@ -162,41 +167,33 @@ fn quoted(counts: &mut Counts, plant: &Plant, taken: &Taken) {
     counts.by_widths[1] += cuts;
 }
 
-fn one_model(random: &mut Random, counts: &mut Counts) {
-    let draft = match random.below(8) {
+/// A random model, of any of the ways in which they are made here.
+fn any_model(random: &mut Random) -> Draft {
+    match random.below(8) {
         0 => crossing_model(random),
         1 => pump_model(random),
         2 => ranged_model(random),
         _ => random_model(random),
-    };
-    let words = draft.words();
-    let plant = Plant::from_words(&words).expect("a random model passes its questions");
-    counts.crossing += any_crosses(&plant) as u64;
-    counts.second_edition += (plant.edition == Edition::Two) as u64;
-    counts.ranged += any_range(&plant) as u64;
-    let sizes = plant.sizes;
-    let size = plant.table_words();
-    counts.by_n[sizes.n] += 1;
+    }
+}
 
-    // Its file.
-    let file = model_file(&words);
-    let spare = random.below(5);
-    assert_eq!(read_model(random, counts, &file, words.len() + spare), Some(words.clone()));
+fn note_model(counts: &mut Counts, plant: &Plant) {
+    counts.crossing += any_crosses(plant) as u64;
+    counts.second_edition += (plant.edition == Edition::Two) as u64;
+    counts.ranged += any_range(plant) as u64;
+    counts.by_n[plant.sizes.n] += 1;
+}
+
+/// The model's file is read, and written into buffers of several lengths.
+fn file_case(random: &mut Random, counts: &mut Counts, words: &[i32], file: &[u8], spare: usize) {
+    assert_eq!(read_model(random, counts, file, words.len() + spare), Some(words.to_vec()));
     let bytes = file.len();
     for (length, due) in [(bytes, Ok(bytes)), (bytes + 1 + spare, Ok(bytes)), (bytes - 1, Err(40)), (0, Err(40))] {
-        assert_eq!(write_model(random, counts, &words, length), due);
+        assert_eq!(write_model(random, counts, words, length), due);
     }
+}
 
-    // The answer, against the literal passes.
-    let limit = random_limit(random, &plant);
-    let spare_work = random.below(4);
-    let lent = Buffers { table: random_words(random, size + spare), work: random_words(random, size + spare_work) };
-    let (outcome, after) = calls::analysis(&words, limit, lent.clone());
-    note(&mut counts.seen, "analysis", &outcome);
-    let (answer, k) = outcome.expect("a model with buffers of its size is answered");
-    let table = &after.table[..size];
-    assert_eq!(after.table[size..], lent.table[size..]);
-    assert_eq!(after.work, vec![0; lent.work.len()]);
+fn note_answer(counts: &mut Counts, answer: Answer, k: u32) {
     *counts.answers.entry(answer.word()).or_default() += 1;
     counts.passes += k as u64;
     counts.most_passes = counts.most_passes.max(k);
@@ -207,17 +204,63 @@ fn one_model(random: &mut Random, counts: &mut Counts) {
         11..=100 => 5,
         _ => 6,
     }] += 1;
+}
+
+/// A random model that is analysed under a limit.
+struct Tried<'a> {
+    plant: &'a Plant<'a>,
+    file: &'a [u8],
+    limit: u32,
+    /// How much longer than due most of its buffers are.
+    spare: usize,
+}
+
+/// What the analysis of a model gave.
+struct Found {
+    answer: Answer,
+    k: u32,
+    /// The table buffer, which begins with the answer's table.
+    buffer: Vec<i32>,
+    /// How many words the answer's table has.
+    size: usize,
+}
+
+impl Found {
+    /// The answer's table.
+    fn table(&self) -> &[i32] {
+        &self.buffer[..self.size]
+    }
+}
+
+/// The analysis, in buffers of the due length or longer: they stand as document 01 says, and k keeps to limit and
+/// ceiling.
+fn analysis_case(random: &mut Random, counts: &mut Counts, tried: &Tried) -> Found {
+    let (plant, limit, size) = (tried.plant, tried.limit, tried.plant.table_words());
+    let spare_work = random.below(4);
+    let table = random_words(random, size + tried.spare);
+    let lent = Buffers { table, work: random_words(random, size + spare_work) };
+    let (outcome, after) = calls::analysis(plant.words(), limit, lent.clone());
+    note(&mut counts.seen, "analysis", &outcome);
+    let (answer, k) = outcome.expect("a model with buffers of its size is answered");
+    assert_eq!(after.table[size..], lent.table[size..]);
+    assert_eq!(after.work, vec![0; lent.work.len()]);
+    note_answer(counts, answer, k);
     assert!(k <= limit);
-    let ceiling = ceiling::of_plant(&plant);
+    let ceiling = ceiling::of_plant(plant);
     assert!(k as u64 <= ceiling);
     assert!(answer != Answer::Unfinished || (k == limit && (k as u64) < ceiling));
-    let mut faces = plain::from_words(&plant, &vec![0; size]);
+    Found { answer, k, buffer: after.table, size }
+}
+
+/// The answer by the literal passes, k, and the words of table k.
+fn literal_answer(counts: &mut Counts, plant: &Plant, limit: u32) -> (Answer, u32, Vec<i32>) {
+    let mut faces = plain::from_words(plant, &vec![0; plant.table_words()]);
     let mut index = 0;
     let found = loop {
-        if plain::forbidden_touched(&plant, &faces) {
+        if plain::forbidden_touched(plant, &faces) {
             break Answer::Unknown;
         }
-        let next = plain::pass(&plant, &faces);
+        let next = plain::pass(plant, &faces);
         counts.literal_passes += 1;
         if next == faces {
             break Answer::Safe;
@@ -228,63 +271,108 @@ fn one_model(random: &mut Random, counts: &mut Counts) {
         faces = next;
         index += 1;
     };
-    assert_eq!((answer, k), (found, index));
-    let literal = plain::to_words(&plant, &faces);
-    assert_eq!(table, literal);
+    (found, index, plain::to_words(plant, &faces))
+}
 
-    // Checker, host calls.
-    let accepted = calls::checker(&words, &after.table);
+/// The checker, and the host's check of the table's file: accepted exactly if the answer is safe.
+fn check_case(counts: &mut Counts, tried: &Tried, found: &Found, written: &[u8]) {
+    let accepted = calls::checker(tried.plant.words(), &found.buffer);
     note(&mut counts.seen, "checker", &accepted);
-    assert_eq!(accepted.is_ok(), answer == Answer::Safe);
-    let written = table_file(&plant, table);
-    assert_eq!(calls::check(&file, &written), accepted.err().map_or(100, u64::from));
-    assert_eq!(host::check_quick(&file, &written), accepted.err().map_or(100, u64::from));
-    let room = plant.table_file_room();
-    let before: Vec<u8> = (0..room + spare).map(|_| random.next() as u8).collect();
-    let (number, bytes) = calls::decide(&file, before.clone(), limit);
-    assert_eq!(number, (answer.code() as u64) << 32 | k as u64);
-    assert_eq!(bytes[..written.len()], written);
-    assert_eq!(bytes[written.len()..], before[written.len()..]);
-    let mut quick = before.clone();
-    assert_eq!(host::decide_quick(&file, &mut quick, limit), number);
+    assert_eq!(accepted.is_ok(), found.answer == Answer::Safe);
+    let number = accepted.err().map_or(100, u64::from);
+    assert_eq!(calls::check(tried.file, written), number);
+    assert_eq!(host::check_quick(tried.file, written), number);
+}
+
+/// A buffer begins with what was written, and its rest stands as before. A breach is shown at the caller's line.
+#[track_caller]
+fn hold_written(buffer: &[u8], written: &[u8], before: &[u8]) {
+    assert_eq!(buffer[..written.len()], *written);
+    assert_eq!(buffer[written.len()..], before[written.len()..]);
+}
+
+/// The host's decide gives the analysis's answer and the table's file, with the quick touching too.
+fn decide_case(tried: &Tried, found: &Found, written: &[u8], before: &[u8]) {
+    let (number, bytes) = calls::decide(tried.file, before.to_vec(), tried.limit);
+    assert_eq!(number, (found.answer.code() as u64) << 32 | found.k as u64);
+    hold_written(&bytes, written, before);
+    let mut quick = before.to_vec();
+    assert_eq!(host::decide_quick(tried.file, &mut quick, tried.limit), number);
     assert_eq!(quick, bytes);
-    let (length, bytes) = calls::write_table(&words, &after.table, before.clone());
+}
+
+/// The answer's table in the checker, in the host's calls, written and read again. Gives its file's bytes.
+fn table_case(random: &mut Random, counts: &mut Counts, tried: &Tried, found: &Found) -> usize {
+    let (plant, words) = (tried.plant, tried.plant.words());
+    let written = table_file(plant, found.table());
+    check_case(counts, tried, found, &written);
+    let before = random_bytes(random, plant.table_file_room() + tried.spare);
+    decide_case(tried, found, &written, &before);
+    let (length, bytes) = calls::write_table(words, &found.buffer, before.clone());
     note(&mut counts.seen, "write table", &length);
     assert_eq!(length, Ok(written.len()));
-    assert_eq!(bytes[..written.len()], written);
-    assert_eq!(bytes[written.len()..], before[written.len()..]);
-    read_table(random, counts, &words, &written, size + spare);
-    quoted(counts, &plant, &Taken { passes: k as u64, words: literal.len() as u64, bytes: written.len() as u64 });
+    hold_written(&bytes, &written, &before);
+    read_table(random, counts, words, &written, found.size + tried.spare);
+    written.len()
+}
 
-    // Other tables.
-    let mut rest = vec![0; size];
-    let at_rest = close(&plant, &mut rest, pass_budget(&plant));
-    let mut other = random_table(random, &plant);
-    close(&plant, &mut other, 40);
+/// The table at rest and a random one: none is accepted of an unknown model, and of a safe one the table at rest is.
+/// Gives the table at rest, or table 0 after as many passes as one may ask for.
+fn other_tables(random: &mut Random, counts: &mut Counts, plant: &Plant, answer: Answer) -> Vec<i32> {
+    let mut rest = vec![0; plant.table_words()];
+    let at_rest = close(plant, &mut rest, pass_budget(plant));
+    let mut other = random_table(random, plant);
+    close(plant, &mut other, 40);
     if answer == Answer::Unknown {
         for list in [&rest, &other] {
-            assert!(ask_table(&plant, list).is_err());
+            assert!(ask_table(plant, list).is_err());
             counts.tables_refused += 1;
         }
     }
     if at_rest && answer != Answer::Unfinished {
-        assert_eq!(ask_table(&plant, &rest).is_ok(), answer == Answer::Safe);
+        assert_eq!(ask_table(plant, &rest).is_ok(), answer == Answer::Safe);
     }
+    rest
+}
 
-    // Runs.
-    let travelled = travel(&plant, table, random, 3);
-    if answer == Answer::Safe {
+/// Random runs, held to the answer and its table.
+fn runs_case(random: &mut Random, counts: &mut Counts, plant: &Plant, found: &Found) {
+    let travelled = travel(plant, found.table(), random, 3);
+    if found.answer == Answer::Safe {
         assert_eq!(travelled.forbidden, 0, "a forbidden box is met on a safe model");
         assert_eq!(travelled.unreached, 0, "no part reaches a configuration");
     }
     counts.travelled.add(&travelled);
-
-    damaged_inputs(random, counts, &plant, &file, table, &rest);
-    desk_list(random, counts, &words, size, limit.min(20));
 }
 
-/// Damaged files, words and tables in every call.
-fn damaged_inputs(random: &mut Random, counts: &mut Counts, plant: &Plant, file: &[u8], table: &[i32], rest: &[i32]) {
+/// One random model: all that is asked of it, then damaged inputs and desk calls.
+fn one_model(random: &mut Random, counts: &mut Counts) {
+    let words = any_model(random).words();
+    let plant = Plant::from_words(&words).expect("a random model passes its questions");
+    note_model(counts, &plant);
+    let file = model_file(&words);
+    let spare = random.below(5);
+    file_case(random, counts, &words, &file, spare);
+
+    let limit = random_limit(random, &plant);
+    let tried = Tried { plant: &plant, file: &file, limit, spare };
+    let found = analysis_case(random, counts, &tried);
+    let (answer, index, literal) = literal_answer(counts, &plant, limit);
+    assert_eq!((found.answer, found.k), (answer, index));
+    assert_eq!(found.table(), literal);
+    let bytes = table_case(random, counts, &tried, &found);
+    quoted(counts, &plant, &Taken { passes: found.k as u64, words: literal.len() as u64, bytes: bytes as u64 });
+
+    let rest = other_tables(random, counts, &plant, answer);
+    runs_case(random, counts, &plant, &found);
+    damaged_files(random, counts, &plant, &file);
+    damaged_lists(random, counts, &plant, [&rest, found.table()]);
+    desk_list(random, counts, &words, found.size, limit.min(20));
+    desk_near_its_end(random, counts, &words, found.size, limit.min(20));
+}
+
+/// Damaged model files.
+fn damaged_files(random: &mut Random, counts: &mut Counts, plant: &Plant, file: &[u8]) {
     let words = plant.words();
     for _ in 0..4 {
         let mut bytes = if random.chance(2, 3) { edited_model_file(random, plant) } else { file.to_vec() };
@@ -298,79 +386,115 @@ fn damaged_inputs(random: &mut Random, counts: &mut Counts, plant: &Plant, file:
         };
         read_model(random, counts, &bytes, length);
     }
-    for _ in 0..3 {
-        // Words: edited, cut or lengthened.
-        let mut list = words.to_vec();
-        if random.chance(2, 3) {
-            for (index, word) in model_edit(random, plant) {
-                list[index] = word;
-            }
-        }
-        match random.below(6) {
-            0 => list.truncate(random.below(list.len() + 1)),
-            1 => list.truncate(random.below(HEAD_WORDS + 2)),
-            2 => list.extend([1, 2, 3]),
-            _ => {}
-        }
-        let outcome = calls::ceiling(&list);
-        note(&mut counts.seen, "ceiling", &outcome);
-        let model_number = outcome.err();
-        let outcome = calls::quote(&list);
-        note(&mut counts.seen, "quote", &outcome);
-        assert_eq!(outcome.err(), model_number);
-        let outcome = write_model(random, counts, &list, 0);
-        assert_eq!(outcome.err(), model_number.or(Some(40)));
-        let outcome = write_model(random, counts, &list, MOST_MODEL_BYTES);
-        assert_eq!(outcome.err(), model_number);
-        let size = plant.table_words();
-        let short = |random: &mut Random| if random.chance(1, 6) { random.below(size) } else { size };
-        let (table_length, work_length) = (short(random), short(random));
-        let lent = Buffers { table: random_words(random, table_length), work: random_words(random, work_length) };
-        let (outcome, after) = calls::analysis(&list, random.below(8) as u32, lent.clone());
-        note(&mut counts.seen, "analysis", &outcome);
-        if outcome.is_err() {
-            assert_eq!(after, lent);
-        }
-        if model_number.is_some() {
-            assert_eq!(outcome.err(), model_number);
-        }
+}
 
-        // Tables as words.
-        let mut damaged = if random.chance(1, 2) { rest.to_vec() } else { table.to_vec() };
-        damage_table(random, plant, &mut damaged);
-        if random.chance(1, 8) {
-            damaged.truncate(random.below(damaged.len() + 1));
+/// The model's words, edited, shortened or lengthened.
+fn damaged_words(random: &mut Random, plant: &Plant) -> Vec<i32> {
+    let mut list = plant.words().to_vec();
+    if random.chance(2, 3) {
+        for (index, word) in model_edit(random, plant) {
+            list[index] = word;
         }
+    }
+    match random.below(6) {
+        0 => list.truncate(random.below(list.len() + 1)),
+        1 => list.truncate(random.below(HEAD_WORDS + 2)),
+        2 => list.extend([1, 2, 3]),
+        _ => {}
+    }
+    list
+}
+
+/// The number by which the model's questions refuse a list, if they do: the same of ceiling, quote and writing.
+fn model_number(random: &mut Random, counts: &mut Counts, list: &[i32]) -> Option<u32> {
+    let outcome = calls::ceiling(list);
+    note(&mut counts.seen, "ceiling", &outcome);
+    let number = outcome.err();
+    let outcome = calls::quote(list);
+    note(&mut counts.seen, "quote", &outcome);
+    assert_eq!(outcome.err(), number);
+    let outcome = write_model(random, counts, list, 0);
+    assert_eq!(outcome.err(), number.or(Some(40)));
+    let outcome = write_model(random, counts, list, MOST_MODEL_BYTES);
+    assert_eq!(outcome.err(), number);
+    number
+}
+
+/// A length: the one that is due, or in one case of six a shorter one.
+fn due_or_shorter(random: &mut Random, due: usize) -> usize {
+    if random.chance(1, 6) {
+        random.below(due)
+    } else {
+        due
+    }
+}
+
+/// The analysis of damaged words, in buffers for a table of `size` words or shorter ones.
+fn damaged_analysis(random: &mut Random, counts: &mut Counts, list: &[i32], size: usize, model_number: Option<u32>) {
+    let (table_length, work_length) = (due_or_shorter(random, size), due_or_shorter(random, size));
+    let lent = Buffers { table: random_words(random, table_length), work: random_words(random, work_length) };
+    let (outcome, after) = calls::analysis(list, random.below(8) as u32, lent.clone());
+    note(&mut counts.seen, "analysis", &outcome);
+    if outcome.is_err() {
+        assert_eq!(after, lent);
+    }
+    if model_number.is_some() {
+        assert_eq!(outcome.err(), model_number);
+    }
+}
+
+/// A table with one change, and in one case of eight shortened.
+fn damaged_table(random: &mut Random, plant: &Plant, table: &[i32]) -> Vec<i32> {
+    let mut damaged = table.to_vec();
+    damage_table(random, plant, &mut damaged);
+    if random.chance(1, 8) {
+        damaged.truncate(random.below(damaged.len() + 1));
+    }
+    damaged
+}
+
+/// Write a table, and ask that the buffer stands if it is refused, and that what was written reads as the same table.
+fn write_table(counts: &mut Counts, model: &[i32], table: &[i32], length: usize) {
+    let before = vec![0xC3; length];
+    let (outcome, after) = calls::write_table(model, table, before.clone());
+    note(&mut counts.seen, "write table", &outcome);
+    match outcome {
+        Err(_) => assert_eq!(after, before),
+        Ok(count) => {
+            let size = Plant::from_words(model).unwrap().table_words();
+            let (outcome, read) = calls::read_table(model, &after[..count], vec![9; size]);
+            assert_eq!(outcome, Ok(size));
+            assert_eq!(read, table[..size]);
+        }
+    }
+}
+
+/// Damaged model words in every call that takes them but the desk's, with damaged tables as words and as files.
+fn damaged_lists(random: &mut Random, counts: &mut Counts, plant: &Plant, tables: [&[i32]; 2]) {
+    let size = plant.table_words();
+    for _ in 0..3 {
+        let list = damaged_words(random, plant);
+        let model_number = model_number(random, counts, &list);
+        damaged_analysis(random, counts, &list, size, model_number);
+
+        let base = random.pick(&tables);
+        let damaged = damaged_table(random, plant, base);
         let outcome = calls::checker(&list, &damaged);
         note(&mut counts.seen, "checker", &outcome);
         if model_number.is_some() {
             assert_eq!(outcome.err(), model_number);
         }
-        let room = plant.table_file_room();
-        let length = if random.chance(1, 6) { random.below(room) } else { room };
-        let before = vec![0xC3; length];
-        let (outcome, after) = calls::write_table(&list, &damaged, before.clone());
-        note(&mut counts.seen, "write table", &outcome);
-        match outcome {
-            Err(_) => assert_eq!(after, before),
-            Ok(count) => {
-                // What was written reads back as the same table.
-                let size = Plant::from_words(&list).unwrap().table_words();
-                let (outcome, read) = calls::read_table(&list, &after[..count], vec![9; size]);
-                assert_eq!(outcome, Ok(size));
-                assert_eq!(read, damaged[..size]);
-            }
-        }
+        let length = due_or_shorter(random, plant.table_file_room());
+        write_table(counts, &list, &damaged, length);
 
-        // Tables as files.
-        let base = if random.chance(1, 2) { rest } else { table };
+        let base = random.pick(&tables);
         let (bytes, _) = damaged_table_file(random, plant, base);
         let length = if random.chance(1, 8) { random.below(size) } else { size + random.below(3) };
         read_table(random, counts, &list, &bytes, length);
     }
 }
 
-/// A list of desk calls, some of them refused.
+/// A list of desk calls from a fresh desk, some of them refused.
 fn desk_list(random: &mut Random, counts: &mut Counts, words: &[i32], size: usize, limit: u32) {
     let mut desk = Desk::default();
     let (mut jobs, mut passes) = (0u64, 0u64);
@@ -394,7 +518,10 @@ fn desk_list(random: &mut Random, counts: &mut Counts, words: &[i32], size: usiz
         desk = after;
         assert_eq!((desk.jobs as u64, desk.passes as u64), (jobs, passes));
     }
-    // Counters near their end.
+}
+
+/// A desk call with counters near their end.
+fn desk_near_its_end(random: &mut Random, counts: &mut Counts, words: &[i32], size: usize, limit: u32) {
     let near = Desk {
         jobs: u32::MAX - random.below(2) as u32,
         passes: u32::MAX - random.below(2 * limit as usize + 2) as u32,
@@ -455,13 +582,7 @@ fn print_quoted(models: u64, [whole, cut]: [u64; 2]) {
     assert!(models < 1_000 || (whole > 0 && cut > 0), "no location without a cut, or none with one");
 }
 
-fn main() {
-    let arguments: Vec<u64> =
-        std::env::args().skip(1).map(|a| a.parse().expect("arguments are numbers: models, seed")).collect();
-    let models = arguments.first().copied().unwrap_or(MODELS);
-    let seed = arguments.get(1).copied().unwrap_or(SEED);
-    println!("seed {seed}, {models} random models");
-    let counts = run(models, seed);
+fn print_models(counts: &Counts) {
     println!(
         "models by n: {:?}; with a start box that crosses the wall: {}; of edition 2: {}; with a reset range: {}",
         &counts.by_n[1..],
@@ -469,13 +590,18 @@ fn main() {
         counts.second_edition,
         counts.ranged
     );
+}
+
+fn print_answers(counts: &Counts) {
     println!("answers: {:?}", counts.answers);
     println!(
         "passes answered {} (at most {} in one answer), literal passes compared {}",
         counts.passes, counts.most_passes, counts.literal_passes
     );
     println!("answers by k (0, 1, 2, 3-5, 6-10, 11-100, more): {:?}", counts.by_passes);
-    print_quoted(models, counts.by_widths);
+}
+
+fn print_runs(models: u64, counts: &Counts) {
     let runs = &counts.travelled;
     println!(
         "runs {}, configurations {}, delays {}, switches {} ({} to a level strictly inside a reset range, {} to a \
@@ -484,9 +610,12 @@ fn main() {
     );
     let into_ranges = counts.ranged > 0 && runs.inside_ranges > 0 && runs.fractions > 0;
     assert!(models < 1_000 || into_ranges, "no model with a reset range, or no run to the inside of one");
-    println!("further tables refused on unknown models {}, desk calls {}", counts.tables_refused, counts.desk_calls);
+}
+
+/// Prints the numbers that each call gave, which must be numbers that it can give, and those that never came up.
+fn print_calls(seen: &Seen) {
     let mut missing = Vec::new();
-    for (call, numbers) in &counts.seen {
+    for (call, numbers) in seen {
         println!("{call}: {numbers:?}");
         let possible = possible(call);
         assert!(numbers.keys().all(|n| possible.contains(n) || (*call == "desk" && *n == 21)), "{call}");
@@ -495,5 +624,20 @@ fn main() {
     if !missing.is_empty() {
         println!("never came up: {}", missing.join(", "));
     }
+}
+
+fn main() {
+    let arguments: Vec<u64> =
+        std::env::args().skip(1).map(|a| a.parse().expect("arguments are numbers: models, seed")).collect();
+    let models = arguments.first().copied().unwrap_or(MODELS);
+    let seed = arguments.get(1).copied().unwrap_or(SEED);
+    println!("seed {seed}, {models} random models");
+    let counts = run(models, seed);
+    print_models(&counts);
+    print_answers(&counts);
+    print_quoted(models, counts.by_widths);
+    print_runs(models, &counts);
+    println!("further tables refused on unknown models {}, desk calls {}", counts.tables_refused, counts.desk_calls);
+    print_calls(&counts.seen);
     println!("all invariants hold");
 }

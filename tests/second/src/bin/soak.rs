@@ -68,47 +68,77 @@ fn sum(start: u64, list: impl Iterator<Item = u64>) -> u64 {
     list.fold(start, |sum, part| (sum ^ part).wrapping_mul(0x0100_0000_01B3))
 }
 
-/// Inputs made from one model: for every call one that is answered, for most a damaged one too.
+/// What the inputs of one model are made from.
+struct Made<'a> {
+    plant: Plant<'a>,
+    /// The model's file, and a damaged one.
+    model: Vec<u8>,
+    broken: Vec<u8>,
+    /// A table's words, and their file.
+    table: Vec<i32>,
+    file: Vec<u8>,
+    limit: u32,
+}
+
+/// The model's file with damage to its cuts or to its bytes.
+fn broken_model(random: &mut Random, plant: &Plant, model: &[u8]) -> Vec<u8> {
+    if random.chance(1, 4) {
+        return damaged_cuts(random, plant).0;
+    }
+    let mut broken = model.to_vec();
+    damage_bytes(random, &mut broken);
+    broken
+}
+
+/// Inputs of check and decide: the model as it is, damage to what they read, a short buffer.
+fn inputs_of_the_host(random: &mut Random, made: &Made, pool: &mut Vec<Asked>) {
+    let Made { plant, model, limit, .. } = made;
+    let (length, limit) = (plant.table_file_room(), *limit);
+    let short = random.below(length);
+    pool.push(Asked::Check { model: model.clone(), table: made.file.clone() });
+    pool.push(Asked::Check { model: model.clone(), table: damaged_table_file(random, plant, &made.table).0 });
+    pool.push(Asked::Decide { model: edited_model_file(random, plant), length, limit });
+    pool.push(Asked::Decide { model: made.broken.clone(), length, limit });
+    pool.push(Asked::Decide { model: model.clone(), length: short, limit });
+    pool.push(Asked::Decide { model: model.clone(), length, limit });
+}
+
+/// Two inputs of another call: one as it is due, and one that may be damaged and have buffers that are one short.
+fn inputs_of_a_call(random: &mut Random, made: &Made, call: Call, pool: &mut Vec<Asked>) {
+    let Made { plant, table, limit, .. } = made;
+    let (words, limit) = (plant.words(), *limit);
+    let (file, broken) = if call == Call::ReadModel {
+        (made.model.clone(), made.broken.clone())
+    } else {
+        (made.file.clone(), damaged_table_file(random, plant, table).0)
+    };
+    let due = if call == Call::ReadModel { words.len() } else { plant.table_words() };
+    let room = if call == Call::WriteModel { made.model.len() } else { plant.table_file_room() };
+    let mut other = table.clone();
+    damage_table(random, plant, &mut other);
+    let edited = if random.chance(1, 2) { edited_words(random, plant) } else { words.to_vec() };
+    let whole = Lengths { words: due, work: due, file: room };
+    let mut shorter = |due: usize| due - random.below(2);
+    let short = Lengths { words: shorter(due), work: shorter(due), file: shorter(room) };
+    let (model, table) = (words.to_vec(), table.clone());
+    pool.push(Asked::Other { call, model, table, file, limit, lengths: whole });
+    pool.push(Asked::Other { call, model: edited, table: other, file: broken, limit, lengths: short });
+}
+
+/// Inputs made from one model: for every call one as it is due, and others that may be damaged.
 fn inputs_of_a_model(random: &mut Random, pool: &mut Vec<Asked>) {
     let words = random_model(random).words();
     let plant = Plant::from_words(&words).expect("a random model passes its questions");
     let model = model_file(&words);
-    let length = plant.table_file_room();
-    let size = plant.table_words();
     let limit = random_limit(random, &plant).min(MOST_PASSES);
-    let mut table = if random.chance(1, 2) { vec![0; size] } else { random_table(random, &plant) };
+    let mut table = if random.chance(1, 2) { vec![0; plant.table_words()] } else { random_table(random, &plant) };
     close(&plant, &mut table, pass_budget(&plant));
-    let mut broken = model.clone();
-    if random.chance(1, 4) {
-        broken = damaged_cuts(random, &plant).0;
-    } else {
-        damage_bytes(random, &mut broken);
-    }
-    let short = random.below(length);
+    let broken = broken_model(random, &plant, &model);
     let file = table_file(&plant, &table);
-    pool.push(Asked::Check { model: model.clone(), table: file.clone() });
-    pool.push(Asked::Check { model: model.clone(), table: damaged_table_file(random, &plant, &table).0 });
-    pool.push(Asked::Decide { model: edited_model_file(random, &plant), length, limit });
-    pool.push(Asked::Decide { model: broken.clone(), length, limit });
-    pool.push(Asked::Decide { model: model.clone(), length: short, limit });
-    pool.push(Asked::Decide { model: model.clone(), length, limit });
+    let made = Made { plant, model, broken, table, file, limit };
+    inputs_of_the_host(random, &made, pool);
     for call in Call::ALL {
-        let (file, broken) = if call == Call::ReadModel {
-            (model.clone(), broken.clone())
-        } else {
-            (file.clone(), damaged_table_file(random, &plant, &table).0)
-        };
-        let due = if call == Call::ReadModel { words.len() } else { size };
-        let room = if call == Call::WriteModel { model.len() } else { length };
-        let mut other = table.clone();
-        damage_table(random, &plant, &mut other);
-        let edited = if random.chance(1, 2) { edited_words(random, &plant) } else { words.clone() };
-        let whole = Lengths { words: due, work: due, file: room };
-        let mut shorter = |due: usize| due - random.below(2);
-        let short = Lengths { words: shorter(due), work: shorter(due), file: shorter(room) };
-        let (model, table) = (words.clone(), table.clone());
-        pool.push(Asked::Other { call, model, table, file, limit, lengths: whole });
-        pool.push(Asked::Other { call, model: edited, table: other, file: broken, limit, lengths: short });
+        inputs_of_a_call(random, &made, call, pool);
     }
 }
 
