@@ -10,24 +10,20 @@ use lib.IntN.{ℤ, pos, natAbs}
 use lib.ListN.{take, drop}
 use lib.Seq.{getD-take, getD-drop}
 use mir.Facts.{sfits-lit}
-use mir.Syntax.{w32}
-use mir.Val.{SFits}
 use Rattle.integers.specs.Words.{word, AreWords}
 use Rattle.integers.proofs.Parts.{arithZ}
-use Rattle.integers.proofs.Signed.{fits32, between}
+use Rattle.integers.proofs.Signed.{between}
 use Rattle.wire.specs.Bytes.{part}
 use Rattle.plant.specs.Box.{low, high, boxAt}
 use Rattle.plant.specs.Model.{n#, L#, E#, B#, locationSize, switchSize, forbiddenSize, locationAt, invariant, rate, startFlag, startBox, switchAt, source, target, wallVariable, sourceSide, targetSide, resetMask, guard, reset, forbiddenAt, forbiddenLocation, forbiddenBox, cutVariable, cutValue}
 use Rattle.plant.proofs.Passed.{InRange, IsUncut, IsCut, LocationPassed, SwitchPassed, ForbiddenPassed, Passed}
+use Rattle.plant.proofs.TableWords.{small}
 use Rattle.model.proofs.Switch.{masks-small}
-
-fits : (z : ℤ) → natAbs z ≤ 1000000 → SFits w32 z
-fits z h = fits32 {z = z} (omega arith)
 
 front : (zs : List ℤ) (k : ℕ) → ((j : ℕ) → j < k → natAbs (word zs j) ≤ 1000000) → AreWords (take k zs)
 front zs zero h i = sfits-lit tt
 front [] (suc k) h i = sfits-lit tt
-front (z ∷ zs) (suc k) h zero = fits z (h 0 (omega arith))
+front (z ∷ zs) (suc k) h zero = small z (h 0 (omega arith))
 front (z ∷ zs) (suc k) h (suc i) = front zs k (λ j l. h (suc j) (omega arith)) i
 
 module _ (m : List ℤ) where
@@ -128,7 +124,7 @@ module _ (m : List ℤ) where
               between {v = low (invariant m l) v} {w = high (invariant m l) v} (cutValue m l) (omega (arithZ, c .inside .1)) (omega (arithZ, c .inside .2)) (r (2 * v) (omega (arith, c .inside .0))) (r (2 * v + 1) (omega (arith, c .inside .0)))
 
       pub cut-fits : AreWords (pos l ∷ cutVariable m l ∷ cutValue m l ∷ [])
-      cut-fits zero = fits (pos l) (omega (arith, ok .L-small))
-      cut-fits (suc zero) = fits (cutVariable m l) variable-small
-      cut-fits (suc (suc zero)) = fits (cutValue m l) value-small
+      cut-fits zero = small (pos l) (omega (arith, ok .L-small))
+      cut-fits (suc zero) = small (cutVariable m l) variable-small
+      cut-fits (suc (suc zero)) = small (cutValue m l) value-small
       cut-fits (suc (suc (suc i))) = sfits-lit tt

@@ -23,7 +23,8 @@ use Rattle.plant.proofs.Keeps.{piecesAfter, after-made, pieces-ok}
 abbrev Fits : ℤ → Type 0
 Fits z = SFits w32 z
 
-small : (z : ℤ) → natAbs z ≤ 1000000 → Fits z
+-- a level is one, or any number as small
+pub small : (z : ℤ) → natAbs z ≤ 1000000 → SFits w32 z
 small z h = fits32 {z = z} (omega arith)
 
 none : Fits (pos 0)

@@ -68,16 +68,9 @@ impl Call {
     ];
 
     /// Those that take model words.
-    pub const ON_WORDS: [Call; 8] = [
-        Call::Ceiling,
-        Call::Check,
-        Call::Analyse,
-        Call::ReadTable,
-        Call::WriteTable,
-        Call::Desk,
-        Call::Quote,
-        Call::WriteModel,
-    ];
+    pub fn on_words() -> impl Iterator<Item = Call> {
+        Call::ALL.into_iter().filter(|call| call.slices().iter().any(|slice| matches!(slice, Slice::Model)))
+    }
 
     /// Its name in C.
     pub fn name(self) -> &'static str {

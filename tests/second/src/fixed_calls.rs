@@ -159,7 +159,7 @@ impl Comparison {
             (&[1, 1, 0, 65, 1], 4),
             (&[1, 1, 0, 0, 1], 5),
         ] {
-            for call in Call::ON_WORDS {
+            for call in Call::on_words() {
                 self.gives("a short list", call, &Input { model: list, ..none }, &lengths, (number, 0))?;
             }
         }
@@ -263,7 +263,7 @@ impl Comparison {
                 for edge in EDGES {
                     let mut changed = words.clone();
                     changed[index] = edge;
-                    for call in Call::ON_WORDS {
+                    for call in Call::on_words() {
                         let input = Input { model: &changed, ..whole.input(call, 20) };
                         let left = self.fixed(label, call, &input, &whole.lengths(call), Desk::default())?;
                         self.there_and_back(call, &input, &left)?;

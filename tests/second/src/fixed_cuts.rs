@@ -246,7 +246,7 @@ impl Comparison {
         for (cut, number) in WORDS_OF_P {
             let mut model = examples::plant_p().words();
             model[P_CUT..].copy_from_slice(&cut);
-            for call in Call::ON_WORDS {
+            for call in Call::on_words() {
                 // With no buffers at all, so that a call stops at 20 or 40 if it comes so far.
                 let wanted = match (number, call.of_a_model_alone()) {
                     (100, 100) => continue,
@@ -263,7 +263,7 @@ impl Comparison {
             for (place, word, earlier) in [(P_FORBIDDEN, 1, 19), (P_LOCATION + 3, LEVEL + 1, 11)] {
                 let mut model = model.clone();
                 model[place] = word;
-                for call in Call::ON_WORDS {
+                for call in Call::on_words() {
                     let input = Input { model: &model, ..none };
                     self.gives("P, wrong before its cut", call, &input, &Lengths::default(), (earlier, 0))?;
                 }

@@ -348,7 +348,7 @@ impl Comparison {
         let none = Input { model: &[], table: &[], file: &[], limit: 0 };
         let one = [1, 1, 0, 0, 1, 0, 9, 1, 1, 0, 0, 0, -1, 0];
         self.gives("n 1", Call::Ceiling, &Input { model: &one, ..none }, &Lengths::default(), (100, 2))?;
-        for call in Call::ON_WORDS {
+        for call in Call::on_words() {
             let input = Input { model: &[2, 2, 2, 2, 0], ..none };
             self.gives("four counts of 2", call, &input, &Lengths::default(), (43, 0))?;
         }

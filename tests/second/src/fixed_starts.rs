@@ -239,7 +239,7 @@ impl Comparison {
         if quote.ceiling != of_ceiling.1 || (number != 100 && quote != Quote::default()) {
             return Err(unwanted(label, of_ceiling, quote));
         }
-        for call in Call::ON_WORDS.into_iter().filter(|call| call.of_a_model_alone() != 100) {
+        for call in Call::on_words().filter(|call| call.of_a_model_alone() != 100) {
             let wanted = if number == 100 { call.of_a_model_alone() } else { number };
             self.gives(label, call, &input, &Lengths::default(), (wanted, 0))?;
         }
