@@ -56,7 +56,7 @@ module _ (s : List ℕ) where
 
   -- ---- check
 
-  check-yes : (t : List ℕ) → hostCheckCall s t ≡ 100 → (modelFileQuestions s ≡ 0) × (tableFileQuestions m t ≡ 0) × (certificateQuestions m (fileTable m t) ≡ 0)
+  pub check-yes : (t : List ℕ) → hostCheckCall s t ≡ 100 → (modelFileQuestions s ≡ 0) × (tableFileQuestions m t ≡ 0) × (certificateQuestions m (fileTable m t) ≡ 0)
   unfolding hostCheckCall certificateFileQuestions
   check-yes t h =
       let few : (modelFileQuestions s then certificateFileQuestions m t) ≤ 46 =
@@ -66,7 +66,7 @@ module _ (s : List ℕ) where
       (a .0, b .0, b .1)
 
   -- the checker accepts the table that an accepted file holds
-  file-accepts : (t : List ℕ) → hostCheckCall s t ≡ 100 → Accepts m (fileTable m t)
+  pub file-accepts : (t : List ℕ) → hostCheckCall s t ≡ 100 → Accepts m (fileTable m t)
   unfolding checkCall checkerQuestions tableQuestions tableFileQuestions
   file-accepts t h =
       let y = check-yes t h in
@@ -209,12 +209,12 @@ module _ (s : List ℕ) where
       never-unfinished : ceiling m ≤ limit → code s file limit ≡ 102 → ⊥
       never-unfinished u h = demand .never-unfinished limit t t u (answers-are ∙ h)
 
-      accepted-safe : ceiling m ≤ limit → AcceptableFile s → code s file limit ≡ 100
-      accepted-safe u x = by three
+      accepted-safe : ceiling m ≤ limit → (x : List ℕ) → hostCheckCall s x ≡ 100 → code s file limit ≡ 100
+      accepted-safe u x accepts = by three
         where
           by : (code s file limit ≡ 100) ⊎ ((code s file limit ≡ 101) ⊎ (code s file limit ≡ 102)) → code s file limit ≡ 100
           by (inl h) = h
-          by (inr (inl h)) = absurd (unknown-refused h (x .table) (x .accepts))
+          by (inr (inl h)) = absurd (unknown-refused h x accepts)
           by (inr (inr h)) = absurd (never-unfinished u h)
 
       safe-acceptable : code s file limit ≡ 100 → AcceptableFile s
@@ -245,6 +245,10 @@ module _ (s : List ℕ) where
     unfolding questions
     with-room file-yes room = then-intro file-yes (ask-intro (leb (longestTableFile m) (length file)) 39 (le→leb (longestTableFile m) (length file) room))
 
+    -- what check accepts makes the answer safe
+    pub file-accepted-safe : modelFileQuestions s ≡ 0 → longestTableFile m ≤ length file → ceiling m ≤ limit → (x : List ℕ) → hostCheckCall s x ≡ 100 → code s file limit ≡ 100
+    file-accepted-safe file-yes room = accepted-safe (with-room file-yes room)
+
     -- ---- the call
 
     decides : Decides s file limit
@@ -262,7 +266,7 @@ module _ (s : List ℕ) where
       safe-accepted = λ h. safe-accepted (answer-yes (omega arith)) h;
       unknown-refused = λ h. unknown-refused (answer-yes (omega arith)) h;
       never-unfinished = λ u h. never-unfinished (answer-yes (omega arith)) u h;
-      safe-exactly = λ u yes room. (safe-acceptable (with-room yes room), accepted-safe (with-room yes room) u);
+      safe-exactly = λ u yes room. (safe-acceptable (with-room yes room), λ x. accepted-safe (with-room yes room) u (x .table) (x .accepts));
       otherwise-unknown = λ u yes room. (
         λ h x. unknown-refused (with-room yes room) h (x .table) (x .accepts),
         none-unknown (with-room yes room) u,

@@ -3,4 +3,5 @@ pub mod Reading
 pub mod Deciding
 pub mod Checking
 pub mod Demand
+pub mod NarrowerFiles
 pub mod ForC

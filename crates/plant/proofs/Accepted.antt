@@ -52,11 +52,14 @@ accepts-yes m t h = accepted-code (checkerQuestions m t) (omega (arith, checker-
 
 -- ---- an accepted list of words
 
--- it passes 32, a pass adds nothing to it, and it touches nothing forbidden
+-- it passes 20 and 32 to 34: so its pieces are good, a pass adds nothing to it, and it touches nothing forbidden
 pub record Accepted (m t : List ℤ) : Type 0 where
+  pub is-long : T (leb (tableSize m) (length t))
+  pub is-table : T (tableOk m t)
+  pub is-unchanged : T (unchanged m t)
+  pub is-clear : T (not (touching m t))
   pub is-valid : Valid m t
   pub is-closed : Closed m t
-  pub is-clear : T (not (touching m t))
 
 -- the words t begin with the pieces g: if those after a pass lie in g, a pass adds nothing to t
 module _ (m t : List ℤ) (g : ℕ → ℕ → Face) (begins : Begins m t g) where
@@ -91,10 +94,22 @@ pub accepted : (m t : List ℤ) → Accepts m t → Accepted m t
 unfolding checkerQuestions tableQuestions certificateQuestions
 accepted m t h =
     let a : _ × _ = then-both (modelQuestions m) _ (accepts-yes m t h) in
-    let b : _ × _ = asked (leb (tableSize m) (length t)) 20 _ (omega arith) (a .1) in
+    let b : T (leb (tableSize m) (length t)) × _ = asked (leb (tableSize m) (length t)) 20 _ (omega arith) (a .1) in
     let c : T (tableOk m t) × _ = asked (tableOk m t) 32 _ (omega arith) (b .1) in
     let d : T (unchanged m t) × _ = asked (unchanged m t) 33 _ (omega arith) (c .1) in
-    record { is-valid = ok-valid m t (c .0); is-closed = closed-of m t (d .0); is-clear = ask-yes (not (touching m t)) 34 (omega arith) (d .1) }
+    record {
+      is-long = b .0;
+      is-table = c .0;
+      is-unchanged = d .0;
+      is-clear = ask-yes (not (touching m t)) 34 (omega arith) (d .1);
+      is-valid = ok-valid m t (c .0);
+      is-closed = closed-of m t (d .0);
+    }
+
+-- 33 and 34 of it
+pub certified : (m t : List ℤ) → Accepted m t → certificateQuestions m t ≡ 0
+unfolding certificateQuestions
+certified m t a = then-intro (ask-intro (unchanged m t) 33 (a .is-unchanged)) (ask-intro (not (touching m t)) 34 (a .is-clear))
 
 module _ (m : List ℤ) (asks : modelQuestions m ≡ 0) where
   ok : Passed m
@@ -126,8 +141,8 @@ module _ (m : List ℤ) (asks : modelQuestions m ≡ 0) where
   -- ---- a table that repeats and touches nothing
 
   -- lists of words that begin with the same pieces
-  same-pieces : (t t′ : List ℤ) (g : ℕ → ℕ → Face) → Begins m t g → Begins m t′ g → TableIn m t t′
-  same-pieces t t′ g b b′ = record { each = λ l q u v. face-eq (n# m) (piece-read m t g b l q u v ∙ sym (piece-read m t′ g b′ l q u v)) }
+  pieces-alike : (t t′ : List ℤ) (g : ℕ → ℕ → Face) → Begins m t g → Begins m t′ g → TableIn m t t′
+  pieces-alike t t′ g b b′ = record { each = λ l q u v. face-eq (n# m) (piece-read m t g b l q u v ∙ sym (piece-read m t′ g b′ l q u v)) }
 
   same-pass : (t t′ : List ℤ) → Valid m t → Valid m t′ → TableIn m t t′ → TableIn m t′ t → pass m t ≡ pass m t′
   unfolding pass
@@ -151,10 +166,10 @@ module _ (m : List ℤ) (asks : modelQuestions m ≡ 0) where
       valid-t = made-valid m ok t (piecesAfter m k) begins (pieces-ok m ok k)
 
       into : TableIn m t (tableAfter m k)
-      into = same-pieces t (tableAfter m k) (piecesAfter m k) begins (after-begins m k)
+      into = pieces-alike t (tableAfter m k) (piecesAfter m k) begins (after-begins m k)
 
       from : TableIn m (tableAfter m k) t
-      from = same-pieces (tableAfter m k) t (piecesAfter m k) (after-begins m k) begins
+      from = pieces-alike (tableAfter m k) t (piecesAfter m k) (after-begins m k) begins
 
       same-words : pass m t ≡ take (tableSize m) t
       same-words = same-pass t (tableAfter m k) valid-t (after-valid m ok k) into from ∙ after-pass m k ∙ repeats ∙ after-made m k ∙ sym begins

@@ -4,6 +4,7 @@ pub mod PieceKeys
 pub mod PlaceWords
 pub mod Listed
 pub mod TableAsked
+pub mod AlikeFiles
 pub mod TableBack
 pub mod TableWriting
 pub mod TableReading

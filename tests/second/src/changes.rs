@@ -17,7 +17,7 @@ use crate::lending::Lengths;
 use crate::model::{Location, Plant, MAX_BOX};
 use crate::random::Random;
 use crate::steps::join;
-use crate::tables::pass;
+use crate::tables::{pass, Pass};
 
 /// How the delays of a wall step come out; each must come up in a comparison.
 pub const STEP_KINDS: [&str; 16] = [
@@ -195,8 +195,8 @@ fn breach(plant: &Plant, then: &Answered, now: &Answered) -> Option<&'static str
     None
 }
 
-/// A table with some pieces wider, and what the steps of before add to it.
-fn wider(random: &mut Random, plant: &Plant, table: &[i32]) -> Vec<i32> {
+/// A table with some pieces wider, and what these passes add to it.
+pub(crate) fn wider(random: &mut Random, plant: &Plant, table: &[i32], pass: Pass) -> Vec<i32> {
     let mut wide = table.to_vec();
     let pieces: Vec<_> = plant.all_pieces().collect();
     for _ in 0..1 + random.below(3) {
@@ -208,7 +208,7 @@ fn wider(random: &mut Random, plant: &Plant, table: &[i32]) -> Vec<i32> {
             join(&mut wide[places.clone()], &one[places][1..]);
         }
     }
-    close_by(plant, &mut wide, pass_budget(plant).min(40), before::pass);
+    close_by(plant, &mut wide, pass_budget(plant).min(40), pass);
     wide
 }
 
@@ -233,7 +233,7 @@ impl Comparison {
             self.table_of_before(plant, &then.table)?;
         }
         if then.answer == Answer::Safe && self.random.chance(1, 2) {
-            let wide = wider(&mut self.random, plant, &then.table);
+            let wide = wider(&mut self.random, plant, &then.table, before::pass);
             if wide != now.table {
                 self.table_of_before(plant, &wide)?;
             }

@@ -281,12 +281,7 @@ impl Comparison {
             answers_table = self.answer_case(plant, &model, code, written_table(plant, &buffer))?;
         }
 
-        let mut rest = vec![0; plant.table_words()];
-        close(plant, &mut rest, pass_budget(plant));
-        let mut other = random_table(&mut self.random, plant);
-        if self.random.chance(1, 2) {
-            close(plant, &mut other, pass_budget(plant).min(50));
-        }
+        let [rest, other] = self.two_tables(plant);
         for (label, table) in [("the table at rest", &rest), ("a random table", &other)] {
             let checked = self.check(label, &model, &table_file(plant, table))?;
             self.hold_unknown(code, checked)?;
@@ -299,11 +294,24 @@ impl Comparison {
         self.changes_case(plant, limit)?;
         self.edition_case(plant, limit, [&rest, &other])?;
         self.ranges_case(plant, code, [&answers_table, &rest, &other])?;
+        self.narrower_case(plant, limit, code, [&rest, &other])?;
         for _ in 0..damaged {
             self.damaged_case(plant, &model, &rest, &other)?;
             self.damaged_call(plant, &rest, &other)?;
         }
         Ok(())
+    }
+
+    /// The table at rest, or as far as the passes lead that one may ask for; and a random one, half of the time with
+    /// what passes add to it.
+    fn two_tables(&mut self, plant: &Plant) -> [Vec<i32>; 2] {
+        let mut rest = vec![0; plant.table_words()];
+        close(plant, &mut rest, pass_budget(plant));
+        let mut other = random_table(&mut self.random, plant);
+        if self.random.chance(1, 2) {
+            close(plant, &mut other, pass_budget(plant).min(50));
+        }
+        [rest, other]
     }
 
     /// What an answer says: the table of a safe one is accepted, no run meets a forbidden box,

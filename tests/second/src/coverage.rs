@@ -13,6 +13,8 @@ use crate::lending::{DESK_CALLS, DESK_STARTS, LENGTH_KINDS};
 use crate::model::{
     ordered_inside, Cut, Location, Plant, Switch, LEVEL, MAX_FORBIDDEN, MAX_LOCATIONS, MAX_SWITCHES, RATE,
 };
+use crate::narrowing::WAYS;
+use crate::pairing::{EACH_WAY, PAIRED};
 use crate::quoting::QUOTED;
 use crate::ranges::{any_range, range_kinds, RANGE_KINDS};
 use crate::simulate::Travelled;
@@ -160,6 +162,11 @@ pub struct Counts {
     pub quotes: Tally,
     /// Models that were written and read again, by kind.
     pub written: Tally,
+    /// Pairs of a plant and a narrower one by kind, and by the ways in which they were made; those whose second takes
+    /// too many passes to be analysed.
+    pub pairs: Tally,
+    pub ways: Tally,
+    pub long_pairs: u64,
     /// The most passes of an answer.
     pub most_passes: u32,
     /// Safe answers whose table was accepted.
@@ -234,8 +241,8 @@ impl Counts {
         self.extreme("a face with both its pieces", seen[2]);
     }
 
-    /// Extremes, kinds of start boxes, of reset ranges, of wall steps, of quotes and of written models, and changes by
-    /// T-06 that did not come up as often as they must under the full counts.
+    /// Extremes, kinds of start boxes, of reset ranges, of wall steps, of quotes, of written models and of pairs, and
+    /// changes by T-06 that did not come up as often as they must under the full counts.
     pub fn too_seldom(&self) -> Vec<String> {
         let tallied = |tally: &Tally, kind: &str| tally.get(kind).copied().unwrap_or(0);
         let extremes = EXTREMES.map(|(kind, least)| (kind, least, tallied(&self.extremes, kind)));
@@ -246,7 +253,9 @@ impl Counts {
         let quotes = QUOTED.map(|(kind, least)| (kind, least, tallied(&self.quotes, kind)));
         let written = WRITTEN.map(|(kind, least)| (kind, least, tallied(&self.written, kind)));
         let counted = extremes.into_iter().chain(starts).chain(ranges).chain(steps).chain(changes);
-        let counted = counted.chain(quotes).chain(written);
+        let pairs = PAIRED.map(|(kind, least)| (kind, least, tallied(&self.pairs, kind)));
+        let ways = WAYS.map(|(way, _)| (way, EACH_WAY, tallied(&self.ways, way)));
+        let counted = counted.chain(quotes).chain(written).chain(pairs).chain(ways);
         let seldom = counted.filter(|(_, least, count)| count < least);
         seldom.map(|(kind, least, count)| format!("{kind} ({count} of {least} times)")).collect()
     }
@@ -308,6 +317,8 @@ impl Counts {
         CHANGES.iter().for_each(|(kind, _, count)| expect(kind, count(&self.changes) > 0));
         QUOTED.iter().for_each(|(kind, _)| expect(&format!("a quote: {kind}"), self.quotes.contains_key(*kind)));
         WRITTEN.iter().for_each(|(kind, _)| expect(&format!("written: {kind}"), self.written.contains_key(*kind)));
+        PAIRED.iter().for_each(|(kind, _)| expect(&format!("a pair: {kind}"), self.pairs.contains_key(*kind)));
+        WAYS.iter().for_each(|(way, _)| expect(&format!("a pair: {way}"), self.ways.contains_key(*way)));
         LIMIT_KINDS.iter().for_each(|kind| expect(&format!("limit {kind}"), self.limits.contains_key(*kind)));
         all_damage().iter().for_each(|kind| expect(kind, self.damage.contains_key(kind)));
         expect("a safe answer's table accepted", self.accepted > 0);

@@ -1,13 +1,24 @@
 //! A model in the making, turned into words; and grids of cells with switches between
 //! neighbours, as source 000 splits a mode at hyperplanes.
 
-use crate::model::{Edition, HEAD_WORDS, MAX_SWITCHES};
+use crate::model::{Edition, Plant, HEAD_WORDS, MAX_SWITCHES};
 
 #[derive(Clone, Debug)]
 pub struct LocationDraft {
     pub invariant: Vec<i32>,
     pub rates: Vec<i32>,
     pub start: Option<Vec<i32>>,
+}
+
+impl LocationDraft {
+    fn of(plant: &Plant, l: usize) -> LocationDraft {
+        let location = plant.location(l);
+        LocationDraft {
+            invariant: location.invariant.to_vec(),
+            rates: location.rates.to_vec(),
+            start: location.started.then(|| location.start.to_vec()),
+        }
+    }
 }
 
 #[derive(Clone, Debug)]
@@ -20,6 +31,22 @@ pub struct SwitchDraft {
     pub mask: u32,
     pub guard: Vec<i32>,
     pub reset: Vec<i32>,
+}
+
+impl SwitchDraft {
+    fn of(plant: &Plant, s: usize) -> SwitchDraft {
+        let switch = plant.switch(s);
+        SwitchDraft {
+            source: switch.source,
+            target: switch.target,
+            d: switch.d,
+            source_side: switch.source_side,
+            target_side: switch.target_side,
+            mask: switch.mask,
+            guard: switch.guard.to_vec(),
+            reset: switch.reset.to_vec(),
+        }
+    }
 }
 
 #[derive(Clone, Debug, Default)]
@@ -35,6 +62,22 @@ pub struct Draft {
 }
 
 impl Draft {
+    /// The draft of a plant: its words are the plant's.
+    pub fn of(plant: &Plant) -> Draft {
+        let locations = (0..plant.sizes.locations).map(|l| LocationDraft::of(plant, l));
+        let switches = (0..plant.sizes.switches).map(|s| SwitchDraft::of(plant, s));
+        let forbidden = (0..plant.sizes.forbidden).map(|f| plant.forbidden(f));
+        let cuts = (0..plant.sizes.locations).filter_map(|l| plant.cut(l).map(|cut| (l, cut.variable, cut.value)));
+        Draft {
+            n: plant.sizes.n,
+            edition: plant.edition,
+            locations: locations.collect(),
+            switches: switches.collect(),
+            forbidden: forbidden.map(|forbidden| (forbidden.location, forbidden.bounds.to_vec())).collect(),
+            cuts: cuts.collect(),
+        }
+    }
+
     /// The model's words.
     pub fn words(&self) -> Vec<i32> {
         let counts = [self.n, self.locations.len(), self.switches.len(), self.forbidden.len()];

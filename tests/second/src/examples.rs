@@ -532,6 +532,69 @@ pub fn hand_filled(dose: [i32; 2], forbidden: [i32; 4]) -> Draft {
     }
 }
 
+/// A tank of brine (document 02, T-13). Variable 0 is the level, variable 1 the strength of the brine, both 0..100. In
+/// location 0 the tank is filled, by 2 to 6, and what comes in dilutes it, by up to 1. Full, it gets salt by hand, to a
+/// strength of 20 to 40, or a weak dose, to one of 10 to 15; in location 1 it is emptied, by 4 to 5, and the strength
+/// stands. Empty, it is filled again. It may also begin in location 1, with a strong batch, of 70 to 80. Forbidden while
+/// it is emptied are the strengths 45 to 65.
+///
+/// One box for the strong batch and the doses, on the empty tank, has all strengths between them, and the answer is
+/// unknown. With location 1 cut at a strength of 60 the two stay apart, and it is safe.
+pub fn brine_tank() -> Draft {
+    let location = |rates: [i32; 4], start: [i32; 4]| LocationDraft {
+        invariant: vec![0, 100, 0, 100],
+        rates: rates.to_vec(),
+        start: Some(start.to_vec()),
+    };
+    let dose = |least: i32, most: i32| SwitchDraft {
+        source: 0,
+        target: 1,
+        d: 0,
+        source_side: 1,
+        target_side: 1,
+        mask: 0b10,
+        guard: vec![100, 100, 0, 100],
+        reset: vec![100, 100, least, most],
+    };
+    let empty = SwitchDraft {
+        source: 1,
+        target: 0,
+        d: 0,
+        source_side: 0,
+        target_side: 0,
+        mask: 0,
+        guard: vec![0, 0, 0, 100],
+        reset: vec![0, 0, 0, 100],
+    };
+    Draft {
+        n: 2,
+        edition: Edition::Two,
+        locations: vec![location([2, 6, -1, 0], [0, 10, 20, 30]), location([-5, -4, 0, 0], [50, 60, 70, 80])],
+        switches: vec![dose(20, 40), dose(10, 15), empty],
+        forbidden: vec![(1, vec![0, 100, 45, 65])],
+        cuts: vec![(1, 1, 60)],
+    }
+}
+
+/// The tank of brine with a steadier pump and a dose that is measured: a narrower plant. It is filled by 3 to 4 and
+/// emptied by 5, from a level of up to 5 with a strength of 25 to 30, and there is no strong batch. Full, with a
+/// strength of up to 50, it gets salt to a strength of 30, so that edition 1 will do, and there is no weak dose. Two
+/// boxes, both inside the first's, are forbidden.
+pub fn brine_tank_steadier() -> Draft {
+    let mut draft = brine_tank();
+    draft.edition = Edition::One;
+    draft.locations[0].rates = vec![3, 4, -1, 0];
+    draft.locations[0].start = Some(vec![0, 5, 25, 30]);
+    draft.locations[1].rates = vec![-5, -5, 0, 0];
+    draft.locations[1].start = None;
+    let (mut measured, empty) = (draft.switches[0].clone(), draft.switches[2].clone());
+    measured.guard = vec![100, 100, 0, 50];
+    measured.reset = vec![100, 100, 30, 30];
+    draft.switches = vec![empty, measured];
+    draft.forbidden = vec![(1, vec![0, 100, 45, 55]), (1, vec![20, 80, 50, 65])];
+    draft
+}
+
 /// What a switch sets, and nothing else (document 02, T-10). In location 0 x rises by 1 from 0 to 10, with y at 0. Then
 /// a switch leads to location 1, y 0..10, where all stands still, and sets y to a range.
 pub fn set_to(range: [i32; 2]) -> Draft {

@@ -3,7 +3,7 @@
 //! and check stand in `fixed_calls`, those of start boxes that cross the wall in `fixed_starts`, those of
 //! delays that all variables can live with in `fixed_delays`, those of locations that are cut in `fixed_cuts`,
 //! those of editions and reset ranges in `fixed_resets`, those of quotes in `fixed_quotes`, those of model files that
-//! are written in `fixed_written`.
+//! are written in `fixed_written`, those of narrower plants in `fixed_narrower`.
 
 use crate::compare::{hex, written_table, Comparison, Difference, MOST_ROOM};
 use crate::draft::{grid, Draft};
@@ -173,7 +173,8 @@ impl Comparison {
         self.fixed_cuts()?;
         self.fixed_resets()?;
         self.fixed_quotes()?;
-        self.fixed_written()
+        self.fixed_written()?;
+        self.fixed_narrower()
     }
 
     /// A decide call whose number the document gives.

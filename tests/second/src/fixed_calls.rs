@@ -81,7 +81,7 @@ impl Comparison {
         self.every_end_and_bit()
     }
 
-    fn fixed(
+    pub(crate) fn fixed(
         &mut self,
         label: &str,
         call: Call,

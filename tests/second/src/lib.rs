@@ -19,14 +19,16 @@
 //!   their number source
 //! * `starts`    – start boxes that cross the wall: their kinds, trimmed to their start parts, taken whole
 //! * `ranges`    – reset ranges: their kinds, other ranges, random models that hang on them
+//! * `narrower`  – when a second model is a narrower plant than a first; `narrowing` makes such models at random, and
+//!   ones that break one of the conditions
 //! * `examples`  – document 01's plant P, source 000's examples and more; `samples` names those in `models`
 //! * `exports`   – the C calls beside decide and check: number, value or quote, lent memory
 //! * `compare`   – compares two implementations of the C calls, `lending` those of `exports`;
 //!   `trimming` a model and the same one with its start boxes trimmed; `editions` a model in both editions, and with
 //!   narrower ranges; `changes` counts what T-06 changes, and holds what it must not; `quoting` holds answers to their
-//!   quotes, `writing` written model files to their words; `fixed`, `fixed_calls`, `fixed_starts`, `fixed_delays`,
-//!   `fixed_cuts`, `fixed_resets`, `fixed_quotes` and `fixed_written` have the fixed cases, `coverage` counts what came
-//!   up
+//!   quotes, `writing` written model files to their words, `pairing` a narrower plant to the wider one; `fixed`,
+//!   `fixed_calls`, `fixed_starts`, `fixed_delays`, `fixed_cuts`, `fixed_resets`, `fixed_quotes`, `fixed_written` and
+//!   `fixed_narrower` have the fixed cases, `coverage` counts what came up
 //! * `host_ffi`  – the C calls of libhost.a (feature `host`), or a stand-in
 
 pub mod analysis;
@@ -49,6 +51,7 @@ pub mod fixed;
 pub mod fixed_calls;
 pub mod fixed_cuts;
 pub mod fixed_delays;
+pub mod fixed_narrower;
 pub mod fixed_quotes;
 pub mod fixed_resets;
 pub mod fixed_starts;
@@ -60,6 +63,9 @@ pub mod host_ffi;
 pub mod lending;
 pub mod listing;
 pub mod model;
+pub mod narrower;
+pub mod narrowing;
+pub mod pairing;
 pub mod plain;
 pub mod pumps;
 pub mod quote;

@@ -4,9 +4,10 @@ use crate::analysis::{run, Answer};
 use crate::before;
 use crate::draft::Draft;
 use crate::examples::{
-    all_cut, box_ends, dosing, figure_1, guarded_box, hand_filled, heated_vat, large_grid, plant_p, plant_p_behind,
-    plant_p_cut, plant_p_cut_table, plant_p_from, plant_p_table, plant_p_unknown, plant_p_wider, standing_pump,
-    three_tanks, two_tank, water_level, worn_pump, AT_THE_STIRRER, BY_HAND, OVER_THE_RIM, RUNS_DRY, RUNS_OVER,
+    all_cut, box_ends, brine_tank, brine_tank_steadier, dosing, figure_1, guarded_box, hand_filled, heated_vat,
+    large_grid, plant_p, plant_p_behind, plant_p_cut, plant_p_cut_table, plant_p_from, plant_p_table, plant_p_unknown,
+    plant_p_wider, standing_pump, three_tanks, two_tank, water_level, worn_pump, AT_THE_STIRRER, BY_HAND, OVER_THE_RIM,
+    RUNS_DRY, RUNS_OVER,
 };
 use crate::files::{field, model_file, table_file, FACE, TABLE_HEAD};
 use crate::model::{Edition, Plant};
@@ -49,6 +50,8 @@ fn answered() -> Vec<(&'static str, Draft)> {
         ("worn-pump-over", worn_pump(RUNS_OVER)),
         ("hand-filled", hand_filled(BY_HAND, OVER_THE_RIM)),
         ("hand-filled-stirrer", hand_filled(BY_HAND, AT_THE_STIRRER)),
+        ("brine-tank", brine_tank()),
+        ("brine-tank-steadier", brine_tank_steadier()),
     ]
 }
 
@@ -109,6 +112,10 @@ pub fn tables() -> Vec<(&'static str, Vec<u8>, u64)> {
         ("hand-filled", answers_table(&hand_filled(BY_HAND, OVER_THE_RIM)), 100),
         ("hand-filled.low", answers_table(&hand_filled([2, 2], OVER_THE_RIM)), 33),
         ("hand-filled-stirrer", answers_table(&hand_filled(BY_HAND, OVER_THE_RIM)), 34),
+        ("brine-tank", answers_table(&brine_tank()), 100),
+        ("brine-tank.steadier", answers_table(&brine_tank_steadier()), 33),
+        ("brine-tank-steadier", answers_table(&brine_tank_steadier()), 100),
+        ("brine-tank-steadier.first", answers_table(&brine_tank()), 100),
     ]
 }
 

@@ -10,6 +10,8 @@ use second::draft::{Draft, LocationDraft, SwitchDraft};
 use second::fraction::Fraction;
 use second::generate::{close, close_by, crossing_model, helped_model, pass_budget, random_model, random_table};
 use second::model::{ordered_inside, Edition, Piece, Plant, MAX_BOX};
+use second::narrower::narrower;
+use second::narrowing::narrowed;
 use second::plain;
 use second::pumps::pump_model;
 use second::random::Random;
@@ -534,46 +536,122 @@ fn all_boxes(plant: &Plant, piece: Piece) -> Vec<Option<Vec<i32>>> {
     std::iter::once(None).chain(boxes.into_iter().map(Some)).collect()
 }
 
-/// How many well-formed tables there are, how many of them the checker accepts, how many it accepted before T-06,
-/// each of which it must accept, and how many random runs were held to some of those that it accepts: they meet
-/// nothing forbidden and stay where the table reaches. None if there are too many tables to try.
-fn accepted_tables(plant: &Plant, random: &mut Random, most: u64) -> Option<[u64; 4]> {
-    let sizes = plant.sizes;
-    let choices: Vec<Vec<Option<Vec<i32>>>> = plant.all_pieces().map(|piece| all_boxes(plant, piece)).collect();
+/// All that each piece of a table can hold, piece by piece.
+type Choices = Vec<Vec<Option<Vec<i32>>>>;
+
+/// Fills in the table of this number: its digits, by how many choices each piece has, say which of them are taken.
+fn put_choices(choices: &Choices, mut number: u64, table: &mut [i32]) {
+    let face_words = table.len() / choices.len();
+    for (list, words) in choices.iter().zip(table.chunks_exact_mut(face_words)) {
+        match &list[(number % list.len() as u64) as usize] {
+            None => words.fill(0),
+            Some(bounds) => {
+                words[0] = 1;
+                words[1..].copy_from_slice(bounds);
+            }
+        }
+        number /= list.len() as u64;
+    }
+}
+
+/// Hands on every well-formed table, one after the other, and gives how many there are. None if there are too many to
+/// try.
+fn each_table(plant: &Plant, most: u64, mut tried: impl FnMut(&[i32])) -> Option<u64> {
+    let choices: Choices = plant.all_pieces().map(|piece| all_boxes(plant, piece)).collect();
     let total = choices.iter().try_fold(1u64, |product, list| product.checked_mul(list.len() as u64))?;
     if total > most {
         return None;
     }
-    let (mut accepted, mut before, mut runs) = (0, 0, 0);
     let mut table = vec![0; plant.table_words()];
-    let mut next = table.clone();
     for number in 0..total {
-        let mut rest = number;
-        for (place, list) in choices.iter().enumerate() {
-            let words = &mut table[place * sizes.face_words()..][..sizes.face_words()];
-            match &list[(rest % list.len() as u64) as usize] {
-                None => words.fill(0),
-                Some(bounds) => {
-                    words[0] = 1;
-                    words[1..].copy_from_slice(bounds);
-                }
-            }
-            rest /= list.len() as u64;
-        }
-        let was_accepted = before::ask_table(plant, &table).is_ok();
-        before += was_accepted as u64;
-        let is_accepted = !pass(plant, &table, &mut next) && !forbidden_touched(plant, &table);
-        assert!(is_accepted || !was_accepted, "{:?} {table:?}", plant.words());
-        if is_accepted {
-            accepted += 1;
-            if accepted <= 40 {
-                let travelled = travel(plant, &table, random, 10);
-                assert_eq!((travelled.forbidden, travelled.unreached), (0, 0), "{:?} {table:?}", plant.words());
-                runs += travelled.runs;
-            }
-        }
+        put_choices(&choices, number, &mut table);
+        tried(&table);
     }
+    Some(total)
+}
+
+/// Questions 33 and 34 of a table that is well formed.
+fn is_accepted(plant: &Plant, table: &[i32], next: &mut [i32]) -> bool {
+    !pass(plant, table, next) && !forbidden_touched(plant, table)
+}
+
+/// How many well-formed tables there are, how many of them the checker accepts, how many it accepted before T-06,
+/// each of which it must accept, and how many random runs were held to some of those that it accepts: they meet
+/// nothing forbidden and stay where the table reaches. None if there are too many tables to try.
+fn accepted_tables(plant: &Plant, random: &mut Random, most: u64) -> Option<[u64; 4]> {
+    let (mut accepted, mut before, mut runs) = (0, 0, 0);
+    let mut next = vec![0; plant.table_words()];
+    let total = each_table(plant, most, |table| {
+        let was_accepted = before::ask_table(plant, table).is_ok();
+        before += was_accepted as u64;
+        let is_accepted = is_accepted(plant, table, &mut next);
+        assert!(is_accepted || !was_accepted, "{:?} {table:?}", plant.words());
+        accepted += is_accepted as u64;
+        if is_accepted && accepted <= 40 {
+            let travelled = travel(plant, table, random, 10);
+            assert_eq!((travelled.forbidden, travelled.unreached), (0, 0), "{:?} {table:?}", plant.words());
+            runs += travelled.runs;
+        }
+    })?;
     Some([total, accepted, before, runs])
+}
+
+/// At most three variables and three locations, and no invariant wider than 4.
+fn is_very_small(draft: &Draft) -> bool {
+    let narrow = |location: &LocationDraft| location.invariant.chunks(2).all(|r| r[1] - r[0] <= 4);
+    draft.n <= 3 && draft.locations.len() <= 3 && draft.locations.iter().all(narrow)
+}
+
+/// What became of the tables of a pair: how many there are, how many are accepted for the first and for the second.
+/// Each that is accepted for the first must be for the second. None if there are too many tables to try.
+fn tables_of_a_pair(first: &Plant, second: &Plant, most: u64) -> Option<[u64; 3]> {
+    let mut accepted = [0, 0];
+    let mut next = vec![0; first.table_words()];
+    let total = each_table(first, most, |table| {
+        let of_first = is_accepted(first, table, &mut next);
+        let of_second = is_accepted(second, table, &mut next);
+        assert!(of_second || !of_first, "{:?} {:?} {table:?}", first.words(), second.words());
+        accepted[0] += of_first as u64;
+        accepted[1] += of_second as u64;
+    })?;
+    Some([total, accepted[0], accepted[1]])
+}
+
+/// T-13: every table that is accepted for a very small plant is accepted for a narrower one, and if the plant is safe
+/// under its ceiling, so is the narrower one.
+#[test]
+fn every_table_of_very_small_pairs() {
+    let mut random = Random::new(45);
+    let (mut pairs, mut cut, mut tables, mut both, mut second_only, mut helped) = (0, 0, 0, 0, 0, 0);
+    while pairs < 500 || cut < 150 {
+        let draft = if random.chance(1, 4) { ranged_model(&mut random) } else { random_model(&mut random) };
+        if !is_very_small(&draft) {
+            continue;
+        }
+        let words = draft.words();
+        let first = Plant::from_words(&words).unwrap();
+        let made = narrowed(&mut random, &first).words;
+        let second = Plant::from_words(&made).unwrap();
+        assert!(narrower(&first, &second));
+        let Some([tried, of_first, of_second]) = tables_of_a_pair(&first, &second, 20_000) else {
+            continue;
+        };
+        let limit = ceiling::of_plant(&first) as u32;
+        assert_eq!(ceiling::of_plant(&second) as u32, limit);
+        let (mut table, mut work) = (vec![0; first.table_words()], vec![0; first.table_words()]);
+        let answers = [&first, &second].map(|plant| run(plant, limit, &mut table, &mut work).0);
+        assert!(answers != [Answer::Safe, Answer::Unknown], "{words:?} {made:?}");
+        pairs += 1;
+        cut += first.any_cut() as u32;
+        tables += tried;
+        both += of_first;
+        second_only += of_second - of_first;
+        helped += (answers == [Answer::Unknown, Answer::Safe]) as u32;
+    }
+    assert!(
+        tables > 500_000 && both > 500 && second_only > 500 && helped > 50,
+        "{tables} {both} {second_only} {helped}"
+    );
 }
 
 /// On very small models, under a limit of the ceiling: safe exactly if some table at all is
@@ -589,15 +667,11 @@ fn every_table_of_very_small_models() {
             1 => ranged_model(&mut random),
             _ => random_model(&mut random),
         };
-        if draft.n > 3 || draft.locations.len() > 3 || draft.forbidden.is_empty() {
+        if !is_very_small(&draft) || draft.forbidden.is_empty() {
             continue;
         }
         let words = draft.words();
         let plant = Plant::from_words(&words).unwrap();
-        let small = (0..draft.locations.len()).all(|l| plant.location(l).invariant.chunks(2).all(|r| r[1] - r[0] <= 4));
-        if !small {
-            continue;
-        }
         let Some([tried, accepted, before, travelled]) = accepted_tables(&plant, &mut random, 30_000) else {
             continue;
         };

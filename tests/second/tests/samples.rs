@@ -5,12 +5,13 @@ use second::before;
 use second::compare::written_table;
 use second::draft::Draft;
 use second::examples::{
-    hand_filled, heated_vat, shut_off, three_tanks, water_level, worn_pump, AT_THE_STIRRER, BY_HAND, OVER_THE_RIM,
-    RUNS_DRY, RUNS_OVER,
+    brine_tank, brine_tank_steadier, hand_filled, heated_vat, shut_off, three_tanks, water_level, worn_pump,
+    AT_THE_STIRRER, BY_HAND, OVER_THE_RIM, RUNS_DRY, RUNS_OVER,
 };
 use second::files::{model_file, model_of_file, parse_table};
 use second::listing::{listing, LIMIT};
 use second::model::Plant;
+use second::narrower::narrower;
 use second::quote::{self, Quote};
 use second::random::Random;
 use second::samples;
@@ -49,6 +50,8 @@ fn first_lines() {
         ("worn-pump-over", "safe 3 5"),
         ("hand-filled", "safe 4 4"),
         ("hand-filled-stirrer", "unknown 2 3"),
+        ("brine-tank", "safe 5 6"),
+        ("brine-tank-steadier", "safe 3 5"),
         ("refused-empty", "refused 1"),
         ("refused-cut", "refused 7"),
         ("refused-trailing", "refused 8"),
@@ -260,6 +263,30 @@ fn a_cup_filled_by_hand() {
         let run = random_run(&plant, &mut random, 1, 12).unwrap();
         assert!(run.moves.iter().all(|(_, at)| !is_forbidden(&plant, 1, at)));
     }
+}
+
+/// The tank of brine and the one with a steadier pump, word by word. The second is a narrower plant, and the first is
+/// none than it; the first is unknown without its cut.
+#[test]
+fn a_tank_of_brine_and_a_steadier_pump() {
+    let (first, second) = (brine_tank().words(), brine_tank_steadier().words());
+    let walls = [0, 100, 0, 100];
+    let full = |guard: i32, reset: [i32; 2]| [0, 1, 0, 1, 1, 2, 100, 100, 0, guard, 100, 100, reset[0], reset[1]];
+    let empty = [1, 0, 0, 0, 0, 0, 0, 0, 0, 100, 0, 0, 0, 100];
+    let cuts = [-1, 0, 1, 60];
+    let filled = [&walls[..], &[2, 6, -1, 0, 1, 0, 10, 20, 30]].concat();
+    let emptied = [&walls[..], &[-5, -4, 0, 0, 1, 50, 60, 70, 80]].concat();
+    let doses = [full(100, [20, 40]), full(100, [10, 15])].concat();
+    let boxes = [1, 0, 100, 45, 65];
+    assert_eq!(first, [&[2, 2, 3, 1, 2], &filled[..], &emptied, &doses, &empty, &boxes, &cuts].concat());
+    let filled = [&walls[..], &[3, 4, -1, 0, 1, 0, 5, 25, 30]].concat();
+    let emptied = [&walls[..], &[-5, -5, 0, 0, 0, 0, 0, 0, 0]].concat();
+    let boxes = [1, 0, 100, 45, 55, 1, 20, 80, 50, 65];
+    assert_eq!(second, [&[2, 2, 2, 2, 1], &filled[..], &emptied, &empty, &full(50, [30, 30]), &boxes, &cuts].concat());
+    let [first, second] = [&first, &second].map(|words| Plant::from_words(words).unwrap());
+    assert!(narrower(&first, &second) && !narrower(&second, &first));
+    let whole = Draft { cuts: vec![], ..brine_tank() };
+    assert!(listing(&model_file(&whole.words())).starts_with("unknown 3 "));
 }
 
 /// Runs of the water-level plant against its answer's table, or against no faces at all.

@@ -3,22 +3,21 @@
 //! be found within few random models, and the writer without a mistake must agree. Of each it is said whether a model's
 //! way there and back finds it by itself, without this package's own writer.
 
+mod alone;
 mod finding;
 
 use std::cell::Cell;
 
+use alone::Alone;
 use finding::{found_after, must_be_found, Answer};
-use second::compare::Difference;
 use second::exports::{answer, Call, Input, Lent};
 use second::files::MOST_MODEL_BYTES;
 use second::generate::random_model;
-use second::lending::{Left, Lengths};
 use second::model::{ask_head, Edition, Plant, EDITION_AT};
-use second::quote::Quote;
 use second::random::Random;
 use second::ranges::{lows_alone, with_ranges};
 use second::starts::trimmed;
-use second::writing::{round_trip, Calls};
+use second::writing::round_trip;
 
 /// Tags and words of a file's fields.
 type Fields = Vec<(u8, Vec<i32>)>;
@@ -379,27 +378,6 @@ fn every_wrong_writer_is_found() {
 }
 
 // ---------------------------------------------------------------- there and back
-
-/// Calls that nothing is compared with.
-struct Alone {
-    answer: Answer,
-    random: Random,
-}
-
-impl Calls for Alone {
-    fn make(&mut self, call: Call, input: &Input, lengths: &Lengths) -> Result<Left, Difference> {
-        let old: Vec<i32> = (0..lengths.words).map(|_| self.random.next() as i32).collect();
-        let old_file: Vec<u8> = (0..lengths.file).map(|_| self.random.next() as u8).collect();
-        let (mut words, mut file, mut value) = (old.clone(), old_file.clone(), 7);
-        let number = {
-            let (jobs, passes, quote) = (&mut 0, &mut 0, &mut Quote::default());
-            let (work, value) = (&mut [][..], &mut value);
-            let lent = &mut Lent { words: &mut words, work, file: &mut file, jobs, passes, value, quote };
-            (self.answer)(call, input, lent)
-        };
-        Ok(Left { number, value, words, old, file, old_file, ..Left::default() })
-    }
-}
 
 /// How many random models went there and back, some with words behind them, until one did not come back; None if all
 /// did.

@@ -106,6 +106,8 @@ fn print_counts(counts: &Counts) {
     println!("extremes: {}", listed(&counts.extremes));
     println!("quotes held to answers: {}", listed(&counts.quotes));
     println!("models written and read again: {}", listed(&counts.written));
+    println!("plants held to narrower ones: {}", listed(&counts.pairs));
+    println!("  narrower by {}; not analysed, as it takes too long: {}", listed(&counts.ways), counts.long_pairs);
     println!(
         "tables accepted of {} safe answers, {} tables refused for models answered unknown",
         counts.accepted, counts.refused

@@ -14,12 +14,15 @@
 //! * runs: every random run is one; on safe models none of its configurations is forbidden
 //!   and each is reached by one delay from a part of the answer's table;
 //! * quote: the answer keeps to it; its ceiling is that by the widths of each location;
+//! * a plant made narrower is narrower; pass by pass its table lies inside the model's, and it accepts each table that
+//!   the model does; a plant made narrower but for one condition is not, by this condition alone;
 //! * damaged inputs: lent memory after each refusal is unchanged or zero, as its number says;
 //! * desk: over a list of calls from a fresh desk, passes is the sum of the passes answered.
 
 use std::collections::BTreeMap;
 
 use second::analysis::Answer;
+use second::before::lies_inside;
 use second::calls::{self, Buffers};
 use second::ceiling;
 use second::checker::ask_table;
@@ -30,6 +33,8 @@ use second::files::{model_file, model_file_bytes, table_file, MOST_MODEL_BYTES};
 use second::generate::*;
 use second::host::{self, MOST_MODEL_WORDS};
 use second::model::{Edition, Plant, HEAD_WORDS};
+use second::narrower::{broken, narrower};
+use second::narrowing::{narrowed, widened, BREAKS, WAYS};
 use second::plain;
 use second::pumps::pump_model;
 use second::quote::{by_widths, Taken};
@@ -40,6 +45,9 @@ use second::starts::any_crosses;
 
 const MODELS: u64 = 10_000;
 const SEED: u64 = 0x01_9912;
+
+/// Passes for which tables of pairs are held to each other at most.
+const PAIR_PASSES: u32 = 20;
 
 /// Calls by call and number; 0 stands for an answer or acceptance.
 type Seen = BTreeMap<&'static str, BTreeMap<u32, u64>>;
@@ -62,6 +70,12 @@ struct Counts {
     by_widths: [u64; 2],
     travelled: Travelled,
     tables_refused: u64,
+    /// Narrower plants: by the ways in which they were made, their tables that were held to the model's, pass by pass,
+    /// and those of the model that they accept too; and plants with one condition broken.
+    ways: BTreeMap<&'static str, u64>,
+    pair_passes: u64,
+    pair_tables: u64,
+    breaks: BTreeMap<&'static str, u64>,
     desk_calls: u64,
     seen: Seen,
 }
@@ -335,6 +349,37 @@ fn other_tables(random: &mut Random, counts: &mut Counts, plant: &Plant, answer:
     rest
 }
 
+/// Pass by pass the table of a narrower plant lies inside the first's.
+fn tables_inside(counts: &mut Counts, first: &Plant, second: &Plant) {
+    let (mut inner, mut outer) = (vec![0; first.table_words()], vec![0; first.table_words()]);
+    for _ in 0..PAIR_PASSES {
+        let at_rest = close(first, &mut outer, 1) & close(second, &mut inner, 1);
+        assert!(lies_inside(first, &inner, &outer), "{:?} {:?}", first.words(), second.words());
+        counts.pair_passes += 1;
+        if at_rest {
+            break;
+        }
+    }
+}
+
+/// A narrower plant, and one that breaks a condition.
+fn narrower_case(random: &mut Random, counts: &mut Counts, first: &Plant, tables: [&[i32]; 2]) {
+    let made = narrowed(random, first);
+    let second = Plant::from_words(&made.words).expect("a narrower plant passes its questions");
+    assert!(narrower(first, &second), "{:?} {:?}", first.words(), made.words);
+    made.ways.iter().for_each(|way| *counts.ways.entry(way).or_default() += 1);
+    tables_inside(counts, first, &second);
+    for table in tables.into_iter().filter(|table| ask_table(first, table).is_ok()) {
+        assert_eq!(ask_table(&second, table), Ok(()), "{:?} {:?} {table:?}", first.words(), made.words);
+        counts.pair_tables += 1;
+    }
+    if let Some((words, name, condition)) = widened(random, first) {
+        let second = Plant::from_words(&words).expect("a plant that breaks a condition passes its questions");
+        assert_eq!(broken(first, &second), [condition], "{name}: {:?} {words:?}", first.words());
+        *counts.breaks.entry(name).or_default() += 1;
+    }
+}
+
 /// Random runs, held to the answer and its table.
 fn runs_case(random: &mut Random, counts: &mut Counts, plant: &Plant, found: &Found) {
     let travelled = travel(plant, found.table(), random, 3);
@@ -364,6 +409,7 @@ fn one_model(random: &mut Random, counts: &mut Counts) {
     quoted(counts, &plant, &Taken { passes: found.k as u64, words: literal.len() as u64, bytes: bytes as u64 });
 
     let rest = other_tables(random, counts, &plant, answer);
+    narrower_case(random, counts, &plant, [&rest, found.table()]);
     runs_case(random, counts, &plant, &found);
     damaged_files(random, counts, &plant, &file);
     damaged_lists(random, counts, &plant, [&rest, found.table()]);
@@ -601,6 +647,15 @@ fn print_answers(counts: &Counts) {
     println!("answers by k (0, 1, 2, 3-5, 6-10, 11-100, more): {:?}", counts.by_passes);
 }
 
+fn print_pairs(models: u64, counts: &Counts) {
+    println!(
+        "narrower plants {:?}; tables held pass by pass {}, accepted for both {}; with one condition broken {:?}",
+        counts.ways, counts.pair_passes, counts.pair_tables, counts.breaks
+    );
+    let all = counts.ways.len() == WAYS.len() && counts.breaks.len() == BREAKS.len() && counts.pair_tables > 0;
+    assert!(models < 1_000 || all, "a way to make a plant narrower or a break did not come up");
+}
+
 fn print_runs(models: u64, counts: &Counts) {
     let runs = &counts.travelled;
     println!(
@@ -637,6 +692,7 @@ fn main() {
     print_answers(&counts);
     print_quoted(models, counts.by_widths);
     print_runs(models, &counts);
+    print_pairs(models, &counts);
     println!("further tables refused on unknown models {}, desk calls {}", counts.tables_refused, counts.desk_calls);
     print_calls(&counts.seen);
     println!("all invariants hold");
