@@ -201,9 +201,9 @@ uint64_t decide(const uint8_t *model, size_t model_len, uint8_t *table, size_t t
  * Gives QII_ACCEPTED, or a refusal. It writes nothing.
  *
  * A table file that is accepted for a model is accepted for every narrower one, as where a pump was
- * exchanged for a steadier one: the same variables, locations, invariants and cuts; every rate and
- * start, every guard and reset, and every forbidden box inside one of the model's; no new switch.
- * docs/PROMISES.md, "A narrower plant", has the conditions in full. The same is true of qii_check.
+ * exchanged for a steadier one: the same variables, locations, invariants and cuts, no new switch,
+ * and every rate, start, guard, reset and forbidden box inside one of the model's in its place.
+ * docs/PROMISES.md, "A narrower plant", has the conditions in full. So it is with qii_check.
  *
  * Asks, in this order: 1 to 4; 6 and 7 of each record's field in turn; 8, and 46 of each cut's
  * field in turn; 11 to 13 of each location in turn, 14 to 18 of each switch, 19 of each forbidden

@@ -10,7 +10,7 @@ use lib.ListN.{set}
 use Rattle.integers.specs.Rounding.{floorZ, ceilZ, maxZ, minZ}
 use Rattle.integers.specs.Words.{equal}
 use Rattle.integers.specs.Counted.{cat, allBelow, anyBelow, sumBelow}
-use Rattle.plant.specs.declared.Answer.the-variants.{Safe, Unknown}
+use Rattle.plant.specs.declared.Answer.the-variants.{Safe, Unknown, Unfinished}
 use Rattle.plant.specs.Ask.{_then_, first}
 use Rattle.plant.specs.Box.{low, high, boxBy, boxAt, ordered, cut, hull, unlessEmpty, faceWords, join, joins}
 use Rattle.plant.specs.Model.{locationAt, invariant, rate, startFlag, startBox, switchAt, source, target, wallVariable, sourceSide, targetSide, resetMask, masked, guard, reset, forbiddenAt, forbiddenLocation, forbiddenBox, cutAt, cutVariable, cutValue, cutFrom, cutOf, modelSize, wall, faceWall}
@@ -89,6 +89,14 @@ guardedTable =
     there 0 0 10 40 ++ there 100 100 0 40 ++ there 20 100 0 0 ++ gone
     ++ there 0 0 10 40 ++ there 0 0 70 80 ++ there 100 100 10 40 ++ gone ++ gone ++ gone ++ gone ++ gone
 
+-- strokes of x, from 0 to 1 and set back to 0, during which y rises by 1, up to 3; with y from 0 up to this level at first
+unfoldable pub strokes : ℕ → List ℤ
+strokes y =
+    (pos 2 ∷ pos 1 ∷ pos 1 ∷ pos 0 ∷ pos 1 ∷ [])
+    ++ box₂ 0 1 0 3 ++ box₂ 1 1 1 1 ++ there 0 0 0 y
+    ++ (pos 0 ∷ pos 0 ∷ pos 0 ∷ pos 1 ∷ pos 0 ∷ pos 1 ∷ []) ++ box₂ 1 1 0 3 ++ box₂ 0 0 0 3
+    ++ no-cut
+
 -- the second with another word at a place; and so in edition 2, which takes ranges
 abbrev with-word : ℕ → ℤ → List ℤ
 with-word at x = set steadierTank at x
@@ -115,6 +123,10 @@ pub record NarrowerCases : Type 0 where
   pub redrawn-safe : analysis redrawnTank 810 ≡ Safe 3
   pub redrawn-table : tableAfter redrawnTank 3 ≡ secondTable
   pub redrawn-accepted : checkerQuestions redrawnTank firstTable ≡ 0
+  -- a narrower plant that takes more passes, and under the first's is unfinished: each level of y takes two
+  pub few-passes : analysis (strokes 3) 1 ≡ Safe 1
+  pub more-passes : analysis (strokes 0) 20 ≡ Safe 7
+  pub unfinished : analysis (strokes 0) 1 ≡ Unfinished 1
   -- the second with one sentence broken, and the first's table for it. Invariants: y from -10 in location 0, so that the face at y 0 is
   -- on no wall; cuts: at y 35, or none
   pub other-invariant : checkerQuestions (with-word 7 (negsuc 9)) firstTable ≡ 32
@@ -136,7 +148,7 @@ pub record NarrowerCases : Type 0 where
   pub other-location : checkerQuestions (with-word 59 (pos 0)) firstTable ≡ 34
 
 pub narrower-cases : NarrowerCases
-unfolding floorZ ceilZ maxZ minZ equal cat allBelow anyBelow sumBelow _then_ first low high boxBy boxAt ordered cut hull unlessEmpty faceWords join joins locationAt invariant rate startFlag startBox switchAt source target wallVariable sourceSide targetSide resetMask masked guard reset forbiddenAt forbiddenLocation forbiddenBox cutAt cutVariable cutValue cutFrom cutOf modelSize wall faceWall boxOk insideOk zerosOk startOk locationQuestions placesOk boxesOk singleAt singleOk sourceWall targetWall guardOk levelAfter landsOk switchQuestions forbiddenQuestion strictlyInside cutOk cutQuestion rangesQuestions editionQuestion recordsQuestions modelQuestions delaysInto bothDelays hasDelay orNever delaysIntoBox touches lowAt highAt lowAfter highAfter boxAfter wallDelays wallStep setMasked guarded landed switchStep extentBy keepsTo boxUpTo boxFrom cutToExtent piecesPerFace perFace pieces pieceNumber pieceFace pieceIndex pieceVariable pieceWall pieceExtent piecesBefore pieceCount tableSize pieceAt tableBy faceRead pieceOf onWall absentOk presentOk pieceOk tableOk startPart partOf toPiece wallStepAt wallFrom sourcePiece switchStepAt switchOnto wallsJoined switchesJoined newPiece pass tableAfter partTouches touching width allWidths otherWidths uncutCeiling locationCeiling ceilingOf unchanged certificateQuestions tableQuestions checkerQuestions search analysis dosed refilled brineTank steadierTank redrawnTank firstTable secondTable guardedTank guardedTable
+unfolding floorZ ceilZ maxZ minZ equal cat allBelow anyBelow sumBelow _then_ first low high boxBy boxAt ordered cut hull unlessEmpty faceWords join joins locationAt invariant rate startFlag startBox switchAt source target wallVariable sourceSide targetSide resetMask masked guard reset forbiddenAt forbiddenLocation forbiddenBox cutAt cutVariable cutValue cutFrom cutOf modelSize wall faceWall boxOk insideOk zerosOk startOk locationQuestions placesOk boxesOk singleAt singleOk sourceWall targetWall guardOk levelAfter landsOk switchQuestions forbiddenQuestion strictlyInside cutOk cutQuestion rangesQuestions editionQuestion recordsQuestions modelQuestions delaysInto bothDelays hasDelay orNever delaysIntoBox touches lowAt highAt lowAfter highAfter boxAfter wallDelays wallStep setMasked guarded landed switchStep extentBy keepsTo boxUpTo boxFrom cutToExtent piecesPerFace perFace pieces pieceNumber pieceFace pieceIndex pieceVariable pieceWall pieceExtent piecesBefore pieceCount tableSize pieceAt tableBy faceRead pieceOf onWall absentOk presentOk pieceOk tableOk startPart partOf toPiece wallStepAt wallFrom sourcePiece switchStepAt switchOnto wallsJoined switchesJoined newPiece pass tableAfter partTouches touching width allWidths otherWidths uncutCeiling locationCeiling ceilingOf unchanged certificateQuestions tableQuestions checkerQuestions search analysis dosed refilled brineTank steadierTank redrawnTank firstTable secondTable guardedTank guardedTable strokes
 narrower-cases = record {
   first-passes = refl;
   second-passes = refl;
@@ -153,6 +165,9 @@ narrower-cases = record {
   redrawn-safe = refl;
   redrawn-table = refl;
   redrawn-accepted = refl;
+  few-passes = refl;
+  more-passes = refl;
+  unfinished = refl;
   other-invariant = refl;
   other-cut = refl;
   no-cuts = refl;
