@@ -8,16 +8,15 @@ use lib.ListN.{take}
 use Rattle.plant.specs.Model.{locationAt, switchAt, forbiddenAt, cutAt, modelSize}
 use Rattle.plant.specs.Questions.{modelQuestions}
 use Rattle.plant.specs.Calls.{certificateQuestions, checkBy}
-use Rattle.plant.specs.Demands.{Accepts}
 use Rattle.plant.specs.Narrower.{Narrower}
 use Rattle.plant.proofs.Asks.{then-intro}
 use Rattle.plant.proofs.Passed.{passed}
-use Rattle.plant.proofs.Accepted.{accepted, certified}
+use Rattle.plant.proofs.Accepted.{Accepted, certificate-yes, accepted}
 use Rattle.plant.proofs.Narrower.{narrower-stays-safe}
 use Rattle.plant.proofs.NarrowerCases.{dosed, refilled, brineTank, steadierTank, narrower-cases, steadier-narrower}
 use Rattle.model_files.specs.ModelFile.{modelFile}
 use Rattle.table_files.specs.TableFile.{fileTable}
-use Rattle.table_files.proofs.AlikeFiles.{same-file-table, same-file-questions}
+use Rattle.table_files.proofs.AlikeFiles.{same-file-table, file-questions-kept}
 use Rattle.host.specs.Hosts.{modelOf, modelFileQuestions, certificateFileQuestions, hostCheckCall}
 use Rattle.host.specs.HostDemand.{code, answerFile}
 use Rattle.host.specs.NarrowerFiles.{FilesStaySafe, NarrowerFilesStaySafe}
@@ -29,12 +28,12 @@ module _ (first second : List ℕ) (file₁ : modelFileQuestions first ≡ 0) (f
   unfolding hostCheckCall certificateFileQuestions
   stays-accepted t h =
       let asks : modelQuestions (modelOf second) ≡ 0 = model-asked second file₂ in
-      let accepts : Accepts (modelOf second) (fileTable (modelOf first) t) =
-      narrower-stays-safe (modelOf first) (modelOf second) (model-asked first file₁) asks into .stays-accepted (fileTable (modelOf first) t) (file-accepts first t h) in
+      let a : Accepted (modelOf second) (fileTable (modelOf first) t) = accepted (modelOf second) (fileTable (modelOf first) t)
+      (narrower-stays-safe (modelOf first) (modelOf second) (model-asked first file₁) asks into .stays-accepted (fileTable (modelOf first) t) (file-accepts first t h)) in
       ap (λ (q : ℕ). checkBy q .code)
       (then-intro file₂
-      (then-intro (same-file-questions (modelOf second) (modelOf first) into t (passed (modelOf second) asks) (check-yes first t h .1))
-      (ap (certificateQuestions (modelOf second)) (same-file-table (modelOf second) (modelOf first) into t) ∙ certified (modelOf second) (fileTable (modelOf first) t) (accepted (modelOf second) (fileTable (modelOf first) t) accepts))))
+      (then-intro (file-questions-kept (modelOf second) (modelOf first) into t (passed (modelOf second) asks) (check-yes first t h .1))
+      (ap (certificateQuestions (modelOf second)) (same-file-table (modelOf second) (modelOf first) into t) ∙ certificate-yes (modelOf second) (fileTable (modelOf first) t) (a .is-unchanged) (a .is-clear))))
 
   module _ (file : List ℕ) (limit : ℕ) (small : limit < 4294967296) (safe : code first file limit ≡ 100) where
     table-accepted : hostCheckCall second (answerFile first file limit) ≡ 100

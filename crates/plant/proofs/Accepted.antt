@@ -63,12 +63,11 @@ pub record Accepted (m t : List ℤ) : Type 0 where
 
 -- the words t begin with the pieces g: if those after a pass lie in g, a pass adds nothing to t
 module _ (m t : List ℤ) (g : ℕ → ℕ → Face) (begins : Begins m t g) where
+  pub begins-in : (l q : ℕ) → l < L# m → q < pieces m l → FaceIn (n# m) (g l q) (pieceOf m t l q)
+  begins-in l q u v = face-trans (n# m) (g l q) (ends (n# m) (g l q)) (pieceOf m t l q) (in-ends (n# m) (g l q)) (face-eq (n# m) (sym (piece-read m t g begins l q u v)))
+
   pub begins-closed : ((l q : ℕ) → l < L# m → q < pieces m l → FaceIn (n# m) (newPiece m t l q) (g l q)) → Closed m t
-  begins-closed h = record {
-    closed = λ l q u v.
-        face-trans (n# m) (newPiece m t l q) (g l q) (pieceOf m t l q) (h l q u v)
-        (face-trans (n# m) (g l q) (ends (n# m) (g l q)) (pieceOf m t l q) (in-ends (n# m) (g l q)) (face-eq (n# m) (sym (piece-read m t g begins l q u v))));
-  }
+  begins-closed h = record { closed = λ l q u v. face-trans (n# m) (newPiece m t l q) (g l q) (pieceOf m t l q) (h l q u v) (begins-in l q u v) }
 
   -- and a pass that adds nothing leaves them as they are
   pub closed-unchanged : Closed m t → T (unchanged m t)
@@ -81,14 +80,15 @@ closed-of : (m t : List ℤ) → T (unchanged m t) → Closed m t
 unfolding unchanged pass
 closed-of m t h = begins-closed m t (newPiece m t) (sym (equal-eq (pass m t) (take (tableSize m) t) h)) (λ l q u v. face-refl (n# m) (newPiece m t l q))
 
--- the answers that make an acceptance
+-- the answers that make an acceptance: 33 and 34, and all
+pub certificate-yes : (m t : List ℤ) → T (unchanged m t) → T (not (touching m t)) → certificateQuestions m t ≡ 0
+unfolding certificateQuestions
+certificate-yes m t same clear = then-intro (ask-intro (unchanged m t) 33 same) (ask-intro (not (touching m t)) 34 clear)
+
 pub questions-yes : (m t : List ℤ) → modelQuestions m ≡ 0 → T (leb (tableSize m) (length t)) → T (tableOk m t) → T (unchanged m t) → T (not (touching m t)) → checkerQuestions m t ≡ 0
-unfolding checkerQuestions tableQuestions certificateQuestions
+unfolding checkerQuestions tableQuestions
 questions-yes m t model long good same clear =
-    then-intro model
-    (then-intro (ask-intro (leb (tableSize m) (length t)) 20 long)
-    (then-intro (ask-intro (tableOk m t) 32 good)
-    (then-intro (ask-intro (unchanged m t) 33 same) (ask-intro (not (touching m t)) 34 clear))))
+    then-intro model (then-intro (ask-intro (leb (tableSize m) (length t)) 20 long) (then-intro (ask-intro (tableOk m t) 32 good) (certificate-yes m t same clear)))
 
 pub accepted : (m t : List ℤ) → Accepts m t → Accepted m t
 unfolding checkerQuestions tableQuestions certificateQuestions
@@ -106,17 +106,12 @@ accepted m t h =
       is-closed = closed-of m t (d .0);
     }
 
--- 33 and 34 of it
-pub certified : (m t : List ℤ) → Accepted m t → certificateQuestions m t ≡ 0
-unfolding certificateQuestions
-certified m t a = then-intro (ask-intro (unchanged m t) 33 (a .is-unchanged)) (ask-intro (not (touching m t)) 34 (a .is-clear))
-
 module _ (m : List ℤ) (asks : modelQuestions m ≡ 0) where
   ok : Passed m
   ok = passed m asks
 
   -- t holds table k if it holds the pieces of which table k is made
-  table-held : (t : List ℤ) (k : ℕ) → ((l q : ℕ) → l < L# m → q < pieces m l → FaceIn (n# m) (piecesAfter m k l q) (pieceOf m t l q)) → TableIn m (tableAfter m k) t
+  pub table-held : (t : List ℤ) (k : ℕ) → ((l q : ℕ) → l < L# m → q < pieces m l → FaceIn (n# m) (piecesAfter m k l q) (pieceOf m t l q)) → TableIn m (tableAfter m k) t
   table-held t k h = record {
     each = λ l q u v. subst (λ (x : Face). FaceIn (n# m) x (pieceOf m t l q)) (sym (piece-read m (tableAfter m k) (piecesAfter m k) (after-begins m k) l q u v))
         (face-trans (n# m) (ends (n# m) (piecesAfter m k l q)) (piecesAfter m k l q) (pieceOf m t l q) (ends-in (n# m) (piecesAfter m k l q)) (h l q u v));

@@ -1,5 +1,5 @@
--- A table file is read alike for a model and a narrower one: what 35 to 38 and 32 ask, and the table that it holds, depend on n, L,
--- invariants and cuts alone.
+-- A table file that passes 35 to 38 and 32 for a model passes them for a narrower one, and holds the same table: what is asked of it
+-- depends on n, L, invariants and cuts alone.
 use mathlib.Core.Path.{_≡_, refl, sym, ap, _∙_, subst}
 use mathlib.Core.Bool.{Bool, true, false, cond, _&&_}
 use mathlib.Core.List.{List}
@@ -99,9 +99,9 @@ module _ (m m′ : List ℤ) (into : Narrower m m′) where
         (λ j. ask (isField (fieldAt s (same-field-at i j)) 5 (payloadLength (same-field j))) 36 then ask (placeOk m (same-words i j) (same-least i (λ k v. u k (omega arith)) j)) 37)
         ∙ λ j. ask (isField (fieldAt s (pieceFieldAt m′ i)) 5 (payloadLength (pieceFieldSize m′))) 36 then ask (same-place-ok (pieceFieldWords m′ s i) (leastKey m′ s i) (u i (omega arith)) j) 37
 
-    same-fields : Passed m → fieldsQuestions m′ s ≡ 0 → fieldsQuestions m s ≡ 0
+    fields-kept : Passed m → fieldsQuestions m′ s ≡ 0 → fieldsQuestions m s ≡ 0
     unfolding fieldsQuestions countQuestion
-    same-fields ok h =
+    fields-kept ok h =
         let count : (countQuestion m′ s ≡ 0) × _ = then-both (countQuestion m′ s) _ h in
         let rest : (first (count# s) (pieceQuestions m′ s) ≡ 0) × _ = then-both (first (count# s) (pieceQuestions m′ s)) _ (count .1) in
         then-intro (same-count-question ∙ count .0)
@@ -115,8 +115,8 @@ module _ (m m′ : List ℤ) (into : Narrower m m′) where
         named i u = subst (λ (k : ℕ). num (pieceFieldWords m′ s i) 0 < k) (sym (into .same-L))
             (fields-yes m′ s (omega (arith, into .same-n, ok .n-positive)) (omega (arith, into .same-L, ok .L-positive)) h .places i u .location-below)
 
-    pub same-file-questions : Passed m → tableFileQuestions m′ s ≡ 0 → tableFileQuestions m s ≡ 0
+    pub file-questions-kept : Passed m → tableFileQuestions m′ s ≡ 0 → tableFileQuestions m s ≡ 0
     unfolding tableFileQuestions
-    same-file-questions ok h =
+    file-questions-kept ok h =
         let y : (fieldsQuestions m′ s ≡ 0) × (ask (tableOk m′ (fileTable m′ s)) 32 ≡ 0) = then-both (fieldsQuestions m′ s) (ask (tableOk m′ (fileTable m′ s)) 32) h in
-        then-intro (same-fields ok (y .0)) (ap (λ (t : List ℤ). ask (tableOk m t) 32) same-file-table ∙ ap (λ (b : Bool). ask b 32) (same-ok m m′ into (fileTable m′ s)) ∙ y .1)
+        then-intro (fields-kept ok (y .0)) (ap (λ (t : List ℤ). ask (tableOk m t) 32) same-file-table ∙ ap (λ (b : Bool). ask b 32) (same-ok m m′ into (fileTable m′ s)) ∙ y .1)

@@ -288,6 +288,13 @@ impl Counts {
         all
     }
 
+    /// Kinds of pairs, and ways in which they are made, that never came up.
+    fn pairs_not_seen(&self) -> Vec<String> {
+        let kinds = PAIRED.iter().map(|(kind, _)| *kind).filter(|kind| !self.pairs.contains_key(*kind));
+        let ways = WAYS.iter().map(|(way, _)| *way).filter(|way| !self.ways.contains_key(*way));
+        kinds.chain(ways).map(|kind| format!("a pair: {kind}")).collect()
+    }
+
     /// Kinds of input that are listed and never came up.
     pub fn kinds_not_seen(&self) -> Vec<String> {
         let mut missing = Vec::new();
@@ -317,8 +324,7 @@ impl Counts {
         CHANGES.iter().for_each(|(kind, _, count)| expect(kind, count(&self.changes) > 0));
         QUOTED.iter().for_each(|(kind, _)| expect(&format!("a quote: {kind}"), self.quotes.contains_key(*kind)));
         WRITTEN.iter().for_each(|(kind, _)| expect(&format!("written: {kind}"), self.written.contains_key(*kind)));
-        PAIRED.iter().for_each(|(kind, _)| expect(&format!("a pair: {kind}"), self.pairs.contains_key(*kind)));
-        WAYS.iter().for_each(|(way, _)| expect(&format!("a pair: {way}"), self.ways.contains_key(*way)));
+        self.pairs_not_seen().iter().for_each(|kind| expect(kind, false));
         LIMIT_KINDS.iter().for_each(|kind| expect(&format!("limit {kind}"), self.limits.contains_key(*kind)));
         all_damage().iter().for_each(|kind| expect(kind, self.damage.contains_key(kind)));
         expect("a safe answer's table accepted", self.accepted > 0);

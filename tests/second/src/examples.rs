@@ -535,8 +535,8 @@ pub fn hand_filled(dose: [i32; 2], forbidden: [i32; 4]) -> Draft {
 /// A tank of brine (document 02, T-13). Variable 0 is the level, variable 1 the strength of the brine, both 0..100. In
 /// location 0 the tank is filled, by 2 to 6, and what comes in dilutes it, by up to 1. Full, it gets salt by hand, to a
 /// strength of 20 to 40, or a weak dose, to one of 10 to 15; in location 1 it is emptied, by 4 to 5, and the strength
-/// stands. Empty, it is filled again. It may also begin in location 1, with a strong batch, of 70 to 80. Forbidden while
-/// it is emptied are the strengths 45 to 65.
+/// stands. Empty, it is filled again. It may also begin in location 1, with a strong batch, of 70 to 80. Forbidden
+/// while it is emptied are the strengths 45 to 65.
 ///
 /// One box for the strong batch and the doses, on the empty tank, has all strengths between them, and the answer is
 /// unknown. With location 1 cut at a strength of 60 the two stay apart, and it is safe.

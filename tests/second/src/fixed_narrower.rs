@@ -129,7 +129,6 @@ fn needed_of_places() -> Vec<Needed> {
     let beyond = || Draft { forbidden: vec![(0, vec![0, 10, 12, 12])], ..plant_p() };
     let at_4 = Draft { cuts: vec![(0, 0, 4)], ..plant_p() };
     let of_y = Draft { cuts: vec![(0, 1, 5)], ..plant_p() };
-    let tanks = |cut: bool| three_tanks(cut);
     vec![
         needed_by("another n", Variables, [plant_p(), at_rest(1)], [32, 36], (SAFE, 0)),
         needed_by("a location more", Locations, [plant_p(), twice(plant_p())], [20, 33], (SAFE, 1)),
@@ -142,7 +141,7 @@ fn needed_of_places() -> Vec<Needed> {
         // The first's words are read face by face: on y = 10 there is nothing.
         needed_by("a cut less", Cuts, [plant_p_cut(), plant_p()], [33, 36], (SAFE, 1)),
         needed_by("a cut more", Cuts, [plant_p(), plant_p_cut()], [20, 36], (SAFE, 1)),
-        needed_by("a cut that keeps it safe", Cuts, [tanks(true), tanks(false)], [32, 36], (UNKNOWN, 2)),
+        needed_by("a cut that keeps it safe", Cuts, [three_tanks(true), three_tanks(false)], [32, 36], (UNKNOWN, 2)),
     ]
 }
 
@@ -198,8 +197,8 @@ fn needed_of_boxes() -> Vec<Needed> {
     ]
 }
 
-/// Pairs that break one condition. All but the last are refused by it: a box inside two of the first's together is not
-/// inside one, though nothing can go wrong with it.
+/// Pairs that break one condition. In all but the last the first's table is refused for the second: a box inside two of
+/// the first's together is not inside one, though nothing can go wrong with it.
 pub fn needed() -> Vec<Needed> {
     let mut all = needed_of_places();
     all.extend(needed_of_locations());

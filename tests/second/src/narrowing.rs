@@ -77,13 +77,18 @@ fn shrink(random: &mut Random, bounds: &mut [i32]) {
     }
 }
 
+/// A range becomes a single value of it, often an end.
+fn to_point(random: &mut Random, range: &mut [i32]) {
+    let (low, high) = (range[0], range[1]);
+    let any = random.range(low as i64, high as i64) as i32;
+    range.fill(random.pick(&[low, high, any]));
+}
+
 /// Some ranges of a box become single values of them.
 fn to_points(random: &mut Random, bounds: &mut [i32]) {
     for range in bounds.chunks_exact_mut(2) {
         if random.chance(2, 3) {
-            let (low, high) = (range[0], range[1]);
-            let any = random.range(low as i64, high as i64) as i32;
-            range.fill(random.pick(&[low, high, any]));
+            to_point(random, range);
         }
     }
 }
@@ -127,9 +132,7 @@ fn in_edition_1(random: &mut Random, draft: &mut Draft) {
     for switch in &mut draft.switches {
         let masked = (0..draft.n).filter(|i| switch.mask >> i & 1 == 1);
         for i in masked.collect::<Vec<_>>() {
-            let [low, high] = [switch.reset[2 * i], switch.reset[2 * i + 1]];
-            let any = random.range(low as i64, high as i64) as i32;
-            switch.reset[2 * i..2 * i + 2].fill(random.pick(&[low, high, any]));
+            to_point(random, &mut switch.reset[2 * i..2 * i + 2]);
         }
     }
     draft.edition = Edition::One;
@@ -151,8 +154,8 @@ fn starts_dropped(random: &mut Random, draft: &mut Draft) {
     some_of(random, &mut draft.locations, |_, location| location.start = None);
 }
 
-/// Start boxes, of locations without one too, behind a wall: flag 1, and no start part. None where a variable is at
-/// both ends of the levels.
+/// Start boxes, of locations without one too, behind a wall: flag 1, and no start part. None where the wall is at the
+/// end of the levels.
 fn starts_behind(random: &mut Random, draft: &mut Draft) {
     let n = draft.n;
     some_of(random, &mut draft.locations, |random, location| {
@@ -195,7 +198,7 @@ fn forbidden_dropped(random: &mut Random, draft: &mut Draft) {
     draft.forbidden.retain(|_| random.chance(1, 2));
 }
 
-/// Two or three boxes inside each of some forbidden boxes in its place, as many as there is room for.
+/// One to three boxes inside each forbidden box, in its place, as far as there is room.
 fn forbidden_split(random: &mut Random, draft: &mut Draft) {
     for f in 0..draft.forbidden.len() {
         let whole = draft.forbidden[f].clone();
@@ -280,7 +283,7 @@ fn location_added(random: &mut Random, _: &Draft, second: &mut Draft) -> bool {
     true
 }
 
-/// A wall of a location without a start one further out.
+/// A wall of a location one further out, and no start there.
 fn invariant_moved(random: &mut Random, _: &Draft, second: &mut Draft) -> bool {
     let l = random.below(second.locations.len());
     let end = random.below(2 * second.n);

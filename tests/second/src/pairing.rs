@@ -1,7 +1,8 @@
 //! What is promised of a narrower plant (document 02, T-13), held of the tested calls on what they themselves gave: if
 //! the first model is safe under some limit, the second is safe under every limit of at least its ceiling and unknown
 //! under none, and the first's table is accepted for it. Every other table that is accepted for the first is accepted
-//! for the second too; the ceilings and the quotes of the two are equal, and the second's table lies inside the first's.
+//! for the second too; the ceilings and the quotes of the two are equal, and the second's table lies inside the
+//! first's.
 
 use crate::analysis::{run_quick, Answer};
 use crate::before::lies_inside;
@@ -78,8 +79,8 @@ fn analysed(calls: &mut impl HostCalls, plant: &Plant, limit: u32, lengths: &Len
     calls.make(Call::Analyse, &Input { limit, ..Input::of_model(plant.words()) }, lengths)
 }
 
-/// The first is analysed, in a table buffer that may have more words than the table. If it is safe, that whole buffer is
-/// accepted as a table for the second. None if it is not safe.
+/// The first is analysed, in a table buffer that may have more words than the table. If it is safe, that whole buffer
+/// is accepted as a table for the second. None if it is not safe.
 pub fn first_stays(
     calls: &mut impl HostCalls,
     pair: &Pair,
@@ -241,11 +242,10 @@ fn kinds(pair: &Pair, ways: &[&str]) -> [bool; 13] {
     ]
 }
 
-/// The second is answered within the passes that one may ask for, or within twice those of the first.
-fn ends_soon(second: &Plant, passes: u32) -> bool {
-    let (mut table, mut work) = (vec![0; second.table_words()], vec![0; second.table_words()]);
-    let budget = pass_budget(second).max(passes.saturating_mul(2));
-    run_quick(second, budget, &mut table, &mut work).0 != Answer::Unfinished
+/// The plant is answered within so many passes.
+pub fn ends_within(plant: &Plant, passes: u32) -> bool {
+    let (mut table, mut work) = (vec![0; plant.table_words()], vec![0; plant.table_words()]);
+    run_quick(plant, passes, &mut table, &mut work).0 != Answer::Unfinished
 }
 
 /// The calls of a comparison, on a pair.
@@ -308,9 +308,9 @@ impl Comparison {
     }
 
     /// The second's limits, of a first that took so many passes; none if its ceiling is above the last, or if it takes
-    /// too many passes.
+    /// more passes than one may ask for and than twice the first's.
     fn limits_of(&mut self, pair: &Pair, quote: &Quote, passes: u64) -> Vec<u32> {
-        let soon = ends_soon(pair.second, passes as u32);
+        let soon = ends_within(pair.second, pass_budget(pair.second).max((passes as u32).saturating_mul(2)));
         self.counts.long_pairs += !soon as u64;
         self.pair_kind("a ceiling above 4,294,967,295", quote.ceiling > u32::MAX as u64);
         if soon {

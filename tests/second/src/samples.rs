@@ -86,7 +86,7 @@ pub fn tables() -> Vec<(&'static str, Vec<u8>, u64)> {
         table_file(&Plant::from_words(&words).expect("P passes its questions"), &table)
     };
     let whole = table_of_p(|_| {});
-    vec![
+    let mut all = vec![
         ("plant-p", whole.clone(), 100),
         ("plant-p.wider", table_of_p(|table| *table = plant_p_wider()), 100),
         ("plant-p.narrow", table_of_p(|table| table[16] = 3), 33),
@@ -112,10 +112,19 @@ pub fn tables() -> Vec<(&'static str, Vec<u8>, u64)> {
         ("hand-filled", answers_table(&hand_filled(BY_HAND, OVER_THE_RIM)), 100),
         ("hand-filled.low", answers_table(&hand_filled([2, 2], OVER_THE_RIM)), 33),
         ("hand-filled-stirrer", answers_table(&hand_filled(BY_HAND, OVER_THE_RIM)), 34),
-        ("brine-tank", answers_table(&brine_tank()), 100),
-        ("brine-tank.steadier", answers_table(&brine_tank_steadier()), 33),
-        ("brine-tank-steadier", answers_table(&brine_tank_steadier()), 100),
-        ("brine-tank-steadier.first", answers_table(&brine_tank()), 100),
+    ];
+    all.extend(tables_of_a_pair());
+    all
+}
+
+/// The tables of a plant and of a narrower one (document 02, T-13), each with both models.
+fn tables_of_a_pair() -> [(&'static str, Vec<u8>, u64); 4] {
+    let [first, second] = [brine_tank(), brine_tank_steadier()].map(|draft| answers_table(&draft));
+    [
+        ("brine-tank", first.clone(), 100),
+        ("brine-tank.steadier", second.clone(), 33),
+        ("brine-tank-steadier", second, 100),
+        ("brine-tank-steadier.first", first, 100),
     ]
 }
 

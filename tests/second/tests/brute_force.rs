@@ -640,7 +640,7 @@ fn every_table_of_very_small_pairs() {
         assert_eq!(ceiling::of_plant(&second) as u32, limit);
         let (mut table, mut work) = (vec![0; first.table_words()], vec![0; first.table_words()]);
         let answers = [&first, &second].map(|plant| run(plant, limit, &mut table, &mut work).0);
-        assert!(answers != [Answer::Safe, Answer::Unknown], "{words:?} {made:?}");
+        assert!(answers[0] != Answer::Safe || answers[1] == Answer::Safe, "{words:?} {made:?}");
         pairs += 1;
         cut += first.any_cut() as u32;
         tables += tried;

@@ -265,8 +265,8 @@ fn a_cup_filled_by_hand() {
     }
 }
 
-/// The tank of brine and the one with a steadier pump, word by word. The second is a narrower plant, and the first is
-/// none than it; the first is unknown without its cut.
+/// The tank of brine and the one with a steadier pump, word by word. The second is narrower than the first, and not the
+/// other way round; the first is unknown without its cut.
 #[test]
 fn a_tank_of_brine_and_a_steadier_pump() {
     let (first, second) = (brine_tank().words(), brine_tank_steadier().words());

@@ -1,12 +1,10 @@
-//! Is what is promised of a narrower plant (document 02, T-13) found broken by itself, without this package's own answers?
-//! Each function here is this package's own answer with one mistake. Of each it is said whether pairs of a plant and a
-//! narrower one find it: those cannot be found that only make more safe, or take no more to be accepted where the plant
-//! is narrower.
+//! Is what is promised of a narrower plant (document 02, T-13) found broken by itself, without this package's own
+//! answers? Each function here is this package's own answer with one mistake. Of each it is said whether pairs of a
+//! plant and a narrower one find it: not found are those that only make more safe or accept more.
 
 mod alone;
 
 use alone::Alone;
-use second::analysis::{run_quick, Answer};
 use second::compare::Difference;
 use second::draft::Draft;
 use second::exports::{answer, Call, Input, Lent};
@@ -14,17 +12,13 @@ use second::generate::{close, pass_budget, random_model, random_table};
 use second::lending::Lengths;
 use second::model::{Edition, Plant, LEVEL};
 use second::narrowing::narrowed;
-use second::pairing::{accepted_stays, files_stay, first_stays, limits, quoted_alike, second_safe, Pair};
+use second::pairing::{
+    accepted_stays, ends_within, files_stay, first_stays, limits, never_unknown, quoted_alike, second_safe, Pair,
+};
 use second::random::Random;
 use second::starts::{any_crosses, table_of_whole_boxes, touched_by_whole_boxes};
 
 type Wrong = fn(Call, &Input, &mut Lent) -> u32;
-
-/// The second is answered within so many passes.
-fn ends_soon(second: &Plant, passes: u32) -> bool {
-    let (mut table, mut work) = (vec![0; second.table_words()], vec![0; second.table_words()]);
-    run_quick(second, passes, &mut table, &mut work).0 != Answer::Unfinished
-}
 
 /// All that is promised of a pair.
 fn hold(calls: &mut Alone, pair: &Pair, table: &[i32]) -> Result<(), Difference> {
@@ -32,10 +26,11 @@ fn hold(calls: &mut Alone, pair: &Pair, table: &[i32]) -> Result<(), Difference>
     let (size, limit) = (quote.words as usize, pass_budget(pair.first).min(200));
     let lengths = Lengths { words: size + calls.random.below(4), work: size, file: 0 };
     if let Some(found) = first_stays(calls, pair, limit, &lengths)? {
-        let soon = ends_soon(pair.second, 2_000);
+        let soon = ends_within(pair.second, 2_000);
         let limits = if soon { limits(&mut calls.random, quote.ceiling) } else { vec![] };
         second_safe(calls, pair, &found.words, &limits, &lengths)?;
         files_stay(calls, pair, limit, &limits, quote.bytes as usize)?;
+        never_unknown(calls, pair, found.value as u32, &quote)?;
     }
     accepted_stays(calls, pair, table)?;
     Ok(())
@@ -185,6 +180,14 @@ fn unfinished_without_end(call: Call, input: &Input, lent: &mut Lent) -> u32 {
     safe_but(call, input, lent, |_, limit| unless(limit != u32::MAX, 102))
 }
 
+/// What is not settled within the limit is unknown.
+fn unknown_for_unfinished(call: Call, input: &Input, lent: &mut Lent) -> u32 {
+    match answer(call, input, lent) {
+        102 => 101,
+        number => number,
+    }
+}
+
 fn desk_of_16_bits(call: Call, input: &Input, lent: &mut Lent) -> u32 {
     let number = answer(call, input, lent);
     if call == Call::Desk && input.limit > 65_535 {
@@ -280,7 +283,7 @@ fn nothing_switched(call: Call, input: &Input, lent: &mut Lent) -> u32 {
     of_another(call, input, lent, |draft| draft.switches.clear())
 }
 
-const WRONG: [(&str, Wrong, bool); 26] = [
+const WRONG: [(&str, Wrong, bool); 27] = [
     ("only its own table is accepted", only_its_own_table, true),
     ("a longer list refused", longer_list_refused, true),
     ("a mask in edition 1 refused", edition_1_with_a_mask_refused, true),
@@ -295,6 +298,7 @@ const WRONG: [(&str, Wrong, bool); 26] = [
     ("no start flag is unknown", no_start_unknown, true),
     ("unfinished at the ceiling", unfinished_at_the_ceiling, true),
     ("unfinished under the last limit", unfinished_without_end, true),
+    ("unknown for unfinished", unknown_for_unfinished, true),
     ("a desk of 16 bits", desk_of_16_bits, true),
     ("one rate means up to it", one_rate_means_up_to_it, true),
     ("one level forbidden is every level", one_level_forbidden_is_all, true),
