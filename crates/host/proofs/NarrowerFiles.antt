@@ -1,5 +1,5 @@
--- Document 02, T-13, for bytes: a table file that check accepts with a model file holds a table that the checker accepts; so it does
--- for a narrower model, for which the file is read alike.
+-- Document 02, T-13, for bytes: a table file that check accepts with a model file holds a table that the checker accepts; it accepts it
+-- for a narrower model too, and there the file passes as well, and holds that table.
 use mathlib.Core.Path.{_≡_, refl, sym, ap, _∙_, subst}
 use mathlib.Core.List.{List}
 use Prim.Native.Nat.{ℕ, _<_}

@@ -61,7 +61,7 @@ pub record Accepted (m t : List ℤ) : Type 0 where
   pub is-valid : Valid m t
   pub is-closed : Closed m t
 
--- the words t begin with the pieces g: if those after a pass lie in g, a pass adds nothing to t
+-- the words t begin with the pieces g: they hold them; and if those after a pass lie in g, a pass adds nothing to t
 module _ (m t : List ℤ) (g : ℕ → ℕ → Face) (begins : Begins m t g) where
   pub begins-in : (l q : ℕ) → l < L# m → q < pieces m l → FaceIn (n# m) (g l q) (pieceOf m t l q)
   begins-in l q u v = face-trans (n# m) (g l q) (ends (n# m) (g l q)) (pieceOf m t l q) (in-ends (n# m) (g l q)) (face-eq (n# m) (sym (piece-read m t g begins l q u v)))
