@@ -1,14 +1,15 @@
 -- A table file that passes 35 to 38 and 32 for a model passes them for a narrower one, and holds the same table: what is asked of it
 -- depends on n, L, invariants and cuts alone.
 use mathlib.Core.Path.{_≡_, refl, sym, ap, _∙_, subst}
-use mathlib.Core.Bool.{Bool, true, false, cond, _&&_}
+use mathlib.Core.Bool.{Bool, cond, _&&_}
 use mathlib.Core.List.{List}
 use Prim.Native.Nat.{ℕ, zero, suc, _+_, _*_, _-_, _<_}
 use native.Mathlib.Omega.{arith}
-use lib.Dec.{T, leb, eqb, eqb→eq}
+use lib.Dec.{leb, eqb, eqb→eq}
 use lib.IntN.{ℤ, pos, natAbs}
 use lib.ListN.{length}
 use Rattle.integers.specs.Words.{word, num, within}
+use Rattle.integers.proofs.Tests.{and-same}
 use Rattle.wire.specs.Bytes.{wordsAt}
 use Rattle.wire.specs.Fields.{headerSize, payloadLength, fieldPlace, fieldAt, isField}
 use Rattle.plant.specs.Ask.{ask, _then_, first}
@@ -22,10 +23,6 @@ use Rattle.plant.proofs.Passed.{Passed}
 use Rattle.plant.proofs.Alike.{same-per-face, same-number, same-before, same-count, same-any-cut, same-table, same-ok}
 use Rattle.table_files.specs.TableFile.{placeSize, pieceFieldSize, piecesFrom, pieceFieldAt, countWord, countQuestion, pieceFieldWords, pieceWord, pieceNamed, pieceKey, leastKey, placeOk, pieceQuestion, pieceQuestions, fileFace, count#, fileTable, fieldsQuestions, tableFileQuestions}
 use Rattle.table_files.proofs.TableAsked.{fields-yes}
-
-and-same : (b c c′ : Bool) → (T b → c ≡ c′) → (b && c) ≡ (b && c′)
-and-same true c c′ e = e tt
-and-same false c c′ e = refl
 
 module _ (m m′ : List ℤ) (into : Narrower m m′) where
   -- ---- the sizes of fields, and their words

@@ -621,30 +621,31 @@ pub fn set_to(range: [i32; 2]) -> Draft {
     }
 }
 
-/// A vat that is filled by one dose a stroke, up to 5,000: the stroke x runs from 0 to 1 and
-/// is set back, the level y rises by 1 meanwhile. Every stroke takes two passes, so the table
-/// grows for some 10,000 of them. From level `forbidden` on it is forbidden.
+/// A vat that is filled by one dose a stroke: the stroke x runs from 0 to 1 and is set back, the level y rises by 1
+/// meanwhile, up to `most`. From x 0 and these levels every stroke takes two passes. Nothing is forbidden.
+pub fn strokes(most: i32, levels: [i32; 2]) -> Draft {
+    let location = LocationDraft {
+        invariant: vec![0, 1, 0, most],
+        rates: vec![1; 4],
+        start: Some(vec![0, 0, levels[0], levels[1]]),
+    };
+    let set_back = SwitchDraft {
+        source: 0,
+        target: 0,
+        d: 0,
+        source_side: 1,
+        target_side: 0,
+        mask: 0b01,
+        guard: vec![1, 1, 0, most],
+        reset: vec![0, 0, 0, most],
+    };
+    Draft { n: 2, locations: vec![location], switches: vec![set_back], ..Draft::default() }
+}
+
+/// Strokes up to 5,000 from an empty vat, so that the table grows for some 10,000 passes. From level `forbidden` on it
+/// is forbidden.
 pub fn dosing(forbidden: i32) -> Draft {
-    Draft {
-        n: 2,
-        locations: vec![LocationDraft {
-            invariant: vec![0, 1, 0, 5_000],
-            rates: vec![1, 1, 1, 1],
-            start: Some(vec![0, 0, 0, 0]),
-        }],
-        switches: vec![SwitchDraft {
-            source: 0,
-            target: 0,
-            d: 0,
-            source_side: 1,
-            target_side: 0,
-            mask: 0b01,
-            guard: vec![1, 1, 0, 5_000],
-            reset: vec![0, 0, 0, 5_000],
-        }],
-        forbidden: vec![(0, vec![0, 1, forbidden, 5_000])],
-        ..Draft::default()
-    }
+    Draft { forbidden: vec![(0, vec![0, 1, forbidden, 5_000])], ..strokes(5_000, [0, 0]) }
 }
 
 /// A plant of 64 locations for timing: a grid over n variables (n = 2: 8 by 8; n = 3: 4 by

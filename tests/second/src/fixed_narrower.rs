@@ -6,7 +6,7 @@ use crate::desk::Desk;
 use crate::draft::{Draft, LocationDraft, SwitchDraft};
 use crate::examples::{
     at_rest, brine_tank, brine_tank_steadier, hand_filled, plant_p, plant_p_behind, plant_p_cut, plant_p_from,
-    plant_p_unknown, three_tanks, BY_HAND, OVER_THE_RIM,
+    plant_p_unknown, strokes, three_tanks, BY_HAND, OVER_THE_RIM,
 };
 use crate::exports::{Call, Input};
 use crate::files::model_file;
@@ -207,27 +207,6 @@ pub fn needed() -> Vec<Needed> {
     all
 }
 
-/// Strokes of x, from 0 to 1 and set back, during which y rises by 1, up to 20. With all levels of y at first there is
-/// little left to reach; from 0 on every level takes two passes, and one more is for the corner x 0, y 20.
-fn strokes(levels: [i32; 2]) -> Draft {
-    let set_back = SwitchDraft {
-        source: 0,
-        target: 0,
-        d: 0,
-        source_side: 1,
-        target_side: 0,
-        mask: 0b01,
-        guard: vec![1, 1, 0, 20],
-        reset: vec![0, 0, 0, 20],
-    };
-    let location = LocationDraft {
-        invariant: vec![0, 1, 0, 20],
-        rates: vec![1; 4],
-        start: Some(vec![0, 0, levels[0], levels[1]]),
-    };
-    Draft { n: 2, locations: vec![location], switches: vec![set_back], ..Draft::default() }
-}
-
 pub fn kept() -> Vec<Kept> {
     let kept_by = |label, [first, second]: [Draft; 2], passes| Kept { label, first, second, passes };
     let measured = || Draft { edition: Edition::One, ..hand_filled([3, 3], OVER_THE_RIM) };
@@ -249,7 +228,9 @@ pub fn kept() -> Vec<Kept> {
         kept_by("the same dose in edition 2", [measured(), hand_filled([3, 3], OVER_THE_RIM)], [3, 3]),
         kept_by("two switches on one", [by_hand(), twofold], [4, 4]),
         kept_by("the tank of brine", [brine_tank(), brine_tank_steadier()], [5, 3]),
-        kept_by("more passes", [strokes([0, 20]), strokes([0, 0])], [1, 41]),
+        // With all levels at first there is little left to reach; from 0 on every level takes two passes, and one more
+        // is for the corner x 0, y 20.
+        kept_by("more passes", [strokes(20, [0, 20]), strokes(20, [0, 0])], [1, 41]),
     ]
 }
 

@@ -357,27 +357,29 @@ fn start_added(random: &mut Random, first: &Draft, second: &mut Draft) -> bool {
     start_part(first, l).is_none()
 }
 
-fn guard_wider(random: &mut Random, first: &Draft, second: &mut Draft) -> bool {
+/// One of a switch's boxes.
+type Bounds = fn(&mut SwitchDraft) -> &mut Vec<i32>;
+
+/// An end of a box of some switch, if there is one, further out than in any switch of the first.
+fn switch_box_wider(random: &mut Random, first: &Draft, second: &mut Draft, bounds: Bounds) -> bool {
     if second.switches.is_empty() {
         return false;
     }
     let s = random.below(second.switches.len());
     let end = random.below(2 * second.n);
-    let beyond = one_beyond(first.switches.iter().map(|switch| &switch.guard), end, LEVEL);
-    second.switches[s].guard[end] = beyond.unwrap_or(0);
+    let mut switches = first.switches.clone();
+    let beyond = one_beyond(switches.iter_mut().map(|switch| &*bounds(switch)), end, LEVEL);
+    bounds(&mut second.switches[s])[end] = beyond.unwrap_or(0);
     beyond.is_some()
 }
 
+fn guard_wider(random: &mut Random, first: &Draft, second: &mut Draft) -> bool {
+    switch_box_wider(random, first, second, |switch| &mut switch.guard)
+}
+
 fn reset_wider(random: &mut Random, first: &Draft, second: &mut Draft) -> bool {
-    if second.switches.is_empty() {
-        return false;
-    }
-    let s = random.below(second.switches.len());
-    let end = random.below(2 * second.n);
-    let beyond = one_beyond(first.switches.iter().map(|switch| &switch.reset), end, LEVEL);
     second.edition = Edition::Two;
-    second.switches[s].reset[end] = beyond.unwrap_or(0);
-    beyond.is_some()
+    switch_box_wider(random, first, second, |switch| &mut switch.reset)
 }
 
 /// A switch of this kind in the first: with equal locations, d, sides and mask.
