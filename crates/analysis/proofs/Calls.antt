@@ -1,14 +1,12 @@
 -- The calls by cases: the number or the answer that the definition gives in each branch of the code.
 use mathlib.Core.Path.{_≡_, refl, sym, ap, ap₂, _∙_}
-use mathlib.Core.Bool.{Bool, true, false}
+use mathlib.Core.Bool.{true, false}
 use mathlib.Core.List.{List, _++_}
 use Prim.Native.Nat.{ℕ, zero, suc, _<_, _≤_}
 use native.Mathlib.Omega.{arith}
-use lib.Dec.{leb, le→leb, leb→le}
 use lib.IntN.{ℤ, pos}
 use lib.ListN.{length, drop, replicate}
 use lib.Seq.{take-all}
-use borrow.Author.Tests.{lt-leb}
 use Rattle.integers.specs.Words.{equal, onto}
 use Rattle.plant.specs.declared.Answer.{Answer}
 use Rattle.plant.specs.declared.Answer.the-variants.{Refused}
@@ -16,14 +14,15 @@ use Rattle.plant.specs.declared.Verdict.the-variants.{Accepted}
 use Rattle.plant.specs.declared.Verdict.the-variants as verdict
 use Rattle.plant.specs.declared.Ceiling.the-variants.{Passes}
 use Rattle.plant.specs.declared.Ceiling.the-variants as ceiling
-use Rattle.plant.specs.Ask.{ask, _then_}
+use Rattle.plant.specs.Ask.{_then_}
 use Rattle.plant.specs.Questions.{modelQuestions}
 use Rattle.plant.specs.Tables.{tableSize, tableOk, pass, touching, ceilingOf}
-use Rattle.plant.specs.Calls.{ceilingBy, ceilingCall, unchanged, certificateQuestions, tableQuestions, checkerQuestions, verdictBy, checkCall, analysis, answerTable, passesOf, analysisQuestions, Analysed, answered, analyseBy, analyseCall}
-use Rattle.plant.proofs.Asks.{go, halt, ask-intro, ask-yes, then-intro, then-both}
+use Rattle.plant.specs.Calls.{ceilingBy, ceilingCall, unchanged, certificateQuestions, tableQuestions, checkerQuestions, verdictBy, checkCall, analysis, answerTable, passesOf, Analysed, answered}
+use Rattle.plant.proofs.Asks.{go, halt}
 use Rattle.plant.proofs.Passed.{passed}
 use Rattle.plant.proofs.Keeps.{after-length}
-use Rattle.analysis.proofs.Front.{front, questions-front}
+use Rattle.plant.proofs.Front.{front, questions-front}
+use Rattle.plant.proofs.AnalysisAsked.{short, long}
 
 -- ---- the ceiling
 
@@ -39,14 +38,6 @@ module _ (m : List ℤ) where
   pub ceiling-passes : (k : ℕ) → modelQuestions m ≡ 0 → k ≡ ceilingOf m → Passes k ≡ ceilingCall m
   unfolding ceilingCall
   ceiling-passes k e f = ap (λ (x : ℕ). Passes x) f ∙ ap (ceilingBy m) (sym e)
-
--- ---- 20 and 21: a list that is long enough, or not
-
-long : (m t : List ℤ) (k : ℕ) → tableSize m ≤ length t → ask (leb (tableSize m) (length t)) k ≡ 0
-long m t k h = ask-intro (leb (tableSize m) (length t)) k (le→leb (tableSize m) (length t) h)
-
-short : (m t : List ℤ) (k : ℕ) → length t < tableSize m → k ≡ ask (leb (tableSize m) (length t)) k
-short m t k h = ap (λ (b : Bool). ask b k) (sym (lt-leb _ _ h))
 
 -- ---- the questions of a table's words
 
@@ -111,59 +102,9 @@ module _ (m t : List ℤ) where
       unfolding checkCall
       check-accepted z = ap verdictBy (sym z ∙ chain)
 
--- ---- the questions of an analysis
-
-module _ (m table work : List ℤ) where
-  pub asks-model : (q : ℕ) → q ≡ modelQuestions m → (q ≡ 0 → ⊥) → q ≡ analysisQuestions m table work
-  unfolding analysisQuestions
-  asks-model q e n = halt _ e n
-
-  module _ (asks : modelQuestions m ≡ 0) where
-    pub short-table : length table < tableSize m → 20 ≡ analysisQuestions m table work
-    unfolding analysisQuestions
-    short-table h = go refl asks (halt _ (short m table 20 h) (λ e. omega arith))
-
-    module _ (table-room : tableSize m ≤ length table) where
-      pub short-work : length work < tableSize m → 21 ≡ analysisQuestions m table work
-      unfolding analysisQuestions
-      short-work h = go refl asks (go refl (long m table 20 table-room) (short m work 21 h))
-
-      pub all-yes : tableSize m ≤ length work → 0 ≡ analysisQuestions m table work
-      unfolding analysisQuestions
-      all-yes h = sym (then-intro asks (then-intro (long m table 20 table-room) (long m work 21 h)))
-
-  -- what a yes to all of them tells
-  module _ (yes : analysisQuestions m table work ≡ 0) where
-    rest : (modelQuestions m ≡ 0) × ((ask (leb (tableSize m) (length table)) 20 then ask (leb (tableSize m) (length work)) 21) ≡ 0)
-    unfolding analysisQuestions
-    rest = then-both _ _ yes
-
-    pub model-asked : modelQuestions m ≡ 0
-    model-asked = rest .0
-
-    pub table-room : tableSize m ≤ length table
-    table-room = leb→le _ _ (ask-yes (leb (tableSize m) (length table)) 20 (omega arith) (then-both _ _ (rest .1) .0))
-
-    pub work-room : tableSize m ≤ length work
-    work-room = leb→le _ _ (ask-yes (leb (tableSize m) (length work)) 21 (omega arith) (then-both _ _ (rest .1) .1))
-
 -- ---- the analysis
 
 module _ (m : List ℤ) (limit : ℕ) (table work : List ℤ) where
-  unmoved-by : (q : ℕ) → (q ≡ 0 → ⊥) → _≡_ {A = Analysed} (record { answer = Refused q; table = table; work = work }) (analyseBy q m limit table work)
-  unmoved-by zero n = absurd (n refl)
-  unmoved-by (suc q) n = refl
-
-  module _ (q : ℕ) (e : q ≡ analysisQuestions m table work) where
-    -- a refusal changes nothing
-    pub analyse-refused : (q ≡ 0 → ⊥) → _≡_ {A = Analysed} (record { answer = Refused q; table = table; work = work }) (analyseCall m limit table work)
-    unfolding analyseCall
-    analyse-refused n = unmoved-by q n ∙ ap (λ (x : ℕ). analyseBy x m limit table work) e
-
-    pub analyse-answered : (x : Analysed) → q ≡ 0 → x ≡ answered m (analysis m limit) table work → x ≡ analyseCall m limit table work
-    unfolding analyseCall
-    analyse-answered x z is = is ∙ ap (λ (k : ℕ). analyseBy k m limit table work) (sym z ∙ e)
-
   -- an answer a that leaves t at the front of the table buffer and w in the work buffer
   module _ (a : Answer) (is-analysis : a ≡ analysis m limit) (t : List ℤ) (is-table : t ≡ answerTable m a) (size : ℕ) (is-size : size ≡ tableSize m) (w : List ℤ) (is-clear : w ≡ replicate (length work) (pos 0)) where
     length-is : size ≡ length (answerTable m a)

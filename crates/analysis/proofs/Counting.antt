@@ -10,7 +10,6 @@ use lib.ListN.{length, replicate, replicate-append-replicate}
 use Rattle.integers.specs.Words.{equal}
 use Rattle.integers.specs.Counted.{cat, sumBelow}
 use Rattle.integers.proofs.Counted.{sum-same}
-use Rattle.integers.proofs.Tests.{is-true}
 use Rattle.plant.specs.declared.Answer.{Answer}
 use Rattle.plant.specs.declared.Answer.the-variants.{Safe, Unknown, Unfinished}
 use Rattle.plant.specs.Box.{absent, faceWords}
@@ -19,8 +18,8 @@ use Rattle.plant.specs.Pieces.{pieces}
 use Rattle.plant.specs.Tables.{faceSize, pieceCount, tableSize, tableBy, tableOk, pass, tableAfter, touching}
 use Rattle.plant.specs.Calls.{search, analysis, answerTable}
 use Rattle.plant.proofs.Passed.{Passed}
-use Rattle.plant.proofs.Tables.{locationWords, words-before, made-ok}
-use Rattle.plant.proofs.Keeps.{piecesAfter, pieces-ok, after-length, after-begins, after-pass}
+use Rattle.plant.proofs.Tables.{locationWords, words-before}
+use Rattle.plant.proofs.Keeps.{after-length, after-pass, after-ok}
 
 -- ---- table 0 is all zero words
 
@@ -35,11 +34,6 @@ zeros-first m =
     ap (λ (x : ℕ). replicate x (pos 0)) (sym (words-before m (L# m)))
     ∙ sym (cat-zeros (L# m) (locationWords m) (λ l. cat (pieces m l) (λ q. faceWords (n# m) absent))
     (λ l. cat-zeros (pieces m l) (λ q. faceSize (n# m)) (λ q. faceWords (n# m) absent) (λ q. refl) ∙ ap (λ (x : ℕ). replicate x (pos 0)) (sum-same (pieces m l) (faceSize (n# m)))))
-
--- ---- each table k passes 32
-
-pub after-ok : (m : List ℤ) → Passed m → (k : ℕ) → tableOk m (tableAfter m k) ≡ true
-after-ok m ok k = is-true (made-ok m ok (tableAfter m k) (piecesAfter m k) (after-begins m k) (pieces-ok m ok k))
 
 -- ---- the answer at table k
 

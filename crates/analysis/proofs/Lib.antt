@@ -1,4 +1,3 @@
 pub mod Sizes
-pub mod Front
 pub mod Counting
 pub mod Calls

@@ -16,8 +16,8 @@ use Rattle.plant.specs.Model.{n#, L#, invariant, cutVariable, cutValue, Cut, un
 use Rattle.plant.specs.Pieces.{wholeFace, upToValue, fromValue, noExtent, extentBy, piecesPerFace, perFace, pieces}
 use Rattle.plant.proofs.Passed.{Passed, IsCut}
 use Rattle.plant.proofs.Pieces.{per-face-most}
-use Rattle.records.proofs.Positions.{length-invariant}
-use Rattle.model.proofs.Passing.{whole-passed}
+use Rattle.plant.proofs.Positions.{length-invariant}
+use Rattle.plant.proofs.Passing.{whole-passed}
 use Rattle.checks.specs.Ready.{LocationReady}
 
 -- ---- the side

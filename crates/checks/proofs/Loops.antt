@@ -1,9 +1,8 @@
 -- One turn of a loop over every number below k: tests that all hold, a search for one that holds, and a sum.
 use mathlib.Core.Path.{_≡_, refl, ap₂}
 use mathlib.Core.Bool.{Bool, true, false, _&&_}
-use Prim.Native.Nat.{ℕ, zero, suc, _+_, _*_, _<_, _≤_}
+use Prim.Native.Nat.{ℕ, _+_, _<_}
 use native.Mathlib.Numerals.{add-one}
-use native.Mathlib.Omega.{arith}
 use Rattle.integers.specs.Counted.{allBelow, anyBelow, sumBelow}
 use Rattle.integers.proofs.Tests.{is-true, true-is}
 use Rattle.integers.proofs.Counted.{any-intro}
@@ -36,8 +35,3 @@ module _ (f : ℕ → ℕ) where
   pub sum-more : (i : ℕ) → sumBelow (i + 1) f ≡ sumBelow i f + f i
   unfolding sumBelow
   sum-more i = rw add-one refl
-
-  pub sum-small : (k most : ℕ) → ((i : ℕ) → i < k → f i ≤ most) → sumBelow k f ≤ k * most
-  unfolding sumBelow
-  sum-small zero most h = omega arith
-  sum-small (suc k) most h = omega (arith, sum-small k most (λ i l. h i (omega arith)), h k (omega arith))

@@ -2,7 +2,7 @@
 -- of a piece in the table.
 use mathlib.Core.Path.{_≡_, refl, sym, ap, _∙_}
 use mathlib.Core.Bool.{Bool, true, false, cond}
-use mathlib.Core.List.{List, [], _∷_, _++_}
+use mathlib.Core.List.{List, [], _∷_}
 use Prim.Native.Nat.{ℕ, zero, suc, _+_, _*_, _-_, _<_, _≤_}
 use native.Mathlib.Omega.{arith}
 use borrow.Rule.Slice.PartMut.{putMid}
@@ -16,7 +16,8 @@ use Rattle.plant.specs.Tables.{faceSize, piecesBefore, tableSize, pieceAt, face
 use Rattle.plant.proofs.Tables.{piece-inside, pieces-most}
 use Rattle.steps.specs.Handing.{Handed}
 use Rattle.passes.specs.Parts.{IsPart}
-use Rattle.passes.proofs.PartWords.{face-there, place-is, piece-part}
+use Rattle.plant.proofs.FaceWords.{face-there}
+use Rattle.passes.proofs.PartWords.{place-is, piece-part}
 use Rattle.checks.specs.Parts.{partWords, PartAt}
 
 -- ---- the start part

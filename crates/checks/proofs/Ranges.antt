@@ -5,8 +5,8 @@ use lib.IntN.{ℤ}
 use Rattle.delays.specs.Ranges.{Levels}
 use Rattle.plant.specs.Model.{n#, B#, forbiddenBox}
 use Rattle.plant.proofs.Passed.{Passed}
-use Rattle.records.proofs.Positions.{length-forbiddenBox}
-use Rattle.model.proofs.Passing.{whole-passed}
+use Rattle.plant.proofs.Positions.{length-forbiddenBox}
+use Rattle.plant.proofs.Passing.{whole-passed}
 use Rattle.passes.proofs.PartWords.{levels-from}
 
 pub forbidden-in : (m : List ℤ) → Passed m → (b : ℕ) → b < B# m → Levels (n# m) (forbiddenBox m b)

@@ -16,7 +16,7 @@ use Rattle.plant.specs.Pieces.{pieces}
 use Rattle.plant.specs.Tables.{piecesBefore, partOf, partTouches, touching}
 use Rattle.plant.proofs.PieceCases.{before-more}
 use Rattle.passes.specs.Parts.{IsPart}
-use Rattle.passes.proofs.Joined.{read-present, read-absent}
+use Rattle.plant.proofs.FaceWords.{read-present, read-absent}
 use Rattle.checks.specs.Links.{lastBox}
 use Rattle.checks.proofs.Links.{last-within, last-own}
 use Rattle.checks.proofs.Loops.{any-none, any-more, any-found}

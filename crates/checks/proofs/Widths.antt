@@ -2,13 +2,11 @@
 use mathlib.Core.Path.{_≡_}
 use mathlib.Core.List.{List}
 use Prim.Native.Nat.{ℕ, _+_, _*_, _≤_}
-use native.Mathlib.Omega.{arith}
 use lib.IntN.{ℤ}
-use Rattle.integers.proofs.Signed.{abs-minus}
 use Rattle.delays.specs.Ranges.{LevelAt, Levels}
-use Rattle.plant.specs.Box.{low, high}
 use Rattle.plant.specs.Tables.{width, allWidths}
-use Rattle.checks.proofs.Loops.{sum-none, sum-more, sum-small}
+use Rattle.plant.proofs.Widths as widths
+use Rattle.checks.proofs.Loops.{sum-none, sum-more}
 
 module _ (b : List ℤ) where
   pub widths-none : allWidths 0 b ≡ 0
@@ -20,9 +18,7 @@ module _ (b : List ℤ) where
   widths-more i = sum-more (width b) i
 
   pub width-small : (i : ℕ) → LevelAt b i → width b i ≤ 2000000
-  unfolding width
-  width-small i h = omega (arith, abs-minus (high b i) (low b i), h .low-in, h .high-in)
+  width-small i h = widths.width-small b i (h .low-in) (h .high-in)
 
   pub widths-small : (i : ℕ) → Levels i b → allWidths i b ≤ i * 2000000
-  unfolding allWidths
-  widths-small i h = sum-small (width b) i 2000000 (λ j l. width-small j (h j l))
+  widths-small i h = widths.widths-small i b (λ j l. width-small j (h j l))

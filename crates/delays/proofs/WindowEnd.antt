@@ -6,7 +6,7 @@ use mathlib.Core.List.{List}
 use Prim.Native.Nat.{ℕ, suc, _+_, _*_, _≤_, _<_}
 use native.Mathlib.Numerals.{add-one}
 use native.Mathlib.Omega.{arith}
-use lib.Dec.{T, not-T, leb, leb→le}
+use lib.Dec.{T, not-T, leb→le}
 use lib.IntN.{ℤ, pos, negℤ, natAbs, _-ℤ_}
 use lib.Signed.{_≤ℤ_, ltZ, leZ}
 use Rattle.integers.proofs.Parts.{arithZ, #_, _⊟_}
@@ -21,7 +21,7 @@ use Rattle.plant.specs.declared.Delays.{Delays}
 use Rattle.plant.specs.declared.Delays.the-variants.{Between, Never}
 use Rattle.plant.specs.Box.{low, high}
 use Rattle.plant.specs.Delays.{ratio, noDelay, latestInto, delaysInto, delaysTo, leF, later, sooner, bothDelays, reachesEnd, orNever}
-use Rattle.plant.specs.Steps.{delaysIntoBox, window}
+use Rattle.plant.specs.Steps.{delaysIntoBox}
 use Rattle.plant.proofs.DelaysExact.{abs-positive}
 use Rattle.delays.specs.Ranges.{LevelAt, Levels, Rates, InInvariant, SmallEnd, SmallInterval}
 use Rattle.delays.specs.Windows.{WithinAt, upTo, WindowEnd}

@@ -1,14 +1,9 @@
 // The order desk: two counters, and an analysis that moves them (document 01, "Desk and host").
 ghost use mathlib.Core.Path.{_≡_};
 ghost use Rattle.plant.specs.Calls.{passesOf};
-ghost use Rattle.desk.specs.Desks.{countersOk, Served, deskCall};
+ghost use Rattle.orders.specs.Desks.{countersOk, Served, deskCall};
+use orders::Desk;
 use plant::Answer;
-
-// Jobs answered, and passes answered.
-pub struct Desk {
-    pub jobs: u32,
-    pub passes: u32,
-}
 
 // What a desk call by value hands back: the desk after it, and its answer.
 pub struct Receipt {

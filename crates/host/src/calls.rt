@@ -3,17 +3,17 @@
 // on a refusal.
 ghost use mathlib.Core.Path.{_≡_};
 ghost use Rattle.plant.specs.Calls.{Reply, answerReply, verdictReply, ceilingReply, countReply, ceilingCall, checkCall, analyseCall};
-ghost use Rattle.desk.specs.Desks.{deskCall};
-ghost use Rattle.model_files.specs.ModelFile.{readModelCall, writeModelCall};
-ghost use Rattle.table_files.specs.TableFile.{readTableCall, writeTableCall};
-ghost use Rattle.quote.specs.Quotes.{QuoteReply, quoteReply, quoteCall};
-ghost use Rattle.host.specs.ForC.{readForC, analysedForC, writtenForC, servedForC};
-use desk::Desk;
+ghost use Rattle.orders.specs.Desks.{deskCall};
+ghost use Rattle.files.specs.ModelFile.{readModelCall, writeModelCall};
+ghost use Rattle.files.specs.TableFile.{readTableCall, writeTableCall};
+ghost use Rattle.orders.specs.Quotes.{QuoteReply, quoteReply, quoteCall};
+ghost use Rattle.interface.specs.ForC.{readForC, analysedForC, writtenForC, servedForC};
+use orders::Desk;
+use orders::Figures;
+use orders::Quote;
 use plant::Answer;
 use plant::Ceiling;
 use plant::Count;
-use plant::Figures;
-use plant::Quote;
 use plant::Verdict;
 
 // Stores the value that a reply holds, and gives its number.

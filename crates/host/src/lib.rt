@@ -6,7 +6,7 @@ ghost use Rattle.plant.specs.Questions.{modelQuestions};
 ghost use Rattle.plant.specs.Tables.{tableSize, longestTableFile};
 ghost use Rattle.plant.specs.Calls as C;
 ghost use Rattle.plant.specs.Calls.{answerReply, checkBy, bytesQuestion};
-ghost use Rattle.host.specs.Hosts.{packed, decided, decideBy, decideCall, certificateFileQuestions, hostCheckCall};
+ghost use Rattle.interface.specs.Hosts.{packed, decided, decideBy, decideCall, certificateFileQuestions, hostCheckCall};
 use plant::Answer;
 use plant::Count;
 

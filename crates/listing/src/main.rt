@@ -4,8 +4,8 @@
 ghost use mathlib.Core.Path.{_≡_};
 ghost use Prim.Native.Nat.{ℕ, _+_, _≤_, _<_};
 ghost use lib.ListN.{length};
-ghost use Rattle.wire.specs.Fields.{payloadLength, fieldLength};
-ghost use Rattle.host.specs.Hosts.{packed, decideCall};
+ghost use Rattle.files.specs.Fields.{payloadLength, fieldLength};
+ghost use Rattle.interface.specs.Hosts.{packed, decideCall};
 use libc::STDIN_FILENO;
 use libc::STDOUT_FILENO;
 
@@ -80,7 +80,7 @@ fn print_pieces(file: &[u8], count: u64) {
     let mut i: u64 = 0;
     while i < count {
         let field = wire::next_field(file, at);
-        let wire::Field::Whole {
+        let files::Field::Whole {
             start,
             len,
             next,

@@ -1,4 +1,4 @@
 pub mod Turns
 pub mod Switch
 pub mod Cut
-pub mod Passing
+pub mod Lengths

@@ -7,7 +7,7 @@ use native.Mathlib.Nat.{one-mul, mod-eq-of-lt}
 use native.Mathlib.Omega.{arith}
 use lib.Dec.{T}
 use lib.IntN.{ℤ, pos}
-use lib.Pow.{pow-pos, pow-mono}
+use Rattle.plant.proofs.Passing.{masks-small}
 use Rattle.integers.specs.Words.{word, eqZ}
 use Rattle.integers.specs.Counted.{allBelow}
 use Rattle.integers.proofs.Signed.{no-true}
@@ -16,11 +16,7 @@ use Rattle.plant.specs.Box.{low}
 use Rattle.plant.specs.Model.{n#, edition, wallVariable, resetMask, masked, reset}
 use Rattle.plant.specs.Questions.{singleAt, singleOk, sourceWall, levelAfter}
 
--- the masks of n variables lie below 2 ^ n, which is at most 64
-pub masks-small : (n : ℕ) → n ≤ 6 → (1 ≤ 2 ^ n) × (2 ^ n ≤ 64)
-masks-small n h = let g : 2 ^ n ≤ 2 ^ 6 = pow-mono h in (pow-pos n, omega arith)
-
--- and is what a shift gives
+-- the number of masks is what a shift gives
 pub masks-shift : (n : ℕ) → n ≤ 6 → (1 * 2 ^ n) % 18446744073709551616 ≡ 2 ^ n
 masks-shift n h = rw one-mul (mod-eq-of-lt (omega (arith, masks-small n h)))
 

@@ -10,7 +10,7 @@ ghost use Rattle.plant.specs.Ask as S;
 ghost use Rattle.plant.specs.Ask.{_then_};
 ghost use Rattle.plant.specs.Model as M;
 ghost use Rattle.plant.specs.Questions as Q;
-ghost use Rattle.records.specs.Whole.{Head, Whole, Numbered, Placed};
+ghost use Rattle.plant.proofs.Whole.{Head, Whole, Numbered, Placed};
 
 // Levels lie in -1,000,000..1,000,000, rates in -1,000..1,000.
 const LEVEL_LIMIT: u32 = 1000000;

@@ -20,16 +20,16 @@ use Rattle.integers.specs.Words.{word, num, eqZ, within, onto}
 use Rattle.integers.specs.Counted.{cat}
 use Rattle.integers.proofs.Signed.{no-true, got32, widened, as-signed}
 use Rattle.integers.proofs.Buffers.{onto-start, cat-none, length-cat, cat-turn, sets-onto}
-use Rattle.wire.specs.Bytes.{wordAt, wordsAt}
-use Rattle.wire.specs.Fields.{fieldAt, isField}
-use Rattle.wire.proofs.Words.{words-nth}
-use Rattle.wire.proofs.Fields.{due}
+use Rattle.files.specs.Bytes.{wordAt, wordsAt}
+use Rattle.files.specs.Fields.{fieldAt, isField}
+use Rattle.files.proofs.Words.{words-nth}
+use Rattle.files.proofs.Fields.{due}
 use Rattle.plant.specs.Ask.{ask, _then_, first}
 use Rattle.plant.proofs.Asks.{first-none, first-more, first-each, first-intro, run-stop}
-use Rattle.model_files.specs.ModelFile.{cutPlace, cutFieldWords, leastLocation, cutWordsOk, cutFieldQuestions, endQuestions, cutsQuestions, namesLocation, fileCut, cutWords}
+use Rattle.files.specs.ModelFile.{cutPlace, cutFieldWords, leastLocation, cutWordsOk, cutFieldQuestions, endQuestions, cutsQuestions, namesLocation, fileCut, cutWords}
 use Rattle.model_files.specs.Room.{CutThere, CutsReady}
-use Rattle.model_files.proofs.Cuts.{CutYes, is-named, length-cut, each, Reached, reached-none, reached-more, reached-same, words-named, words-not-named}
-use Rattle.model_files.proofs.CutsBack.{end-yes}
+use Rattle.files.proofs.Cuts.{CutYes, is-named, length-cut, each, Reached, reached-none, reached-more, reached-same, words-named, words-not-named}
+use Rattle.files.proofs.CutsBack.{end-yes}
 
 -- ---- the words of the field at a position
 

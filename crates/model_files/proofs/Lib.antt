@@ -1,12 +1,3 @@
-pub mod Cuts
-pub mod CutsBack
 pub mod CutTurns
-pub mod Cases
-pub mod FirstField
-pub mod ModelReading
-pub mod Beginning
-pub mod RecordWords
-pub mod ModelRoundTrip
+pub mod Filling
 pub mod ModelWriting
-pub mod ModelBack
-pub mod UncutFile

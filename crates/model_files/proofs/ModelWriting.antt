@@ -1,10 +1,10 @@
 -- Laws of writing a model's file: the fields of a record and of a cut are put together, one loop writes a run of records and one the
 -- cuts, and how long the file is.
 use mathlib.Core.Path.{_≡_, refl, sym, ap, ap₂, _∙_}
-use mathlib.Core.Bool.{Bool, true, false, cond}
+use mathlib.Core.Bool.{true, false, cond}
 use mathlib.Core.Logic.{⊎-elim}
 use mathlib.Core.List.{List, [], _∷_, _++_, append-assoc}
-use Prim.Native.Nat.{ℕ, zero, suc, _+_, _*_, _≤_, _<_}
+use Prim.Native.Nat.{ℕ, _+_, _*_, _≤_, _<_}
 use native.Mathlib.Nat.{mul-le-mul-right}
 use native.Mathlib.Omega.{arith}
 use lib.Dec.{leb, leb→le}
@@ -14,23 +14,24 @@ use Rattle.integers.specs.Words.{word, eqZ, onto}
 use Rattle.integers.specs.Counted.{cat}
 use Rattle.integers.proofs.Buffers.{onto-start, cat-ext, cat-more, cat-at, length-cat}
 use Rattle.integers.proofs.Counted.{split}
-use Rattle.wire.specs.Bytes.{wordSize, wordBytes, wordsBytes, part}
-use Rattle.wire.specs.Fields.{headerSize, payloadLength, fieldLength, header, field}
-use Rattle.wire.proofs.Buffers.{onto-then, Written, length-written}
-use Rattle.wire.proofs.Words.{length-word, length-bytes, length-part}
-use Rattle.wire.proofs.Fields.{length-field}
+use Rattle.files.specs.Bytes.{wordSize, wordBytes, wordsBytes, part}
+use Rattle.files.specs.Fields.{headerSize, payloadLength, fieldLength, header, field}
+use Rattle.integers.proofs.Filling.{onto-then, Written, length-written}
+use Rattle.files.proofs.Words.{length-word, length-bytes, length-part}
+use Rattle.files.proofs.Fields.{length-field}
 use Rattle.plant.specs.Model.{n#, L#, E#, B#, locationSize, switchSize, forbiddenSize, locationAt, switchAt, forbiddenAt, cutSize, cutAt, cutVariable, cutValue}
 use Rattle.plant.specs.Questions.{modelQuestions}
 use Rattle.plant.proofs.Asks.{ask-yes, then-both}
 use Rattle.plant.proofs.Passed.{passed}
-use Rattle.records.specs.Whole.{Whole}
-use Rattle.records.proofs.Positions.{row-within, cut-within}
-use Rattle.model.proofs.Passing.{whole-passed}
-use Rattle.model_files.specs.ModelFile.{cutFieldSize, recordField, modelFile, locationsFrom, switchesFrom, forbiddensFrom, cutsFrom, fileRoomQuestion, writeModelQuestions}
-use Rattle.model_files.specs.UncutFile.{recordsFile}
-use Rattle.model_files.specs.Room.{fieldOf, recordFields, RunRoom, cutFieldOf, cutFields, CutRoom, FileRoom}
-use Rattle.model_files.proofs.ModelReading.{locations-at, switches-at, forbiddens-at, cuts-at, words-end}
-use Rattle.model_files.proofs.ModelRoundTrip.{two-words, headField, locations, switches, forbiddens, cuts, length-head-field, before-switches, before-forbiddens, before-cuts, around-cuts}
+use Rattle.plant.proofs.Whole.{Whole}
+use Rattle.plant.proofs.Positions.{row-within, cut-within}
+use Rattle.plant.proofs.Passing.{whole-passed}
+use Rattle.files.specs.ModelFile.{cutFieldSize, recordField, modelFile, locationsFrom, switchesFrom, forbiddensFrom, cutsFrom, fileRoomQuestion, writeModelQuestions}
+use Rattle.files.specs.UncutModelFile.{recordsFile}
+use Rattle.model_files.specs.Room.{fieldOf, recordFields, RunRoom, CutRoom, FileRoom}
+use Rattle.files.proofs.ModelLength.{cutFieldOf, cutFields, length-cut-field, records-in-turn, records-length, file-is, file-length}
+use Rattle.plant.proofs.Heads.{locations-at, switches-at, forbiddens-at, cuts-at, words-end}
+use Rattle.files.proofs.ModelRoundTrip.{two-words, headField, locations, switches, forbiddens, length-head-field, before-switches, before-forbiddens}
 
 -- ---- one record
 
@@ -83,26 +84,10 @@ module _ (m : List ℤ) (tag : ℕ) (d : List ℕ) {from count w to : ℕ} (r : 
 
 -- ---- the cuts
 
-length-by : (cut : Bool) (l : ℕ) (v x : ℤ) → length (cond cut [] (field 8 (wordsBytes (pos l ∷ v ∷ x ∷ [])))) ≡ cond cut 0 (fieldLength cutFieldSize)
-length-by true l v x = refl
-length-by false l v x = omega (arith, length-field 8 (wordsBytes (pos l ∷ v ∷ x ∷ [])), length-bytes (pos l ∷ v ∷ x ∷ []))
-
-pub cut-le : (cut : Bool) → cond cut 0 (fieldLength cutFieldSize) ≤ fieldLength cutFieldSize
-cut-le true = omega arith
-cut-le false = omega arith
-
 module _ (m : List ℤ) where
-  pub length-cut-field : (l : ℕ) → length (cutFieldOf m l) ≡ cond (eqZ (cutVariable m l) (negsuc 0)) 0 (fieldLength cutFieldSize)
-  length-cut-field l = length-by (eqZ (cutVariable m l) (negsuc 0)) l (cutVariable m l) (cutValue m l)
-
   -- one location more
   pub cuts-more : (l : ℕ) {bytes r : ℕ} → bytes ≡ length (cat l (cutFieldOf m)) → r ≡ cond (eqZ (cutVariable m l) (negsuc 0)) 0 (fieldLength cutFieldSize) → bytes + r ≡ length (cat (l + 1) (cutFieldOf m))
-  cuts-more l eb er = rw (cat-more l (cutFieldOf m)) (omega (arith, eb, er, length-cut-field l, length-append (cat l (cutFieldOf m)) (cutFieldOf m l)))
-
-  pub cuts-le : (l : ℕ) → length (cat l (cutFieldOf m)) ≤ l * fieldLength cutFieldSize
-  unfolding cat
-  cuts-le zero = omega arith
-  cuts-le (suc l) = omega (arith, length-append (cat l (cutFieldOf m)) (cutFieldOf m l), cuts-le l, length-cut-field l, cut-le (eqZ (cutVariable m l) (negsuc 0)))
+  cuts-more l eb er = rw (cat-more l (cutFieldOf m)) (omega (arith, eb, er, length-cut-field m l, length-append (cat l (cutFieldOf m)) (cutFieldOf m l)))
 
   pub cuts-all : {l bytes : ℕ} → l ≡ L# m → bytes ≡ length (cat l (cutFieldOf m)) → bytes ≡ length (cutFields m)
   unfolding cutFields
@@ -126,7 +111,7 @@ module _ (m : List ℤ) where
   -- the field of one that is: header, location, variable and value, each put behind the one before
   module _ (l : ℕ) (cut : eqZ (cutVariable m l) (negsuc 0) ≡ false) where
     pub cut-next : (to : ℕ) {r : ℕ} → r ≡ fieldLength cutFieldSize → to + r ≡ to + length (cutFieldOf m l)
-    cut-next to e = ap (λ (k : ℕ). to + k) (e ∙ sym (length-cut-field l ∙ rw cut refl))
+    cut-next to e = ap (λ (k : ℕ). to + k) (e ∙ sym (length-cut-field m l ∙ rw cut refl))
 
     pub cut-put : (d x y z : List ℕ) (to : ℕ) {at len : ℕ} → Whole m → l < L# m → at ≡ cutAt m l → to ≤ length d → len ≡ payloadLength cutFieldSize
         → x ≡ onto (take to d ++ header 8 len) d
@@ -146,20 +131,6 @@ module _ (m : List ℤ) where
 -- ---- the whole file
 
 module _ (m : List ℤ) (w : Whole m) where
-  -- the fields of the records, in turn, and then those of the cuts
-  records-in-turn : ((headField m ++ locations m) ++ switches m) ++ forbiddens m ≡ recordsFile m
-  records-in-turn = append-assoc (headField m ++ locations m) (switches m) (forbiddens m) ∙ append-assoc (headField m) (locations m) (switches m ++ forbiddens m)
-
-  records-length : length (recordsFile m) ≡ cutsFrom m
-  records-length = ap length (sym records-in-turn) ∙ before-cuts m w
-
-  file-is : modelFile m ≡ recordsFile m ++ cutFields m
-  unfolding modelFile cutFields
-  file-is = around-cuts m w ∙ ap (λ (s : List ℕ). s ++ cuts m) records-in-turn
-
-  pub file-length : length (modelFile m) ≡ cutsFrom m + length (cutFields m)
-  file-length = ap length file-is ∙ length-append (recordsFile m) (cutFields m) ∙ ap (λ (k : ℕ). k + length (cutFields m)) records-length
-
   -- the three runs, as the loops write them
   locations-are : recordFields 2 m (locationAt m 0) (L# m) (locationSize (n# m)) ≡ locations m
   unfolding locationAt
@@ -183,15 +154,11 @@ module _ (m : List ℤ) (w : Whole m) where
       let f₂ : x₂ ≡ onto (headField m ++ locations m) d = rw locations-are at e₂ ∙ onto-then (headField m) (locations m) d x₁ 0 19 e₁ (omega arith) (omega (arith, length-head-field m w)) in
       let f₃ : x₃ ≡ onto ((headField m ++ locations m) ++ switches m) d = rw switches-are at e₃ ∙ onto-then (headField m ++ locations m) (switches m) d x₂ 0 (switchesFrom m) f₂ (omega arith) (omega (arith, before-switches m w)) in
       let f₄ : x₄ ≡ onto (((headField m ++ locations m) ++ switches m) ++ forbiddens m) d = rw forbiddens-are at e₄ ∙ onto-then ((headField m ++ locations m) ++ switches m) (forbiddens m) d x₃ 0 (forbiddensFrom m) f₃ (omega arith) (omega (arith, before-forbiddens m w)) in
-      f₄ ∙ ap (λ (s : List ℕ). onto s d) records-in-turn
+      f₄ ∙ ap (λ (s : List ℕ). onto s d) (records-in-turn m w)
 
   -- the records, then the cuts
   pub file-put : (d x y : List ℕ) → x ≡ onto (recordsFile m) d → y ≡ onto (take (cutsFrom m) x ++ cutFields m) x → y ≡ onto (modelFile m) d
-  file-put d x y ex ey = ey ∙ onto-then (recordsFile m) (cutFields m) d x 0 (cutsFrom m) ex (omega arith) (omega (arith, records-length)) ∙ ap (λ (s : List ℕ). onto s d) (sym file-is)
-
-  pub cuts-most : length (cutFields m) ≤ 960
-  unfolding cutFields
-  cuts-most = omega (arith, cuts-le m (L# m), w .head .L-small)
+  file-put d x y ex ey = ey ∙ onto-then (recordsFile m) (cutFields m) d x 0 (cutsFrom m) ex (omega arith) (omega (arith, records-length m w)) ∙ ap (λ (s : List ℕ). onto s d) (sym (file-is m w))
 
 -- ---- room for it
 

@@ -1,5 +1,1 @@
-pub mod ModelFile
 pub mod Room
-pub mod ModelFilesExact
-pub mod ModelBack
-pub mod UncutFile

@@ -8,10 +8,11 @@ use lib.Signed.{nonNeg}
 use lib.ListN.{length}
 use Rattle.integers.specs.Words.{word}
 use Rattle.integers.specs.Counted.{cat}
-use Rattle.wire.specs.Fields.{payloadLength, fieldLength, fieldPlace, fieldAt, isField}
-use Rattle.plant.specs.Model.{L#, cutSize, cutVariable, cutValue, modelSize}
-use Rattle.records.specs.Whole.{Head, Whole}
-use Rattle.model_files.specs.ModelFile.{recordField, cutField, modelFile, cutFieldSize, headWords, isHead, cutFieldWords, cutsQuestions}
+use Rattle.files.specs.Fields.{payloadLength, fieldLength, fieldPlace, fieldAt, isField}
+use Rattle.plant.specs.Model.{L#, cutSize, modelSize}
+use Rattle.plant.proofs.Whole.{Head, Whole}
+use Rattle.files.specs.ModelFile.{recordField, modelFile, cutFieldSize, headWords, isHead, cutFieldWords, cutsQuestions}
+use Rattle.files.proofs.ModelLength.{cutFieldOf}
 
 -- ---- reading
 
@@ -55,13 +56,6 @@ pub record RunRoom (m : List ℤ) (from count w : ℕ) (file : List ℕ) (to : �
   pub there : from + count * w ≤ length m
   pub room : to + count * fieldLength w ≤ length file
   pub w-small : w ≤ 37
-
--- the field of location l's cut, if it is cut; the fields of all cuts
-abbrev pub cutFieldOf : (m : List ℤ) (l : ℕ) → List ℕ
-cutFieldOf m l = cutField l (cutVariable m l) (cutValue m l)
-
-unfoldable pub cutFields : List ℤ → List ℕ
-cutFields m = cat (L# m) (cutFieldOf m)
 
 -- a location's cut, and room for a field of it
 pub record CutRoom (m : List ℤ) (l : ℕ) (file : List ℕ) (to : ℕ) : Type 0 where

@@ -9,12 +9,12 @@ ghost use lib.Dec.{T};
 ghost use lib.IntN.{pos, negsuc};
 ghost use lib.ListN.{length, take};
 ghost use Rattle.integers.specs.Words.{word, num, onto};
-ghost use Rattle.wire.specs.Fields.{fieldLength, fieldAt};
+ghost use Rattle.files.specs.Fields.{fieldLength, fieldAt};
 ghost use Rattle.plant.specs.Ask.{_then_};
 ghost use Rattle.plant.specs.Model.{headSize, cutSize};
 ghost use Rattle.plant.specs.Questions.{rangesQuestions};
-ghost use Rattle.records.specs.Whole.{Head};
-ghost use Rattle.model_files.specs.ModelFile.{editionOf, cutFieldSize, headWords, isHead, hasTag, fieldQuestions, runQuestions, bufferQuestion, locationsFrom, switchesFrom, forbiddensFrom, cutsFrom, cutFieldWords, cutWordsOk, cutFieldQuestions, cutsQuestions, bodyQuestions, runWords, recordWords, namesLocation, cutWords, fileWords, readRecords, readModelCall};
+ghost use Rattle.plant.proofs.Whole.{Head};
+ghost use Rattle.files.specs.ModelFile.{editionOf, cutFieldSize, headWords, isHead, hasTag, fieldQuestions, runQuestions, bufferQuestion, locationsFrom, switchesFrom, forbiddensFrom, cutsFrom, cutFieldWords, cutWordsOk, cutFieldQuestions, cutsQuestions, bodyQuestions, runWords, recordWords, namesLocation, cutWords, fileWords, readRecords, readModelCall};
 ghost use Rattle.model_files.specs.Room.{RunReady, CutThere, CutsReady, HeadRead};
 
 mod writing;
@@ -29,7 +29,7 @@ const CUT_FIELD_SIZE: usize = 3;
 // ---- the first field, and the head words
 
 // Whole, of tag 1 or 9, with n, L, E and B.
-fn is_head(f: wire::Field) -> bool
+fn is_head(f: files::Field) -> bool
     ensures { λ r. ⌜ r ≡ isHead f ⌝ }
 {
     let len = wire::payload_length(HEAD_FIELD_SIZE);
@@ -55,17 +55,17 @@ fn read_head(file: &[u8], words: &mut [i32])
 // ---- the questions of a file
 
 // Three bytes left and the due tag.
-fn has_tag(f: wire::Field, tag: u8) -> bool
+fn has_tag(f: files::Field, tag: u8) -> bool
     ensures { λ r. ⌜ r ≡ hasTag f tag ⌝ }
 {
     match f {
-        wire::Field::Whole { tag: t, .. } => t == tag,
-        wire::Field::Cut { tag: t } => t == tag,
-        wire::Field::Short => false,
+        files::Field::Whole { tag: t, .. } => t == tag,
+        files::Field::Cut { tag: t } => t == tag,
+        files::Field::Short => false,
     }
 }
 
-fn field_questions(f: wire::Field, tag: u8, len: usize) -> u32
+fn field_questions(f: files::Field, tag: u8, len: usize) -> u32
     ensures { λ r. ⌜ r ≡ fieldQuestions f tag len ⌝ }
 {
     model::or_else(
@@ -88,7 +88,7 @@ fn run_questions(file: &[u8], from: usize, count: usize, tag: u8, w: usize) -> u
         if r != 0 {
             return r;
         }
-        let wire::Field::Whole { next, .. } = field else {
+        let files::Field::Whole { next, .. } = field else {
             return r;
         };
         at = next;
@@ -251,7 +251,7 @@ fn copy_run(file: &[u8], from: usize, count: usize, w: usize, words: &mut [i32],
     let mut i: usize = 0;
     while i < count {
         let field = wire::next_field(file, at);
-        let wire::Field::Whole { start, next, .. } = field else {
+        let files::Field::Whole { start, next, .. } = field else {
             return;
         };
         wire::copy_words(file, start, w, words, place);

@@ -13,11 +13,12 @@ ghost use Prim.Native.Nat.{_+_, _≤_};
 ghost use lib.IntN.{negsuc};
 ghost use lib.ListN.{length, take};
 ghost use Rattle.integers.specs.Words.{eqZ, onto};
-ghost use Rattle.wire.specs.Fields.{fieldLength};
-ghost use Rattle.records.specs.Whole.{Whole};
-ghost use Rattle.model_files.specs.ModelFile.{firstTag, cutFieldSize, recordField, modelFile, cutsFrom, writeModelQuestions, writeModelCall};
-ghost use Rattle.model_files.specs.UncutFile.{recordsFile};
-ghost use Rattle.model_files.specs.Room.{recordFields, RunRoom, cutFieldOf, cutFields, CutRoom, FileRoom};
+ghost use Rattle.files.specs.Fields.{fieldLength};
+ghost use Rattle.plant.proofs.Whole.{Whole};
+ghost use Rattle.files.specs.ModelFile.{firstTag, cutFieldSize, recordField, modelFile, cutsFrom, writeModelQuestions, writeModelCall};
+ghost use Rattle.files.specs.UncutModelFile.{recordsFile};
+ghost use Rattle.model_files.specs.Room.{recordFields, RunRoom, CutRoom, FileRoom};
+ghost use Rattle.files.proofs.ModelLength.{cutFieldOf, cutFields};
 
 // ---- how many bytes a file has
 

@@ -21,8 +21,8 @@ use Rattle.plant.proofs.Boxes.{length-face}
 use Rattle.plant.proofs.Tables.{ends, words-ends}
 use Rattle.tables.specs.Room.{facesBy, faceIn, AreFaces, joinedEach}
 use Rattle.passes.specs.Joining.{piecesWith}
-use Rattle.passes.proofs.Joined.{read-words, join-ends}
-use Rattle.passes.proofs.PartWords.{face-there}
+use Rattle.plant.proofs.FaceWords.{read-words, face-there}
+use Rattle.passes.proofs.Joined.{join-ends}
 use Rattle.passes.proofs.Blocks.{mid-between, place-rest}
 
 -- ---- the k faces g

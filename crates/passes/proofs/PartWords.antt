@@ -5,13 +5,12 @@ use mathlib.Core.Bool.{Bool, true, false, cond}
 use mathlib.Core.Logic.{⊎-elim}
 use mathlib.Core.List.{List}
 use Prim.Native.Nat.{ℕ, zero, suc, _+_, _*_, _/_, _%_, _<_, _≤_}
-use native.Mathlib.Nat.{le-refl}
 use native.Mathlib.Omega.{arith}
 use lib.Dec.{T}
 use lib.IntN.{ℤ, pos}
 use lib.Signed.{_≤ℤ_, ≤ℤ-refl}
 use lib.ListN.{length, take, drop, length-drop}
-use lib.Seq.{getD-take, getD-drop, drop-drop, take-take, length-take-le}
+use lib.Seq.{length-take-le}
 use Rattle.integers.specs.Words.{word, eqZ}
 use Rattle.integers.proofs.Tests.{by-test, is-true}
 use Rattle.integers.proofs.Counted.{eqZ-intro, split}
@@ -19,24 +18,19 @@ use Rattle.delays.specs.Ranges.{Levels, Rates, InInvariant}
 use Rattle.delays.proofs.Small.{in-levels}
 use Rattle.plant.specs.Box.{low, high, Ordered, boxAt, cut, Face, absent, present, unlessEmpty}
 use Rattle.plant.specs.Model.{n#, L#, invariant, rate, startFlag, startBox}
-use Rattle.plant.specs.Questions.{modelQuestions}
 use Rattle.plant.specs.Pieces.{pieces}
 use Rattle.plant.specs.Tables.{faceSize, piecesBefore, tableSize, pieceAt, faceRead, pieceOf, tableOk, startPart, partOf}
 use Rattle.plant.proofs.Boxes.{FaceAll, all-map, length-boxAt, length-cut, cut-right}
-use Rattle.plant.proofs.Passed.{InRange, Passed, passed}
+use Rattle.plant.proofs.Passed.{InRange, Passed}
 use Rattle.plant.proofs.StartPart.{start-all}
-use Rattle.plant.proofs.Tables.{take-behind, piece-inside, OkBox, ok-valid}
-use Rattle.records.specs.Whole.{Whole}
-use Rattle.records.proofs.Positions.{length-invariant, length-rate, length-startBox}
-use Rattle.model.proofs.Passing.{whole-passed}
+use Rattle.plant.proofs.Tables.{piece-inside, OkBox, ok-valid}
+use Rattle.plant.proofs.Positions.{length-invariant, length-rate, length-startBox}
+use Rattle.plant.proofs.Passing.{whole-passed}
 use Rattle.steps.specs.Handing.{Handed}
 use Rattle.steps.proofs.Faces.{nothing-handed}
 use Rattle.passes.specs.Parts.{IsPart}
 use Rattle.passes.specs.Joining.{PartOk}
-use Rattle.passes.proofs.Joined.{read-present}
-
-pub whole : (m : List ℤ) → modelQuestions m ≡ 0 → Whole m
-whole m e = whole-passed m (passed m e)
+use Rattle.plant.proofs.FaceWords.{read-present, face-there}
 
 -- ---- the boxes of a model's records
 
@@ -62,27 +56,6 @@ module _ (m : List ℤ) (ok : Passed m) where
 
   pub rate-in : (l : ℕ) → l < L# m → Rates (n# m) (rate m l)
   rate-in l u = rates-from (n# m) (rate m l) (length-rate m (whole-passed m ok) l u) (ok .of-location l u .rate-range)
-
--- ---- the words of a face that stands at a place
-
-module _ (n : ℕ) (s : List ℤ) (at : ℕ) where
-  flag-there : word (take (faceSize n) (drop at s)) 0 ≡ word s at
-  flag-there = getD-take (faceSize n) (drop at s) 0 (pos 0) (omega arith) ∙ getD-drop at s 0 (pos 0) ∙ ap (word s) (omega arith)
-
-  one-more : faceSize n ≡ suc (2 * n)
-  one-more = omega arith
-
-  box-there : boxAt n (take (faceSize n) (drop at s)) 1 ≡ boxAt n s (at + 1)
-  unfolding boxAt
-  box-there =
-      ap (λ (k : ℕ). take (2 * n) (drop 1 (take k (drop at s)))) one-more
-      ∙ ap (take (2 * n)) (sym (take-behind (2 * n) (drop at s)))
-      ∙ take-take (2 * n) (2 * n) (drop 1 (drop at s)) (le-refl (2 * n))
-      ∙ ap (take (2 * n)) (drop-drop 1 at s)
-
-  pub face-there : faceRead n (take (faceSize n) (drop at s)) 0 ≡ faceRead n s at
-  unfolding faceRead
-  face-there = ap₂ (λ (z : ℤ) (b : List ℤ). cond (eqZ z (pos 1)) (present b) absent) flag-there box-there
 
 -- where a piece begins, by what code has: how many pieces stand before its location
 pub place-is : (m : List ℤ) (l q : ℕ) {n before at : ℕ} → n ≡ n# m → before ≡ piecesBefore m l → at ≡ (before + q) * faceSize n → at ≡ pieceAt m l q

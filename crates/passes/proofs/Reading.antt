@@ -9,16 +9,16 @@ use native.Mathlib.Omega.{arith}
 use lib.IntN.{ℤ, pos, negsuc}
 use lib.ListN.{length, take, drop, getD}
 use Rattle.integers.specs.Words.{word}
-use Rattle.integers.specs.Counted.{cat, allBelow, sumBelow}
+use Rattle.integers.specs.Counted.{cat, sumBelow}
 use Rattle.integers.proofs.Tests.{true-is}
-use Rattle.integers.proofs.Counted.{all-yes, sum-back, sum-part, sum-same}
+use Rattle.integers.proofs.Counted.{sum-back, sum-part, sum-same}
 use Rattle.integers.proofs.Buffers.{cat-parts, cat-ext}
 use Rattle.integers.proofs.Rows.{sum-upto}
 use Rattle.plant.specs.Box.{Face, faceWords, join, joins}
 use Rattle.plant.specs.Model.{n#, L#, E#, invariant, rate, source, target, wallVariable, resetMask, guard, reset, variableOf, sideOf, faceWall, cutVariable, cutValue, Cut, uncut, cutBy, cutFrom, cutOf}
-use Rattle.plant.specs.Pieces.{piecesPerFace, perFace, pieces, pieceFace, pieceIndex, pieceVariable, pieceWall, pieceExtent}
+use Rattle.plant.specs.Pieces.{piecesPerFace, perFace, pieces, pieceFace, pieceIndex, pieceVariable, pieceExtent}
 use Rattle.plant.specs.Steps.{switchStep}
-use Rattle.plant.specs.Tables.{faceSize, piecesBefore, pieceCount, tableSize, pieceAt, tableBy, faceRead, pieceOf, pieceOk, tableOk, startPart, partOf, toPiece, wallStepAt, wallFrom, wallsJoined, switchStepAt, sourceFace, sourcePiece, targetFace}
+use Rattle.plant.specs.Tables.{faceSize, piecesBefore, pieceCount, tableSize, pieceAt, tableBy, faceRead, pieceOf, startPart, partOf, toPiece, wallStepAt, wallFrom, wallsJoined, switchStepAt, sourceFace, sourcePiece, targetFace}
 use Rattle.plant.proofs.Passed.{SwitchPassed, IsUncut, CutPassed, Passed, passed}
 use Rattle.plant.proofs.PieceCases.{cut-some, two-per-face, before-more}
 use Rattle.plant.proofs.Pieces.{number-below}
@@ -28,15 +28,15 @@ use Rattle.tables.specs.Places.{Places}
 use Rattle.tables.specs.Room.{AreFaces, joinedEach, cutEach, CutVariable}
 use Rattle.tables.proofs.Faces.{table-most}
 use Rattle.tables.proofs.Sizes.{before-most}
-use Rattle.records.specs.Whole.{Whole, Placed}
-use Rattle.records.proofs.Positions.{length-guard, length-reset}
+use Rattle.plant.proofs.Whole.{Whole, Placed}
+use Rattle.plant.proofs.Positions.{length-guard, length-reset}
 use Rattle.records.proofs.Walls.{wall-at}
-use Rattle.model.proofs.Passing.{whole-passed, switch-placed}
+use Rattle.plant.proofs.Passing.{whole-passed, switch-placed}
 use Rattle.passes.specs.Checked.{Checked}
 use Rattle.passes.specs.Parts.{IsPart}
 use Rattle.passes.specs.Joining.{PartOk, Located, LandsOn, NoCut, piecesWith, PartJoin, StartJoin, SwitchJoin, wallsFrom, locationBy, landedOn}
 use Rattle.passes.proofs.PartWords.{levels-from, invariant-in, rate-in, piece-part, part-within, part-levels, is-part-ok}
-use Rattle.passes.proofs.Joined.{words-kept}
+use Rattle.plant.proofs.FaceWords.{piece-words}
 use Rattle.passes.proofs.Locations.{are-faces, each-joined}
 
 -- the wall of a face is one word of the invariant
@@ -117,12 +117,7 @@ module _ (m t : List ℤ) (ok : Checked m t) where
 
   -- the words of a piece of the table are those of the piece
   pub old-words : (l q : ℕ) → l < L# m → q < pieces m l → wordsOf m t l q ≡ faceWords (n# m) (pieceOf m t l q)
-  unfolding tableOk pieceOk
-  old-words l q u v =
-      let part : IsPart (n# m) (wordsOf m t l q) (pieceOf m t l q) = piece-part m l u t (ok .ready .room) q v {at = pieceAt m l q} refl refl refl in
-      sym (words-kept (n# m) (invariant m l) (pieceVariable m l q) (pieceWall m l q) (pieceExtent m l q) (wordsOf m t l q) (part .sized)
-      (all-yes (pieces m l) (pieceOk m t l) (all-yes (L# m) (λ l. allBelow (pieces m l) (pieceOk m t l)) (true-is (ok .valid)) l u) q v))
-      ∙ ap (faceWords (n# m)) (part .gives)
+  old-words = piece-words m t (ok .ready .room) (true-is (ok .valid))
 
   -- ---- the wall steps from them to the pieces of location l, with what was read of it
 

@@ -1,7 +1,7 @@
 -- What a pass makes passes 32: each wall step and each switch step lies ordered in the invariant and on its wall, a cut to an
 -- extent keeps to it, and the smallest box that holds two such boxes does.
 use mathlib.Core.Path.{_≡_, refl, sym, ap, _∙_, subst}
-use mathlib.Core.Bool.{_&&_}
+use mathlib.Core.Bool.{true, _&&_}
 use mathlib.Core.List.{List}
 use Prim.Native.Nat.{ℕ, zero, suc, _/_, _%_, _<_}
 use native.Mathlib.Omega.{arith}
@@ -10,18 +10,18 @@ use lib.IntN.{ℤ}
 use lib.ListN.{length, take}
 use lib.Seq.{take-all}
 use Rattle.integers.specs.Words.{onto}
-use Rattle.integers.proofs.Tests.{by-test, and-yes}
+use Rattle.integers.proofs.Tests.{by-test, is-true, and-yes}
 use Rattle.plant.specs.Box.{Face, absent, onBox}
 use Rattle.plant.specs.Model.{n#, L#, E#, invariant, rate, source, target, wallVariable, targetSide, resetMask, guard, reset, wall, variableOf, sideOf, faceWall}
 use Rattle.plant.specs.Questions.{sourceWall, targetWall}
 use Rattle.plant.specs.Pieces.{cutToExtent, pieces, pieceFace, pieceVariable, pieceWall, pieceExtent}
-use Rattle.plant.specs.Tables.{tableSize, tableBy, pieceOf, partOf, toPiece, wallStepAt, wallFrom, sourcePiece, targetFace, switchStepAt, switchOnto, newPiece, pass, tableAfter}
+use Rattle.plant.specs.Tables.{tableSize, tableBy, pieceOf, tableOk, partOf, toPiece, wallStepAt, wallFrom, sourcePiece, targetFace, switchStepAt, switchOnto, newPiece, pass, tableAfter}
 use Rattle.plant.proofs.Boxes.{FaceAll, onBox-keeps, onBox-all}
 use Rattle.plant.proofs.Passed.{Passed, SwitchPassed}
 use Rattle.plant.proofs.WallStep.{OnWall, wall-ok}
 use Rattle.plant.proofs.SwitchStep.{switch-ok}
 use Rattle.plant.proofs.Pieces.{variable-below, extent-ok, hull-on-piece, extent-of}
-use Rattle.plant.proofs.Tables.{OkBox, OkFace, Valid, Begins, begins-itself, begins-onto, begins-again, table-length, made-valid}
+use Rattle.plant.proofs.Tables.{OkBox, OkFace, Valid, Begins, begins-itself, begins-onto, begins-again, table-length, made-valid, made-ok}
 use Rattle.plant.proofs.Growth.{new-all}
 
 module _ (m : List ℤ) (ok : Passed m) where
@@ -125,3 +125,6 @@ module _ (m : List ℤ) (ok : Passed m) where
   pub pieces-ok : (k l q : ℕ) → l < L# m → q < pieces m l → OkFace m l q (piecesAfter m k l q)
   pieces-ok zero l q u v = tt
   pieces-ok (suc k) l q u v = new-ok m ok (tableAfter m k) (after-valid k) l q u v
+
+  pub after-ok : (k : ℕ) → tableOk m (tableAfter m k) ≡ true
+  after-ok k = is-true (made-ok m ok (tableAfter m k) (piecesAfter m k) (after-begins m k) (pieces-ok k))

@@ -1,13 +1,12 @@
 -- The tables of the passes are lists of signed 32-bit words: each word is a flag, 0, or a level of the invariant.
-use mathlib.Core.Path.{_≡_, sym, subst}
+use mathlib.Core.Path.{sym, subst}
 use mathlib.Core.List.{List, [], _∷_}
-use Prim.Native.Nat.{ℕ, suc, _+_, _*_, _<_, _≤_}
+use Prim.Native.Nat.{ℕ, _+_, _*_, _<_, _≤_}
 use native.Mathlib.Omega.{arith}
 use lib.IntN.{ℤ, pos, natAbs}
-use lib.ListN.{replicate}
 use mir.Syntax.{w32}
 use mir.Val.{SFits}
-use Rattle.integers.specs.Words.{word, AreWords}
+use Rattle.integers.specs.Words.{AreWords}
 use Rattle.integers.specs.Counted.{cat}
 use Rattle.integers.proofs.Order.{trans}
 use Rattle.integers.proofs.Signed.{fits32, between}

@@ -3,10 +3,10 @@ use mathlib.Core.Path.{_≡_, refl, sym, ap, _∙_}
 use mathlib.Core.List.{List}
 use Prim.Native.Nat.{ℕ, zero, suc}
 use lib.IntN.{ℤ}
-use Rattle.plant.specs.declared.Quote.the-variants.{AtMost, Refused}
+use Rattle.orders.specs.declared.Quote.the-variants.{AtMost, Refused}
 use Rattle.plant.specs.Questions.{modelQuestions}
 use Rattle.plant.specs.Tables.{tableSize, longestTableFile, ceilingOf}
-use Rattle.quote.specs.Quotes.{quoteBy, quoteCall}
+use Rattle.orders.specs.Quotes.{quoteBy, quoteCall}
 
 module _ (m : List ℤ) where
   by-refused : (q : ℕ) → (q ≡ 0 → ⊥) → Refused q ≡ quoteBy m q

@@ -1,8 +1,8 @@
 // Quoting an order: what any analysis of a model may take at most, from the model alone (document 02, T-07).
 ghost use mathlib.Core.Path.{_≡_};
-ghost use Rattle.quote.specs.Quotes.{quoteCall};
-use plant::Figures;
-use plant::Quote;
+ghost use Rattle.orders.specs.Quotes.{quoteCall};
+use orders::Figures;
+use orders::Quote;
 
 // The table's words, the number of bytes in 39 and the ceiling, or the number of the model's question that is not yes.
 pub fn quote(model: &[i32]) -> Quote

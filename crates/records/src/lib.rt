@@ -10,7 +10,7 @@ ghost use Rattle.integers.specs.Words as W;
 ghost use Rattle.plant.specs.Box as B;
 ghost use Rattle.plant.specs.Model as M;
 ghost use Rattle.plant.specs.Questions as Q;
-ghost use Rattle.records.specs.Whole.{Head, Whole, Numbered, Placed};
+ghost use Rattle.plant.proofs.Whole.{Head, Whole, Numbered, Placed};
 
 // ---- the head: how many variables, locations, switches and forbidden boxes the model has, and its edition
 

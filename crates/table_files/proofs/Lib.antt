@@ -1,11 +1,2 @@
-pub mod Cases
-pub mod Keys
-pub mod PieceKeys
-pub mod PlaceWords
-pub mod Listed
-pub mod TableAsked
-pub mod AlikeFiles
-pub mod TableBack
 pub mod TableWriting
 pub mod TableReading
-pub mod UncutFile

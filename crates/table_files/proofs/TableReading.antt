@@ -24,10 +24,10 @@ use Rattle.integers.proofs.Counted.{within-abs}
 use Rattle.integers.proofs.Signed.{got32, widened, as-signed}
 use Rattle.integers.proofs.Buffers.{onto-all}
 use Rattle.integers.proofs.Rows.{replicate-cat}
-use Rattle.wire.specs.Bytes.{wordSize, wordAt, wordsAt}
-use Rattle.wire.specs.Fields.{headerSize, payloadLength, fieldAt, isField}
-use Rattle.wire.proofs.Words.{length-words, words-nth}
-use Rattle.wire.proofs.Fields.{field-lies, due, whole-is}
+use Rattle.files.specs.Bytes.{wordSize, wordAt, wordsAt}
+use Rattle.files.specs.Fields.{headerSize, payloadLength, fieldAt, isField}
+use Rattle.files.proofs.Words.{length-words, words-nth}
+use Rattle.files.proofs.Fields.{field-lies, due, whole-is}
 use Rattle.plant.specs.Ask.{ask, _then_, first}
 use Rattle.plant.specs.Box.{boxAt, present, faceWords}
 use Rattle.plant.specs.Model.{n#, L#}
@@ -41,15 +41,15 @@ use Rattle.plant.proofs.Passed.{within-nonneg}
 use Rattle.plant.proofs.Pieces.{per-face-most, per-face-least, number-below}
 use Rattle.plant.proofs.Tables.{piece-counted, piece-inside, table-length}
 use Rattle.plant.proofs.Reading.{refused-at, past}
-use Rattle.records.specs.Whole.{Whole}
+use Rattle.plant.proofs.Whole.{Whole}
 use Rattle.passes.proofs.Landing.{piece-put}
-use Rattle.table_files.specs.TableFile.{placeSize, pieceFieldSize, pieceFieldAt, countWord, countQuestion, pieceFieldWords, pieceWord, pieceNamed, pieceKey, leastKey, placeOk, pieceQuestion, pieceQuestions, fileFace, count#, fileTable, fieldsQuestions, tableFileQuestions, readFaces, roomQuestions, readTableCall}
+use Rattle.files.specs.TableFile.{placeSize, pieceFieldSize, pieceFieldAt, countWord, countQuestion, pieceFieldWords, pieceWord, pieceNamed, pieceKey, leastKey, placeOk, pieceQuestion, pieceQuestions, fileFace, count#, fileTable, fieldsQuestions, tableFileQuestions, readFaces, roomQuestions, readTableCall}
 use Rattle.table_files.specs.TableRoom.{FieldsReady, CountAt, nextLeast, locationWord, faceWord, indexWord, KeyAt}
-use Rattle.table_files.proofs.PieceKeys.{table-keys}
-use Rattle.table_files.proofs.PlaceWords.{place-least, place-most, place-with, place-without}
-use Rattle.table_files.proofs.Listed.{not-named, fieldWords, locationAt, pieceNamedAt, boxAtField}
-use Rattle.table_files.proofs.TableAsked.{PlaceYes, named-below, FieldsYes, count-yes}
-use Rattle.table_files.proofs.TableWriting.{pieces-few}
+use Rattle.files.proofs.PieceKeys.{table-keys}
+use Rattle.files.proofs.PlaceWords.{place-least, place-most, place-with, place-without}
+use Rattle.files.proofs.Listed.{not-named, fieldWords, locationAt, pieceNamedAt, boxAtField}
+use Rattle.files.proofs.TableAsked.{PlaceYes, named-below, FieldsYes, count-yes}
+use Rattle.files.proofs.TableSizes.{pieces-few}
 
 -- ---- which piece of a face, by the word behind the face number
 

@@ -2,7 +2,6 @@
 -- a piece is put together.
 use mathlib.Core.Path.{_≡_, refl, sym, ap, ap₂, _∙_}
 use mathlib.Core.Bool.{Bool, true, false, cond}
-use mathlib.Core.Logic.{⊎-elim}
 use mathlib.Core.List.{List, _++_, append-assoc, append-nil}
 use Prim.Native.Nat.{ℕ, zero, suc, _+_, _*_, _/_, _%_, _≤_, _<_}
 use native.Mathlib.Nat.{mul-le-mul-right}
@@ -13,60 +12,37 @@ use lib.IntN.{ℤ, pos}
 use lib.ListN.{length, take, length-append}
 use Rattle.integers.specs.Words.{word, eqZ, onto}
 use Rattle.integers.specs.Counted.{cat, sumBelow}
-use Rattle.integers.proofs.Counted.{split, sum-ext, sum-part}
+use Rattle.integers.proofs.Counted.{sum-ext}
 use Rattle.integers.proofs.Buffers.{onto-start}
-use Rattle.wire.specs.Bytes.{wordSize, wordBytes, wordsBytes, part}
-use Rattle.wire.specs.Fields.{headerSize, payloadLength, fieldLength, fieldPlace, header, field}
-use Rattle.wire.proofs.Buffers.{onto-then, Written, length-written}
-use Rattle.wire.proofs.Words.{length-word, length-bytes, length-part, bytes-append}
-use Rattle.wire.proofs.Fields.{length-field, place-small}
+use Rattle.files.specs.Bytes.{wordSize, wordBytes, wordsBytes, part}
+use Rattle.files.specs.Fields.{headerSize, payloadLength, fieldLength, fieldPlace, header, field}
+use Rattle.integers.proofs.Filling.{onto-then, Written, length-written}
+use Rattle.files.proofs.Words.{length-word, length-bytes, length-part, bytes-append}
+use Rattle.files.proofs.Fields.{length-field}
 use Rattle.plant.specs.Ask.{ask}
-use Rattle.plant.specs.Box.{low, high, boxBy, boxAt, Face, absent, present}
+use Rattle.plant.specs.Box.{boxAt, Face, absent, present}
 use Rattle.plant.specs.Model.{n#, L#}
 use Rattle.plant.specs.Questions.{modelQuestions}
 use Rattle.plant.specs.Pieces.{anyCut, perFace, pieces, pieceFace, pieceIndex}
 use Rattle.plant.specs.Tables.{faceSize, piecesBefore, pieceCount, tableSize, pieceAt, longestTableFile, faceRead, pieceOf, tableOk}
 use Rattle.plant.proofs.Asks.{ask-yes, then-both}
-use Rattle.plant.proofs.Boxes.{length-boxBy, length-boxAt, box-ends}
-use Rattle.plant.proofs.Tables.{count-most}
-use Rattle.records.specs.Whole.{Whole}
-use Rattle.records.proofs.Positions.{row-within}
-use Rattle.passes.proofs.PartWords.{whole, place-is}
+use Rattle.plant.proofs.Boxes.{length-boxAt, box-ends}
+use Rattle.plant.proofs.Whole.{Whole}
+use Rattle.plant.proofs.Positions.{row-within}
+use Rattle.plant.proofs.Passing.{whole}
+use Rattle.passes.proofs.PartWords.{place-is}
 use Rattle.tables.proofs.Faces.{table-most}
-use Rattle.table_files.specs.TableFile.{countFieldSize, placeSize, pieceFieldSize, placeWords, pieceField, presence, presentPieces, locationFields, pieceFields, tableFile, piecesFrom, roomQuestions, writeQuestions}
+use Rattle.files.specs.TableFile.{countFieldSize, placeSize, pieceFieldSize, placeWords, pieceField, presence, presentPieces, locationFields, pieceFields, tableFile, piecesFrom, roomQuestions, writeQuestions}
 use Rattle.table_files.specs.TableRoom.{WriteReady, PieceRoom, LocationRoom}
-use Rattle.table_files.proofs.PieceKeys.{key-at, atKey}
-use Rattle.table_files.proofs.PlaceWords.{place-most, longest-is, length-place}
-use Rattle.table_files.proofs.Listed.{present-keys}
-use Rattle.table_files.proofs.TableAsked.{room-yes}
+use Rattle.files.proofs.PieceKeys.{key-at, atKey}
+use Rattle.files.proofs.PlaceWords.{place-most, longest-is, length-place}
+use Rattle.files.proofs.Listed.{present-keys}
+use Rattle.files.proofs.TableAsked.{room-yes}
+use Rattle.files.proofs.TableSizes.{location-counted, before-le, pieceBytes, longest-least, pieces-few, fieldsOf, fields-le, locations-le}
 
 -- ---- sizes
 
--- the pieces of a location, with those before, are among all
-pub location-counted : (m : List ℤ) (l : ℕ) → l < L# m → piecesBefore m l + pieces m l ≤ pieceCount m
-unfolding pieceCount piecesBefore
-location-counted m l u = sum-part (L# m) (pieces m) l u
-
-before-le : (m : List ℤ) (l : ℕ) → l ≤ L# m → piecesBefore m l ≤ pieceCount m
-unfolding pieceCount
-before-le m l u = ⊎-elim (λ v. omega (arith, location-counted m l v)) (λ e. rw e (omega arith)) (split l (L# m) (omega arith))
-
--- the field of a piece in bytes
-abbrev pub pieceBytes : List ℤ → ℕ
-pieceBytes m = fieldLength (pieceFieldSize m)
-
-pub longest-least : (m : List ℤ) → 7 ≤ longestTableFile m
-unfolding longestTableFile
-longest-least m = omega arith
-
 module _ (m : List ℤ) (w : Whole m) where
-  pub pieces-few : pieceCount m ≤ 1536
-  pieces-few = count-most m (w .head .n-small) (w .head .L-small)
-
-  -- the longest file of all
-  pub longest-most : longestTableFile m ≤ 96775
-  longest-most = omega (arith, longest-is m, place-small (pieceFieldSize m) (pieceCount m) 15 1536 pieces-few (omega (arith, place-most m, w .head .n-small)))
-
   -- as the code computes them, from the width of places and n variables
   module _ {width n : ℕ} (ep : width ≡ placeSize m) (en : n ≡ n# m) where
     pub sizes-fit : (width ≤ 3) × (n ≤ 6)
@@ -154,18 +130,6 @@ present-few m t w = omega (arith, counted-keys m t, counted-le (n# m) t (pieceCo
 
 -- ---- the field of a piece
 
-pub field-length : (m : List ℤ) (l q : ℕ) (g : Face) → length (pieceField m l q g) ≤ pieceBytes m
-field-length m l q absent = omega arith
-field-length m l q (present b) =
-    omega (
-      arith,
-      length-field 5 (wordsBytes (placeWords m l q ++ boxBy (n# m) (low b) (high b))),
-      length-bytes (placeWords m l q ++ boxBy (n# m) (low b) (high b)),
-      length-append (placeWords m l q) (boxBy (n# m) (low b) (high b)),
-      length-place m l q,
-      length-boxBy (n# m) (low b) (high b),
-    )
-
 -- its place, word by word
 module _ (m : List ℤ) (l q : ℕ) {per : ℕ} (ep : per ≡ perFace m l) where
   pub face-is : q / per ≡ pieceFace m l q
@@ -252,21 +216,6 @@ module _ (m t : List ℤ) {at : ℕ} (l q : ℕ) (at-is : at ≡ pieceAt m l q) 
 
 -- ---- the loops that write them
 
--- the fields of a location
-abbrev pub fieldsOf : (m t : List ℤ) (l q : ℕ) → List ℕ
-fieldsOf m t l q = pieceField m l q (pieceOf m t l q)
-
-module _ (m t : List ℤ) where
-  fields-le : (l q : ℕ) → length (cat q (fieldsOf m t l)) ≤ q * pieceBytes m
-  unfolding cat
-  fields-le l zero = omega arith
-  fields-le l (suc q) = omega (arith, length-append (cat q (fieldsOf m t l)) (fieldsOf m t l q), fields-le l q, field-length m l q (pieceOf m t l q))
-
-  locations-le : (l : ℕ) → length (cat l (locationFields m t)) ≤ piecesBefore m l * pieceBytes m
-  unfolding cat locationFields piecesBefore sumBelow
-  locations-le zero = omega arith
-  locations-le (suc l) = omega (arith, length-append (cat l (locationFields m t)) (locationFields m t l), locations-le l, fields-le l (pieces m l))
-
 module _ (m t : List ℤ) (d : List ℕ) {width before l to : ℕ} (r : LocationRoom m width before t l d to) where
   -- there is room for one more
   pub location-room : {q next : ℕ} {x : List ℕ} → q ≤ pieces m l → Written (fieldsOf m t l) d to q next x → (length x ≡ length d) × (next ≤ to + q * pieceBytes m)
@@ -334,15 +283,6 @@ file-put m t d x y z el ex′ ey ez =
     let ey′ : y ≡ onto (take 0 d ++ (header 6 4 ++ w)) d = ey ∙ onto-then (header 6 4) w d x 0 3 ex (omega arith) (omega arith) in
     let ez′ : z ≡ onto (take 0 d ++ ((header 6 4 ++ w) ++ pieceFields m t)) d = ez ∙ onto-then (header 6 4 ++ w) (pieceFields m t) d y 0 7 ey′ (omega arith) (omega (arith, length-append (header 6 4) w, length-word (pos (presentPieces m t)))) in
     ez′
-
-pub file-length : (m t : List ℤ) → 7 + length (pieceFields m t) ≡ length (tableFile m t)
-unfolding tableFile
-file-length m t = omega (arith, length-append (field 6 (wordBytes (pos (presentPieces m t)))) (pieceFields m t), length-field 6 (wordBytes (pos (presentPieces m t))), length-word (pos (presentPieces m t)))
-
--- no table's file is longer than the number that 39 asks for
-pub file-most : (m t : List ℤ) → length (tableFile m t) ≤ longestTableFile m
-unfolding pieceFields pieceCount
-file-most m t = omega (arith, file-length m t, locations-le m t (L# m), longest-is m)
 
 -- ---- how the call ends
 

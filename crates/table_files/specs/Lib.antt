@@ -1,4 +1,1 @@
-pub mod TableFile
 pub mod TableRoom
-pub mod TableBack
-pub mod UncutFile

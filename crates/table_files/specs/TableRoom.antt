@@ -7,14 +7,14 @@ use lib.Dec.{T, eqb}
 use lib.IntN.{ℤ, pos, natAbs}
 use lib.Signed.{nonNeg}
 use lib.ListN.{length}
-use Rattle.wire.specs.Bytes.{wordSize, wordAt}
-use Rattle.wire.specs.Fields.{payloadLength, fieldLength}
+use Rattle.files.specs.Bytes.{wordSize, wordAt}
+use Rattle.files.specs.Fields.{payloadLength, fieldLength}
 use Rattle.plant.specs.Model.{n#, L#}
 use Rattle.plant.specs.Pieces.{perFace, pieces}
 use Rattle.plant.specs.Tables.{piecesBefore, tableSize, pieceAt, longestTableFile}
-use Rattle.records.specs.Whole.{Whole}
+use Rattle.plant.proofs.Whole.{Whole}
 use Rattle.tables.specs.Places.{Places}
-use Rattle.table_files.specs.TableFile.{countFieldSize, placeSize, pieceFieldSize, countWord, pieceKey, placeOk}
+use Rattle.files.specs.TableFile.{countFieldSize, placeSize, pieceFieldSize, countWord, pieceKey, placeOk}
 
 -- ---- writing
 

@@ -4,8 +4,8 @@ ghost use mathlib.Core.Path.{_≡_};
 ghost use Prim.Native.Nat.{_+_, _*_, _≤_, _<_};
 ghost use Rattle.plant.specs.Model.{L#};
 ghost use Rattle.plant.specs.Pieces.{perFace};
-ghost use Rattle.records.specs.Whole.{Whole};
-ghost use Rattle.table_files.specs.TableFile.{placeSize, piecesFrom, roomQuestions};
+ghost use Rattle.plant.proofs.Whole.{Whole};
+ghost use Rattle.files.specs.TableFile.{placeSize, piecesFrom, roomQuestions};
 
 mod reading;
 mod writing;

@@ -15,13 +15,13 @@ ghost use lib.IntN.{pos, natAbs};
 ghost use lib.ListN.{length};
 ghost use lib.Signed.{nonNeg};
 ghost use Rattle.integers.specs.Words.{within};
-ghost use Rattle.wire.specs.Bytes.{wordSize, wordAt, wordsAt};
-ghost use Rattle.wire.specs.Fields.{payloadLength};
+ghost use Rattle.files.specs.Bytes.{wordSize, wordAt, wordsAt};
+ghost use Rattle.files.specs.Fields.{payloadLength};
 ghost use Rattle.plant.specs.Ask.{first};
 ghost use Rattle.plant.specs.Tables.{faceSize, tableSize};
-ghost use Rattle.records.specs.Whole.{Whole};
+ghost use Rattle.plant.proofs.Whole.{Whole};
 ghost use Rattle.passes.specs.Ready.{TableReady};
-ghost use Rattle.table_files.specs.TableFile.{pieceFieldSize, countQuestion, pieceKey, pieceQuestions, count#, fieldsQuestions, fileTable, readFaces, readTableCall};
+ghost use Rattle.files.specs.TableFile.{pieceFieldSize, countQuestion, pieceKey, pieceQuestions, count#, fieldsQuestions, fileTable, readFaces, readTableCall};
 ghost use Rattle.table_files.specs.TableRoom.{FieldsReady, CountAt, nextLeast, indexWord, IndexAt, KeyAt};
 
 // ---- the questions of a file
@@ -148,7 +148,7 @@ fn pieces_questions(model: &[i32], places: &[usize], width: usize, file: &[u8], 
         if !wire::is_field(field, 5, len) {
             return 36;
         }
-        let wire::Field::Whole { start, next, .. } = field else {
+        let files::Field::Whole { start, next, .. } = field else {
             return 36;
         };
         least = next_least(model, places, width, file, start, least);
@@ -202,7 +202,7 @@ fn fill(model: &[i32], places: &[usize], width: usize, file: &[u8], table: &mut 
     let mut i: usize = 0;
     while i < count {
         let field = wire::next_field(file, at);
-        let wire::Field::Whole { start, next, .. } = field else {
+        let files::Field::Whole { start, next, .. } = field else {
             return;
         };
         let to = key_at(model, places, width, file, start) * size;

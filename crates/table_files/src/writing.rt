@@ -13,12 +13,12 @@ ghost use Prim.Native.Nat.{_+_, _≤_};
 ghost use lib.IntN.{pos};
 ghost use lib.ListN.{length, take};
 ghost use Rattle.integers.specs.Words.{eqZ, onto};
-ghost use Rattle.wire.specs.Bytes.{wordsBytes};
-ghost use Rattle.wire.specs.Fields.{payloadLength};
+ghost use Rattle.files.specs.Bytes.{wordsBytes};
+ghost use Rattle.files.specs.Fields.{payloadLength};
 ghost use Rattle.plant.specs.Tables.{tableSize, longestTableFile, pieceOf};
 ghost use Rattle.plant.specs.Calls.{bytesQuestion};
-ghost use Rattle.records.specs.Whole.{Whole};
-ghost use Rattle.table_files.specs.TableFile.{piecesFrom, placeWords, pieceField, locationFields, presentPieces, pieceFields, tableFile, writeQuestions, writeTableCall};
+ghost use Rattle.plant.proofs.Whole.{Whole};
+ghost use Rattle.files.specs.TableFile.{piecesFrom, placeWords, pieceField, locationFields, presentPieces, pieceFields, tableFile, writeQuestions, writeTableCall};
 ghost use Rattle.table_files.specs.TableRoom.{WriteReady, IsPiece, PieceRoom, LocationRoom};
 
 // The number that 39 asks for: the file of all the model's pieces, which none exceeds. For the quote, too.

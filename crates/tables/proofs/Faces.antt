@@ -20,7 +20,7 @@ use Rattle.plant.specs.Box.{low, high, boxBy, boxAt, hull, Face, absent, presen
 use Rattle.plant.specs.Tables.{wordsPerLocation, faceSize, tableSize, faceRead}
 use Rattle.plant.proofs.Boxes.{low-boxBy, high-boxBy, length-boxBy, box-ext, low-boxAt, high-boxAt, length-boxAt, box-ends, length-face, length-hull}
 use Rattle.plant.proofs.Tables as P
-use Rattle.records.specs.Whole.{Head}
+use Rattle.plant.proofs.Whole.{Head}
 use Rattle.tables.specs.Room.{IsFace, joinedWith}
 
 -- ---- a buffer that is filled from the front

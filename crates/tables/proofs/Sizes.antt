@@ -18,7 +18,7 @@ use Rattle.plant.specs.Tables.{wordsPerLocation, faceSize, piecesBefore, pieceC
 use Rattle.plant.proofs.Pieces.{per-face-most}
 use Rattle.plant.proofs.PieceCases.{before-none}
 use Rattle.plant.proofs.Tables.{pieces-most}
-use Rattle.records.specs.Whole.{Head}
+use Rattle.plant.proofs.Whole.{Head}
 use Rattle.tables.specs.Places.{Places}
 use Rattle.tables.specs.Room.{PiecesBy}
 

@@ -12,7 +12,7 @@ ghost use Rattle.plant.specs.Model.{L#, cutBy};
 ghost use Rattle.plant.specs.Pieces as P;
 ghost use Rattle.plant.specs.Pieces.{upToValue, fromValue, cutToExtent, perFace};
 ghost use Rattle.plant.specs.Tables.{wordsPerLocation, faceSize, pieceCount, tableSize, faceRead};
-ghost use Rattle.records.specs.Whole.{Whole};
+ghost use Rattle.plant.proofs.Whole.{Whole};
 ghost use Rattle.tables.specs.Places.{Places};
 ghost use Rattle.tables.specs.Room.{Joinable, IsFace, joinedWith, AreFaces, joinedEach, PiecesBy, cutEach, Cuttable};
 

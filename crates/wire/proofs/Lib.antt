@@ -1,5 +1,1 @@
-pub mod Buffers
 pub mod Bits
-pub mod Words
-pub mod Fields
-pub mod Examples

@@ -6,8 +6,9 @@ ghost use lib.ListN.{length, take};
 ghost use mir.Syntax.{w32};
 ghost use mir.Val.{toZ, ofZ};
 ghost use Rattle.integers.specs.Words.{onto};
-ghost use Rattle.wire.specs.Bytes.{wordSize, bitsAt, wordAt, wordsAt, bitsBytes, wordBytes, wordsBytes, part};
-ghost use Rattle.wire.specs.Fields.{headerSize, payloadLength, fieldLength, fieldPlace, lengthAt, fieldAt, isField, header};
+ghost use Rattle.files.specs.Bytes.{wordSize, bitsAt, wordAt, wordsAt, bitsBytes, wordBytes, wordsBytes, part};
+ghost use Rattle.files.specs.Fields.{headerSize, payloadLength, fieldLength, fieldPlace, lengthAt, fieldAt, isField, header};
+use files::Field;
 
 // How many bytes a word has.
 pub const WORD_SIZE: usize = 4;
@@ -137,22 +138,6 @@ pub fn field_place(from: usize, w: usize, i: usize) -> usize
 }
 
 // ---- fields
-
-pub enum Field {
-    // the payload starts at `start` and ends before `next`
-    Whole {
-        tag: u8,
-        start: usize,
-        len: usize,
-        next: usize,
-    },
-    // the payload is not all there
-    Cut {
-        tag: u8,
-    },
-    // under three bytes are left
-    Short,
-}
 
 // The length that a field's second and third byte give, highest byte first.
 fn length_at(file: &[u8], at: usize) -> usize

@@ -1,7 +1,7 @@
 -- The questions' number is the refusal, or the answer is the analysis's.
 use mathlib.Core.Path.{sym, _∙_}
 use borrow.Author.Needs.{needs}
-use Rattle.analysis.proofs.Calls.{analyse-refused, analyse-answered}
+use Rattle.plant.proofs.AnalysisAsked.{analyse-refused, analyse-answered}
 use Rattle.analysis.proofs.analyse.Statement.{statement}
 use Rattle.analysis.proofs.analyse.Tie as tie
 

@@ -9,9 +9,10 @@ use lib.ListN.{length, take, replicate}
 use lib.Seq.{length-take-le, length-front}
 use Rattle.plant.specs.Tables.{tableSize}
 use Rattle.plant.specs.Calls.{analysisQuestions}
-use Rattle.passes.proofs.PartWords.{whole}
+use Rattle.plant.proofs.Passing.{whole}
 use Rattle.analysis.specs.Ready.{Sized}
-use Rattle.analysis.proofs.Calls.{model-asked, table-room, work-room, is-answered}
+use Rattle.plant.proofs.AnalysisAsked.{model-asked, table-room, work-room}
+use Rattle.analysis.proofs.Calls.{is-answered}
 use Rattle.analysis.proofs.analyse_passed.Statement.{statement}
 use Rattle.analysis.proofs.analyse_passed.Tie as tie
 

@@ -4,7 +4,7 @@ use Prim.Native.Nat.{_≤_}
 use native.Mathlib.Omega.{arith}
 use lib.IntN.{pos}
 use lib.ListN.{length, length-replicate}
-use Rattle.model.proofs.Passing.{head-ready}
+use Rattle.plant.proofs.Passing.{head-ready}
 use Rattle.tables.proofs.Faces.{table-most}
 use Rattle.analysis.proofs.Sizes.{prefix}
 use borrow.Author.Needs.{needs}

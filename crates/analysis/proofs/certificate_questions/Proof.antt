@@ -1,6 +1,6 @@
 -- The places are made once.
 use mathlib.Core.Path.{refl}
-use Rattle.passes.proofs.PartWords.{whole}
+use Rattle.plant.proofs.Passing.{whole}
 use borrow.Author.Needs.{needs}
 use Rattle.analysis.proofs.certificate_questions.Statement.{statement}
 use Rattle.analysis.proofs.certificate_questions.Tie as tie

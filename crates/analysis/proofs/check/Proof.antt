@@ -8,8 +8,8 @@ use lib.Seq.{length-take-le}
 use Rattle.plant.specs.Questions.{modelQuestions}
 use Rattle.plant.specs.Tables.{tableSize}
 use Rattle.plant.specs.Calls.{tableQuestions}
-use Rattle.passes.proofs.PartWords.{whole}
-use Rattle.analysis.proofs.Front.{front}
+use Rattle.plant.proofs.Passing.{whole}
+use Rattle.plant.proofs.Front.{front}
 use Rattle.analysis.proofs.Calls.{check-model, check-short, check-table, check-accepted}
 use Rattle.analysis.proofs.check.Statement.{statement}
 use Rattle.analysis.proofs.check.Tie as tie

@@ -6,8 +6,8 @@ use borrow.Author.Needs.{needs}
 use lib.ListN.{length}
 use Rattle.plant.specs.Questions.{modelQuestions}
 use Rattle.plant.specs.Tables.{tableSize}
-use Rattle.passes.proofs.PartWords.{whole}
-use Rattle.analysis.proofs.Calls.{asks-model, short-table, short-work, all-yes}
+use Rattle.plant.proofs.Passing.{whole}
+use Rattle.plant.proofs.AnalysisAsked.{asks-model, short-table, short-work, all-yes}
 use Rattle.analysis.proofs.questions.Statement.{statement}
 use Rattle.analysis.proofs.questions.Tie as tie
 

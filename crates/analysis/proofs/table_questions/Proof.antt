@@ -3,7 +3,7 @@ use mathlib.Core.Path.{_≡_, refl, sym, _∙_}
 use mathlib.Core.Bool.{true}
 use borrow.Author.Tests.{not-true, not-false}
 use Rattle.plant.specs.Tables.{tableOk}
-use Rattle.passes.proofs.PartWords.{whole}
+use Rattle.plant.proofs.Passing.{whole}
 use Rattle.analysis.proofs.Calls.{not-valid, valid-asked}
 use borrow.Author.Needs.{needs}
 use Rattle.analysis.proofs.table_questions.Statement.{statement}

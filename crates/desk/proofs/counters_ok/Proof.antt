@@ -1,6 +1,6 @@
 -- 22 is asked without a sum that could overflow (`counters-is`).
 use borrow.Author.Needs.{needs}
-use Rattle.desk.proofs.Serving.{counters-is}
+use Rattle.orders.proofs.Serving.{counters-is}
 use Rattle.desk.proofs.counters_ok.Statement.{statement}
 use Rattle.desk.proofs.counters_ok.Tie as tie
 

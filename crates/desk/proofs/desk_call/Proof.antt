@@ -45,11 +45,11 @@ use denote.Triple.Clauses.{ensured, lasts}
 use denote.Exit.{yes}
 use Rattle.plant.proofs.Answer as E
 use Rattle.plant.proofs.Answer.Laws as E′
-use Rattle.desk.specs.Desks.{Served, deskCall}
-use Rattle.desk.specs.declared.Desk.{Desk}
+use Rattle.orders.specs.Desks.{Served, deskCall}
+use Rattle.orders.specs.declared.Desk.{Desk}
 use Rattle.desk.specs.declared.Receipt.{Receipt}
-use Rattle.desk.proofs.Desk as T
-use Rattle.desk.proofs.Desk.Laws as T′
+use Rattle.orders.proofs.Desk as T
+use Rattle.orders.proofs.Desk.Laws as T′
 use Rattle.desk.proofs.Receipt as S
 use Rattle.desk.proofs.Receipt.Laws as S′
 use Rattle.desk.proofs.serve as serve

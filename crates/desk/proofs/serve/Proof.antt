@@ -5,8 +5,8 @@ use native.Mathlib.Omega.{arith}
 use borrow.Author.Tests.{not-true, not-false}
 use borrow.Author.Needs.{needs}
 use Rattle.plant.specs.Calls.{analysisQuestions}
-use Rattle.desk.specs.Desks.{countersOk}
-use Rattle.desk.proofs.Serving.{jobs-fit, limit-fits, k-within, desk-refused, desk-full, desk-answered}
+use Rattle.orders.specs.Desks.{countersOk}
+use Rattle.orders.proofs.Serving.{jobs-fit, limit-fits, k-within, desk-refused, desk-full, desk-answered}
 use Rattle.desk.proofs.serve.Statement.{statement}
 use Rattle.desk.proofs.serve.Tie as tie
 

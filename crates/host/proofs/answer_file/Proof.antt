@@ -1,7 +1,7 @@
 -- The words held are enough: fewer for a smaller table, else those of the largest table.
-use Rattle.passes.proofs.PartWords.{whole}
+use Rattle.plant.proofs.Passing.{whole}
 use borrow.Author.Needs.{needs}
-use Rattle.host.proofs.Deciding.{table-fits}
+use Rattle.interface.proofs.Deciding.{table-fits}
 use Rattle.host.proofs.answer_file.Statement.{statement}
 use Rattle.host.proofs.answer_file.Tie as tie
 

@@ -2,9 +2,9 @@
 use mathlib.Core.Path.{sym}
 use native.Mathlib.Omega.{arith}
 use borrow.Author.Needs.{needs}
-use Rattle.passes.proofs.PartWords.{whole}
-use Rattle.analysis.proofs.Calls.{all-yes}
-use Rattle.host.proofs.Deciding.{answer-front, is-decided}
+use Rattle.plant.proofs.Passing.{whole}
+use Rattle.plant.proofs.AnalysisAsked.{all-yes}
+use Rattle.interface.proofs.Deciding.{answer-front, is-decided}
 use Rattle.host.proofs.answer_with.Statement.{statement}
 use Rattle.host.proofs.answer_with.Tie as tie
 

@@ -1,7 +1,7 @@
 -- The file's number is the refusal, or its words are asked for.
 use borrow.Author.Needs.{needs}
-use Rattle.host.proofs.Reading.{when, most-roomy, read-refused, read-yes, read-front, model-passes}
-use Rattle.host.proofs.Checking.{check-refused, check-words}
+use Rattle.interface.proofs.Reading.{when, most-roomy, read-refused, read-yes, read-front, model-passes}
+use Rattle.interface.proofs.Checking.{check-refused, check-words}
 use Rattle.host.proofs.check_most.Statement.{statement}
 use Rattle.host.proofs.check_most.Tie as tie
 

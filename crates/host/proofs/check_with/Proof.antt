@@ -1,7 +1,7 @@
 -- The table file's number is the refusal, or 33 and 34 are asked of its table.
 use borrow.Author.Needs.{needs}
-use Rattle.host.proofs.Reading.{when}
-use Rattle.host.proofs.Checking.{table-refused, table-yes, table-front, table-sized, table-valid, file-refused, file-asked}
+use Rattle.interface.proofs.Reading.{when}
+use Rattle.interface.proofs.Checking.{table-refused, table-yes, table-front, table-sized, table-valid, file-refused, file-asked}
 use Rattle.host.proofs.check_with.Statement.{statement}
 use Rattle.host.proofs.check_with.Tie as tie
 

@@ -1,7 +1,7 @@
 -- The file's number is the refusal, or its words are decided.
 use borrow.Author.Needs.{needs}
-use Rattle.host.proofs.Reading.{when, other-roomy, read-refused, read-yes, read-front, model-passes}
-use Rattle.host.proofs.Deciding.{decide-refused, decide-words}
+use Rattle.interface.proofs.Reading.{when, other-roomy, read-refused, read-yes, read-front, model-passes}
+use Rattle.interface.proofs.Deciding.{decide-refused, decide-words}
 use Rattle.host.proofs.decide.Statement.{statement}
 use Rattle.host.proofs.decide.Tie as tie
 

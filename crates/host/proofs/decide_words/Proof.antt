@@ -1,8 +1,8 @@
 -- 39, then the answer.
-use mathlib.Core.Path.{_≡_, sym, _∙_}
+use mathlib.Core.Path.{sym, _∙_}
 use borrow.Author.Needs.{needs}
-use Rattle.passes.proofs.PartWords.{whole}
-use Rattle.host.proofs.Deciding.{no-room, has-room, room}
+use Rattle.plant.proofs.Passing.{whole}
+use Rattle.interface.proofs.Deciding.{no-room, has-room, room}
 use Rattle.host.proofs.decide_words.Statement.{statement}
 use Rattle.host.proofs.decide_words.Tie as tie
 

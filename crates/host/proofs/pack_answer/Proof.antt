@@ -1,9 +1,9 @@
 -- Each case of the answer has its code.
-use mathlib.Core.Path.{_≡_, sym, ap, _∙_}
+use mathlib.Core.Path.{sym, ap, _∙_}
 use borrow.Author.Needs.{needs}
 use Rattle.plant.specs.declared.Answer.{Answer}
 use Rattle.plant.specs.Calls.{answerReply}
-use Rattle.host.specs.Hosts.{packed}
+use Rattle.interface.specs.Hosts.{packed}
 use Rattle.host.proofs.pack_answer.Statement.{statement}
 use Rattle.host.proofs.pack_answer.Tie as tie
 

@@ -3,7 +3,7 @@ use mathlib.Core.Path.{sym, _∙_}
 use Prim.Native.Nat.{_-_, _≤_}
 use native.Mathlib.Omega.{arith}
 use borrow.Author.Needs.{needs}
-use Rattle.wire.proofs.Fields.{Lies, field-lies}
+use Rattle.files.proofs.Fields.{Lies, field-lies}
 use Rattle.listing.proofs.print_pieces.Statement.{statement}
 use Rattle.listing.proofs.print_pieces.Tie as tie
 

@@ -1,5 +1,4 @@
 -- Below k is from 0 to k - 1.
-use mathlib.Core.Path.{_∙_}
 use native.Mathlib.Omega.{arith}
 use borrow.Author.Needs.{needs}
 use Rattle.integers.proofs.Signed.{got64}

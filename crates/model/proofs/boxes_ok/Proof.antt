@@ -4,7 +4,7 @@ use native.Mathlib.Omega.{arith}
 use lib.ListN.{length}
 use borrow.Author.Needs.{needs}
 use Rattle.plant.specs.Questions.{boxesOk}
-use Rattle.records.proofs.Positions as at
+use Rattle.plant.proofs.Positions as at
 use Rattle.model.proofs.boxes_ok.Statement.{statement}
 use Rattle.model.proofs.boxes_ok.Tie as tie
 

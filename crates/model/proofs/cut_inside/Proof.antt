@@ -10,7 +10,7 @@ use borrow.Author.Needs.{needs}
 use Rattle.integers.proofs.Signed.{got32}
 use Rattle.plant.specs.Model.{n#, invariant, cutAt, cutVariable, cutValue}
 use Rattle.plant.specs.Questions.{belowOk, strictlyInside}
-use Rattle.records.proofs.Positions as at
+use Rattle.plant.proofs.Positions as at
 use Rattle.model.proofs.Cut.{first-no, first-yes, numbered}
 use Rattle.model.proofs.Switch.{asked-yes}
 use Rattle.model.proofs.cut_inside.Statement.{statement}

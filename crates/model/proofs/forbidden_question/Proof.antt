@@ -4,7 +4,7 @@ use native.Mathlib.Omega.{arith}
 use lib.ListN.{length}
 use borrow.Author.Needs.{needs}
 use Rattle.plant.specs.Questions as Q
-use Rattle.records.proofs.Positions as at
+use Rattle.plant.proofs.Positions as at
 use Rattle.model.proofs.forbidden_question.Statement.{statement}
 use Rattle.model.proofs.forbidden_question.Tie as tie
 

@@ -6,7 +6,7 @@ use borrow.Author.Needs.{needs}
 use Rattle.integers.proofs.Signed.{got32}
 use Rattle.plant.specs.Box.{low, high}
 use Rattle.plant.specs.Questions as Q
-use Rattle.records.proofs.Positions as at
+use Rattle.plant.proofs.Positions as at
 use Rattle.model.proofs.guard_ok.Statement.{statement}
 use Rattle.model.proofs.guard_ok.Tie as tie
 

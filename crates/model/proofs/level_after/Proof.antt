@@ -5,7 +5,7 @@ use lib.ListN.{length}
 use borrow.Author.Needs.{needs}
 use Rattle.integers.proofs.Signed.{got32}
 use Rattle.model.proofs.Switch.{after-set, after-kept}
-use Rattle.records.proofs.Positions as at
+use Rattle.plant.proofs.Positions as at
 use Rattle.model.proofs.level_after.Statement.{statement}
 use Rattle.model.proofs.level_after.Tie as tie
 

@@ -5,7 +5,7 @@ use lib.ListN.{length}
 use borrow.Author.Needs.{needs}
 use Rattle.plant.specs.Questions as Q
 use Rattle.plant.proofs.Asks.{both}
-use Rattle.records.proofs.Positions as at
+use Rattle.plant.proofs.Positions as at
 use Rattle.model.proofs.location_questions.Statement.{statement}
 use Rattle.model.proofs.location_questions.Tie as tie
 

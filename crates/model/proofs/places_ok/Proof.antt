@@ -1,12 +1,12 @@
 -- The six numbers lie within the words. The masks of n variables lie below 1 << n, which is 2 ^ n.
-use mathlib.Core.Path.{_∙_}
 use Prim.Native.Nat.{_+_, _≤_}
 use native.Mathlib.Omega.{arith}
 use lib.ListN.{length}
 use borrow.Author.Needs.{needs}
 use Rattle.plant.specs.Questions as Q
-use Rattle.records.proofs.Positions as at
-use Rattle.model.proofs.Switch.{masks-small, masks-shift}
+use Rattle.plant.proofs.Positions as at
+use Rattle.plant.proofs.Passing.{masks-small}
+use Rattle.model.proofs.Switch.{masks-shift}
 use Rattle.model.proofs.places_ok.Statement.{statement}
 use Rattle.model.proofs.places_ok.Tie as tie
 

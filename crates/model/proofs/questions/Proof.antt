@@ -7,8 +7,9 @@ use borrow.Author.Needs.{needs}
 use Rattle.plant.specs.Model.{headSize, modelSize}
 use Rattle.plant.specs.Questions.{modelQuestions}
 use Rattle.plant.proofs.Asks.{go, halt}
-use Rattle.records.specs.Whole.{Head, Whole}
-use Rattle.model.proofs.Passing.{head-passed, too-short, long-enough}
+use Rattle.plant.proofs.Whole.{Head, Whole}
+use Rattle.plant.proofs.Passing.{head-passed}
+use Rattle.model.proofs.Lengths.{too-short, long-enough}
 use Rattle.model.proofs.questions.Statement.{statement}
 use Rattle.model.proofs.questions.Tie as tie
 

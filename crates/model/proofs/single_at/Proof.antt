@@ -9,7 +9,7 @@ use Rattle.integers.specs.Words.{word}
 use Rattle.integers.proofs.Signed.{got32}
 use Rattle.plant.specs.Box.{low, high}
 use Rattle.plant.specs.Questions.{singleAt}
-use Rattle.records.proofs.Positions as at
+use Rattle.plant.proofs.Positions as at
 use Rattle.model.proofs.single_at.Statement.{statement}
 use Rattle.model.proofs.single_at.Tie as tie
 

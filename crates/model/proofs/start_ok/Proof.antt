@@ -5,7 +5,7 @@ use lib.ListN.{length}
 use borrow.Author.Needs.{needs}
 use Rattle.integers.proofs.Signed.{got32}
 use Rattle.plant.specs.Questions as Q
-use Rattle.records.proofs.Positions as at
+use Rattle.plant.proofs.Positions as at
 use Rattle.model.proofs.start_ok.Statement.{statement}
 use Rattle.model.proofs.start_ok.Tie as tie
 

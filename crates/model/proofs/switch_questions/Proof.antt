@@ -4,8 +4,8 @@ use native.Mathlib.Omega.{arith}
 use borrow.Author.Needs.{needs}
 use Rattle.plant.specs.Questions as Q
 use Rattle.plant.proofs.Asks.{ask-intro, go, halt, both}
-use Rattle.records.specs.Whole.{Placed}
-use Rattle.model.proofs.Passing.{placed}
+use Rattle.plant.proofs.Whole.{Placed}
+use Rattle.plant.proofs.Passing.{placed}
 use Rattle.model.proofs.Switch.{asked-no, asked-yes}
 use Rattle.model.proofs.switch_questions.Statement.{statement}
 use Rattle.model.proofs.switch_questions.Tie as tie

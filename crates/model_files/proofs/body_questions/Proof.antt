@@ -1,6 +1,6 @@
 -- The three runs of fields, then the cuts' fields.
 use borrow.Author.Needs.{needs}
-use Rattle.model_files.proofs.ModelReading.{body-made}
+use Rattle.files.proofs.ModelReading.{body-made}
 use Rattle.model_files.proofs.body_questions.Statement.{statement}
 use Rattle.model_files.proofs.body_questions.Tie as tie
 

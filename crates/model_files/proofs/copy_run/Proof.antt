@@ -1,6 +1,6 @@
 -- So far the words of i fields are copied, and each turn copies those of one more.
 use mathlib.Core.List.{_++_}
-use mathlib.Core.Path.{_≡_, refl, sym, ap, subst, _∙_}
+use mathlib.Core.Path.{_≡_, refl, sym, _∙_}
 use Prim.Native.Nat.{_+_, _*_, _-_, _≤_}
 use native.Mathlib.Nat.{add-mul}
 use native.Mathlib.Omega.{arith}
@@ -8,12 +8,11 @@ use borrow.Author.Needs.{needs}
 use lib.Dec.{T}
 use lib.ListN.{length, take}
 use Rattle.integers.specs.Words.{onto}
-use Rattle.wire.specs.Fields.{headerSize, payloadLength, fieldLength, fieldPlace, fieldAt, isField}
-use Rattle.wire.specs.declared.Field.{Field}
-use Rattle.wire.proofs.Fields.{due, due-given, due-whole}
-use Rattle.records.proofs.Positions.{row-within}
-use Rattle.model_files.specs.ModelFile.{runWords}
-use Rattle.model_files.proofs.ModelReading.{run-start, run-turn}
+use Rattle.files.specs.Fields.{headerSize, payloadLength, fieldLength, fieldPlace, fieldAt, isField}
+use Rattle.files.proofs.Fields.{due, due-given, due-whole}
+use Rattle.plant.proofs.Positions.{row-within}
+use Rattle.files.specs.ModelFile.{runWords}
+use Rattle.files.proofs.ModelReading.{run-start, run-turn}
 use Rattle.model_files.proofs.copy_run.Statement.{statement}
 use Rattle.model_files.proofs.copy_run.Tie as tie
 

@@ -2,8 +2,8 @@
 use mathlib.Core.Path.{_≡_, ap₂, _∙_}
 use Prim.Native.Nat.{ℕ}
 use borrow.Author.Needs.{needs}
-use Rattle.wire.specs.Fields.{fieldAt, isField}
-use Rattle.wire.specs.declared.Field.{Field}
+use Rattle.files.specs.Fields.{fieldAt, isField}
+use Rattle.files.specs.declared.Field.{Field}
 use Rattle.model_files.proofs.CutTurns.{no-tag, not-whole, words-decide, whole-there}
 use Rattle.model_files.proofs.cut_questions.Statement.{statement}
 use Rattle.model_files.proofs.cut_questions.Tie as tie

@@ -1,7 +1,7 @@
 -- After the fields of the forbidden boxes.
 use native.Mathlib.Omega.{arith}
 use borrow.Author.Needs.{needs}
-use Rattle.model_files.proofs.ModelReading.{forbiddens-small}
+use Rattle.files.proofs.ModelReading.{forbiddens-small}
 use Rattle.model_files.proofs.cuts_from.Statement.{statement}
 use Rattle.model_files.proofs.cuts_from.Tie as tie
 

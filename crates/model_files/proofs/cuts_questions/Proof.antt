@@ -3,7 +3,7 @@ use mathlib.Core.Path.{sym, _∙_}
 use Prim.Native.Nat.{_-_}
 use native.Mathlib.Omega.{arith}
 use lib.ListN.{length}
-use Rattle.model_files.proofs.Cuts.{CutYes, cut-yes}
+use Rattle.files.proofs.Cuts.{CutYes, cut-yes}
 use Rattle.model_files.proofs.CutTurns.{is-there, CutsAsked, asked-none, asked-stop, asked-more, asked-all}
 use Rattle.model_files.proofs.cuts_questions.Statement.{statement}
 use Rattle.model_files.proofs.cuts_questions.Tie as tie

@@ -3,8 +3,9 @@ use mathlib.Core.Path.{ap, _∙_}
 use native.Mathlib.Omega.{arith}
 use lib.ListN.{length}
 use borrow.Author.Needs.{needs}
-use Rattle.model_files.proofs.FirstField.{length-head}
-use Rattle.model_files.proofs.ModelReading.{body-passed, cuts-ready, all-filled}
+use Rattle.files.proofs.FirstField.{length-head}
+use Rattle.files.proofs.ModelReading.{body-passed, all-filled}
+use Rattle.model_files.proofs.Filling.{cuts-ready}
 use Rattle.model_files.proofs.fill.Statement.{statement}
 use Rattle.model_files.proofs.fill.Tie as tie
 

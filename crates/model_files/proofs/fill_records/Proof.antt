@@ -5,9 +5,11 @@ use native.Mathlib.Omega.{arith}
 use lib.IntN.{ℤ}
 use lib.ListN.{length}
 use Rattle.integers.specs.Words.{onto}
-use Rattle.records.proofs.Positions.{head-first}
-use Rattle.model_files.proofs.FirstField.{length-head}
-use Rattle.model_files.proofs.ModelReading.{body-passed, locations-ready, switches-ready, forbiddens-ready, locations-at, filled}
+use Rattle.plant.proofs.Positions.{head-first}
+use Rattle.files.proofs.FirstField.{length-head}
+use Rattle.files.proofs.ModelReading.{body-passed, filled}
+use Rattle.model_files.proofs.Filling.{locations-ready, switches-ready, forbiddens-ready}
+use Rattle.plant.proofs.Heads.{locations-at}
 use borrow.Author.Needs.{needs}
 use Rattle.model_files.proofs.fill_records.Statement.{statement}
 use Rattle.model_files.proofs.fill_records.Tie as tie

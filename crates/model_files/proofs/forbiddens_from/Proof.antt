@@ -1,7 +1,7 @@
 -- After the fields of the switches.
 use native.Mathlib.Omega.{arith}
 use borrow.Author.Needs.{needs}
-use Rattle.model_files.proofs.ModelReading.{switches-small}
+use Rattle.files.proofs.ModelReading.{switches-small}
 use Rattle.model_files.proofs.forbiddens_from.Statement.{statement}
 use Rattle.model_files.proofs.forbiddens_from.Tie as tie
 

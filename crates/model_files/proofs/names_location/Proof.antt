@@ -1,7 +1,7 @@
 -- The field is read only if it is there.
 use mathlib.Core.Path.{sym}
 use native.Mathlib.Omega.{arith}
-use Rattle.model_files.proofs.Cuts.{not-named}
+use Rattle.files.proofs.Cuts.{not-named}
 use Rattle.model_files.proofs.CutTurns.{by-location}
 use Rattle.model_files.proofs.names_location.Statement.{statement}
 use Rattle.model_files.proofs.names_location.Tie as tie

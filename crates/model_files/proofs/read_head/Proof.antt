@@ -3,7 +3,7 @@ use mathlib.Core.Path.{_∙_}
 use native.Mathlib.Omega.{arith}
 use borrow.Author.Needs.{needs}
 use Rattle.integers.proofs.Signed.{got32}
-use Rattle.model_files.proofs.FirstField.{first-field, head-read}
+use Rattle.files.proofs.FirstField.{first-field, head-read}
 use Rattle.model_files.proofs.read_head.Statement.{statement}
 use Rattle.model_files.proofs.read_head.Tie as tie
 

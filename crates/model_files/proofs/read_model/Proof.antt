@@ -9,15 +9,15 @@ use lib.Dec.{T}
 use lib.IntN.{ℤ}
 use lib.ListN.{length}
 use Rattle.integers.proofs.Buffers.{onto-all}
-use Rattle.wire.specs.Fields.{fieldAt}
+use Rattle.files.specs.Fields.{fieldAt}
 use Rattle.plant.specs.Ask.{ask, _then_}
 use Rattle.plant.specs.Questions.{rangesQuestions}
 use Rattle.plant.proofs.Asks.{ask-yes, go, halt, then-both, then-intro}
 use Rattle.plant.proofs.Reading.{refused-at, past}
-use Rattle.model.proofs.Passing.{head-passed}
-use Rattle.model_files.specs.ModelFile.{headWords, isHead, headQuestions, bufferQuestion, readRecords, readModelCall}
-use Rattle.model_files.proofs.FirstField.{length-head}
-use Rattle.model_files.proofs.ModelReading.{then-assoc, buffer-room}
+use Rattle.plant.proofs.Passing.{head-passed}
+use Rattle.files.specs.ModelFile.{headWords, isHead, headQuestions, bufferQuestion, readRecords, readModelCall}
+use Rattle.files.proofs.FirstField.{length-head}
+use Rattle.files.proofs.ModelReading.{then-assoc, buffer-room}
 use Rattle.model_files.proofs.read_model.Statement.{statement}
 use Rattle.model_files.proofs.read_model.Tie as tie
 

@@ -9,9 +9,9 @@ use lib.Seq.{length-take-le}
 use Rattle.plant.proofs.Asks.{go, halt, then-intro}
 use Rattle.plant.specs.Questions.{recordsQuestions}
 use Rattle.plant.proofs.Reading.{refused-at, past}
-use Rattle.model_files.specs.ModelFile.{fileWords, recordsFileQuestions}
-use Rattle.model_files.proofs.FirstField.{length-head}
-use Rattle.model_files.proofs.ModelReading.{file-whole, front-of}
+use Rattle.files.specs.ModelFile.{fileWords, recordsFileQuestions}
+use Rattle.files.proofs.FirstField.{length-head}
+use Rattle.files.proofs.ModelReading.{file-whole, front-of}
 use Rattle.model_files.proofs.read_records.Statement.{statement}
 use Rattle.model_files.proofs.read_records.Tie as tie
 

@@ -1,19 +1,18 @@
 -- Field i begins at fieldPlace from w i, and the fields before it have passed.
 use mathlib.Core.List.{List}
 use mathlib.Core.Path.{_≡_, sym, ap, ap₂, _∙_}
-use Prim.Native.Nat.{ℕ, _+_, _*_, _-_, _≤_}
+use Prim.Native.Nat.{ℕ, _+_, _-_, _≤_}
 use native.Mathlib.Nat.{add-mul}
 use native.Mathlib.Omega.{arith}
 use borrow.Author.Needs.{needs}
 use lib.Dec.{T}
-use lib.ListN.{length}
-use Rattle.wire.specs.Fields.{payloadLength, fieldLength, fieldPlace, fieldAt, isField}
-use Rattle.wire.specs.declared.Field.{Field}
-use Rattle.wire.proofs.Fields.{Lies, field-lies, due-given, due-whole}
+use Rattle.files.specs.Fields.{payloadLength, fieldLength, fieldPlace, fieldAt, isField}
+use Rattle.files.specs.declared.Field.{Field}
+use Rattle.files.proofs.Fields.{due-given, due-whole}
 use Rattle.plant.proofs.Asks.{first-none, run-stop, run-more, run-end}
 use Rattle.plant.specs.Ask.{first}
-use Rattle.model_files.specs.ModelFile.{fieldQuestions, runQuestions}
-use Rattle.model_files.proofs.ModelReading.{field-passed}
+use Rattle.files.specs.ModelFile.{fieldQuestions, runQuestions}
+use Rattle.files.proofs.ModelReading.{field-passed}
 use Rattle.model_files.proofs.run_questions.Statement.{statement}
 use Rattle.model_files.proofs.run_questions.Tie as tie
 

@@ -2,7 +2,7 @@
 use mathlib.Core.Path.{sym, _∙_}
 use borrow.Author.Needs.{needs}
 use Rattle.plant.proofs.Asks.{go, halt}
-use Rattle.model.proofs.Passing.{head-passed}
+use Rattle.plant.proofs.Passing.{head-passed}
 use Rattle.model_files.proofs.sizes_questions.Statement.{statement}
 use Rattle.model_files.proofs.sizes_questions.Tie as tie
 

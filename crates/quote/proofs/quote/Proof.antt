@@ -1,7 +1,7 @@
 -- Refused by the model's number, or the three figures.
 use mathlib.Core.Path.{_≡_, sym, _∙_}
 use Rattle.plant.specs.Questions.{modelQuestions}
-use Rattle.passes.proofs.PartWords.{whole}
+use Rattle.plant.proofs.Passing.{whole}
 use Rattle.quote.proofs.Calls.{quote-refused, quote-at-most}
 use borrow.Author.Needs.{needs}
 use Rattle.quote.proofs.quote.Statement.{statement}

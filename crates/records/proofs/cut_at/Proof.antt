@@ -2,7 +2,7 @@
 use native.Mathlib.Omega.{arith}
 use borrow.Author.Needs.{needs}
 use Rattle.plant.specs.Model.{cutAt}
-use Rattle.records.proofs.Positions.{forbidden-small}
+use Rattle.plant.proofs.Positions.{forbidden-small}
 use Rattle.records.proofs.cut_at.Statement.{statement}
 use Rattle.records.proofs.cut_at.Tie as tie
 

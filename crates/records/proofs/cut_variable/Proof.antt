@@ -5,7 +5,7 @@ use borrow.Author.Needs.{needs}
 use Rattle.integers.specs.Words.{word}
 use Rattle.integers.proofs.Signed.{got32}
 use Rattle.plant.specs.Model as M
-use Rattle.records.proofs.Positions.{cut-within}
+use Rattle.plant.proofs.Positions.{cut-within}
 use Rattle.records.proofs.cut_variable.Statement.{statement}
 use Rattle.records.proofs.cut_variable.Tie as tie
 

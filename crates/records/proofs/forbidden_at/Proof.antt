@@ -2,7 +2,7 @@
 use native.Mathlib.Omega.{arith}
 use borrow.Author.Needs.{needs}
 use Rattle.plant.specs.Model.{forbiddenAt}
-use Rattle.records.proofs.Positions.{switch-small, forbiddens-small}
+use Rattle.plant.proofs.Positions.{switch-small, forbiddens-small}
 use Rattle.records.proofs.forbidden_at.Statement.{statement}
 use Rattle.records.proofs.forbidden_at.Tie as tie
 

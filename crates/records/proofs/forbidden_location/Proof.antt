@@ -2,7 +2,7 @@
 use native.Mathlib.Omega.{arith}
 use borrow.Author.Needs.{needs}
 use Rattle.plant.specs.Model as M
-use Rattle.records.proofs.Positions.{forbidden-within}
+use Rattle.plant.proofs.Positions.{forbidden-within}
 use Rattle.records.proofs.forbidden_location.Statement.{statement}
 use Rattle.records.proofs.forbidden_location.Tie as tie
 

@@ -2,7 +2,7 @@
 use native.Mathlib.Omega.{arith}
 use borrow.Author.Needs.{needs}
 use Rattle.plant.specs.Model.{locationAt}
-use Rattle.records.proofs.Positions.{locations-small}
+use Rattle.plant.proofs.Positions.{locations-small}
 use Rattle.records.proofs.location_at.Statement.{statement}
 use Rattle.records.proofs.location_at.Tie as tie
 

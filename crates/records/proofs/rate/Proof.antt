@@ -2,7 +2,7 @@
 use native.Mathlib.Omega.{arith}
 use borrow.Author.Needs.{needs}
 use Rattle.plant.specs.Model as M
-use Rattle.records.proofs.Positions.{location-within}
+use Rattle.plant.proofs.Positions.{location-within}
 use Rattle.records.proofs.rate.Statement.{statement}
 use Rattle.records.proofs.rate.Tie as tie
 

@@ -2,7 +2,7 @@
 use native.Mathlib.Omega.{arith}
 use borrow.Author.Needs.{needs}
 use Rattle.plant.specs.Model as M
-use Rattle.records.proofs.Positions.{switch-within}
+use Rattle.plant.proofs.Positions.{switch-within}
 use Rattle.records.proofs.reset.Statement.{statement}
 use Rattle.records.proofs.reset.Tie as tie
 

@@ -3,7 +3,7 @@ use native.Mathlib.Nat.{add-zero}
 use native.Mathlib.Omega.{arith}
 use borrow.Author.Needs.{needs}
 use Rattle.plant.specs.Model as M
-use Rattle.records.proofs.Positions.{switch-within}
+use Rattle.plant.proofs.Positions.{switch-within}
 use Rattle.records.proofs.source.Statement.{statement}
 use Rattle.records.proofs.source.Tie as tie
 

@@ -5,7 +5,7 @@ use lib.ListN.{length}
 use borrow.Author.Needs.{needs}
 use Rattle.integers.proofs.Signed.{got32}
 use Rattle.plant.specs.Questions as Q
-use Rattle.records.proofs.Positions as at
+use Rattle.plant.proofs.Positions as at
 use Rattle.records.proofs.source_wall.Statement.{statement}
 use Rattle.records.proofs.source_wall.Tie as tie
 

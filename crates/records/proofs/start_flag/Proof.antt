@@ -6,7 +6,7 @@ use borrow.Author.Needs.{needs}
 use Rattle.integers.specs.Words.{word}
 use Rattle.integers.proofs.Signed.{got32}
 use Rattle.plant.specs.Model as M
-use Rattle.records.proofs.Positions.{location-within}
+use Rattle.plant.proofs.Positions.{location-within}
 use Rattle.records.proofs.start_flag.Statement.{statement}
 use Rattle.records.proofs.start_flag.Tie as tie
 

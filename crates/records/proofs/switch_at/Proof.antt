@@ -2,7 +2,7 @@
 use native.Mathlib.Omega.{arith}
 use borrow.Author.Needs.{needs}
 use Rattle.plant.specs.Model.{switchAt}
-use Rattle.records.proofs.Positions.{location-small, switches-small}
+use Rattle.plant.proofs.Positions.{location-small, switches-small}
 use Rattle.records.proofs.switch_at.Statement.{statement}
 use Rattle.records.proofs.switch_at.Tie as tie
 

@@ -1,10 +1,8 @@
 -- The loop has written where the first i variables land, and tested the order of both cuts; what is left of the mask begins with bit i.
-use mathlib.Core.Path.{_≡_, refl, sym, ap₂, _∙_}
-use mathlib.Core.Bool.{Bool, _&&_}
-use mathlib.Core.List.{List}
+use mathlib.Core.Path.{_≡_, refl, sym, _∙_}
+use mathlib.Core.Bool.{_&&_}
 use Prim.Native.Nat.{_+_, _*_, _-_, _/_, _^_, _≤_, _<_}
 use native.Mathlib.Omega.{arith}
-use lib.IntN.{ℤ}
 use lib.Signed.{leZ}
 use lib.ListN.{length, length-set}
 use borrow.Author.Needs.{needs}

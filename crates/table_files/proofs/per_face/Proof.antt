@@ -2,7 +2,7 @@
 use mathlib.Core.Path.{sym, _∙_}
 use borrow.Author.Needs.{needs}
 use Rattle.plant.proofs.Pieces.{one-piece}
-use Rattle.table_files.proofs.PlaceWords.{uncut-by-size}
+use Rattle.files.proofs.PlaceWords.{uncut-by-size}
 use Rattle.table_files.proofs.per_face.Statement.{statement}
 use Rattle.table_files.proofs.per_face.Tie as tie
 

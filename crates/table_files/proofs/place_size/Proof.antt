@@ -2,7 +2,7 @@
 use Prim.Native.Nat.{_-_, _≤_}
 use native.Mathlib.Omega.{arith}
 use borrow.Author.Needs.{needs}
-use Rattle.table_files.proofs.PlaceWords.{noneCut, none-cut, none-more, cut-found, none-all}
+use Rattle.files.proofs.PlaceWords.{noneCut, none-cut, none-more, cut-found, none-all}
 use Rattle.table_files.proofs.place_size.Statement.{statement}
 use Rattle.table_files.proofs.place_size.Tie as tie
 

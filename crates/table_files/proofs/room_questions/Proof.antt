@@ -5,8 +5,8 @@ use borrow.Author.Needs.{needs}
 use lib.Dec.{leb}
 use Rattle.plant.proofs.Asks.{go, halt}
 use Rattle.plant.specs.Ask.{ask}
-use Rattle.passes.proofs.PartWords.{whole}
-use Rattle.table_files.specs.TableFile.{roomQuestions}
+use Rattle.plant.proofs.Passing.{whole}
+use Rattle.files.specs.TableFile.{roomQuestions}
 use Rattle.table_files.proofs.room_questions.Statement.{statement}
 use Rattle.table_files.proofs.room_questions.Tie as tie
 

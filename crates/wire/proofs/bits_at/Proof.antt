@@ -1,5 +1,5 @@
 -- The bytes are those of the file.
-use Rattle.wire.specs.Bytes.{bitsAt}
+use Rattle.files.specs.Bytes.{bitsAt}
 use borrow.Author.Needs.{needs}
 use Rattle.wire.proofs.bits_at.Statement.{statement}
 use Rattle.wire.proofs.bits_at.Tie as tie

@@ -10,9 +10,9 @@ use mir.Facts.{toZ-ofZ}
 use mir.Syntax.{w32}
 use borrow.Author.Needs.{sfits-of}
 use Rattle.integers.specs.Words.{onto}
-use Rattle.wire.specs.Bytes.{wordAt, wordsAt}
+use Rattle.files.specs.Bytes.{wordAt, wordsAt}
 use Rattle.integers.proofs.Buffers.{onto-start, onto-set}
-use Rattle.wire.proofs.Words.{length-words, words-more, words-none}
+use Rattle.files.proofs.Words.{length-words, words-more, words-none}
 use Rattle.wire.proofs.copy_words.Statement.{statement}
 use Rattle.wire.proofs.copy_words.Tie as tie
 

@@ -1,6 +1,6 @@
 -- Each way out is a case of the definition.
 use native.Mathlib.Omega.{arith}
-use Rattle.wire.proofs.Fields.{field-short, field-cut, field-whole}
+use Rattle.files.proofs.Fields.{field-short, field-cut, field-whole}
 use borrow.Author.Needs.{needs}
 use Rattle.wire.proofs.field_at.Statement.{statement}
 use Rattle.wire.proofs.field_at.Tie as tie

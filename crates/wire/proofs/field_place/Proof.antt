@@ -1,10 +1,9 @@
 -- At most 1,536 fields of at most 151 bytes each.
-use mathlib.Core.Path.{_≡_, ap}
-use Prim.Native.Nat.{ℕ, _+_, _*_, _≤_}
+use Prim.Native.Nat.{_*_, _≤_}
 use native.Mathlib.Omega.{arith}
 use borrow.Author.Needs.{needs}
-use Rattle.wire.specs.Fields.{fieldLength}
-use Rattle.wire.proofs.Fields.{place-small}
+use Rattle.files.specs.Fields.{fieldLength}
+use Rattle.files.proofs.Fields.{place-small}
 use Rattle.wire.proofs.field_place.Statement.{statement}
 use Rattle.wire.proofs.field_place.Tie as tie
 

@@ -37,13 +37,13 @@ use denote.Triple.Table.{entered, cited}
 use denote.Triple.Walked.{says, Stays, stay-none, stay-none-slice, walkOf, goes-none, goes-none-slice, Walks, ends-at, walked, walk-meets}
 use denote.Exit.{yes}
 use denote.Triple.Clauses.{ensured, lasts}
-use Rattle.wire.specs.Fields.{fieldAt}
+use Rattle.files.specs.Fields.{fieldAt}
 use Rattle.wire.specs.declared.Cursor.{Cursor}
-use Rattle.wire.specs.declared.Field.{Field}
+use Rattle.files.specs.declared.Field.{Field}
 use Rattle.wire.proofs.Cursor as T
 use Rattle.wire.proofs.Cursor.Laws as T′
-use Rattle.wire.proofs.Field as S
-use Rattle.wire.proofs.Field.Laws as S′
+use Rattle.files.proofs.Field as S
+use Rattle.files.proofs.Field.Laws as S′
 use Rattle.wire.proofs.cursor_at as cursor-at
 use Rattle.wire.proofs.cursor_at.Symbol as cursor-def
 use Rattle.wire.proofs.cursor_at.Symbol.{name as #wire·cursor-at}

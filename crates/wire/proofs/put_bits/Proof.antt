@@ -1,7 +1,7 @@
 -- Four stores, each of a byte.
 use native.Mathlib.Omega.{arith}
 use lib.ListN.{length-set}
-use Rattle.wire.proofs.Buffers.{set-four}
+use Rattle.integers.proofs.Filling.{set-four}
 use borrow.Author.Needs.{needs}
 use Rattle.wire.proofs.put_bits.Statement.{statement}
 use Rattle.wire.proofs.put_bits.Tie as tie

@@ -1,7 +1,7 @@
 -- Three stores, each of a byte.
 use native.Mathlib.Omega.{arith}
 use lib.ListN.{length-set}
-use Rattle.wire.proofs.Buffers.{set-three}
+use Rattle.integers.proofs.Filling.{set-three}
 use borrow.Author.Needs.{needs}
 use Rattle.wire.proofs.put_header.Statement.{statement}
 use Rattle.wire.proofs.put_header.Tie as tie

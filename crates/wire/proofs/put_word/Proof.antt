@@ -7,7 +7,7 @@ use mir.Facts.{toZ-ofZ}
 use mir.Syntax.{w32}
 use mir.Val.{ofZ}
 use Rattle.integers.specs.Words.{onto}
-use Rattle.wire.specs.Bytes.{bitsBytes, wordBytes}
+use Rattle.files.specs.Bytes.{bitsBytes, wordBytes}
 use borrow.Author.Needs.{needs}
 use Rattle.wire.proofs.put_word.Statement.{statement}
 use Rattle.wire.proofs.put_word.Tie as tie

@@ -9,9 +9,9 @@ use mir.Facts.{toZ-ofZ}
 use mir.Syntax.{w32}
 use borrow.Author.Needs.{sfits-of}
 use Rattle.integers.specs.Words.{onto}
-use Rattle.wire.specs.Bytes.{wordsBytes, part}
+use Rattle.files.specs.Bytes.{wordsBytes, part}
 use Rattle.integers.proofs.Buffers.{onto-start}
-use Rattle.wire.proofs.Words.{bytes-none, put-turn}
+use Rattle.files.proofs.Words.{bytes-none, put-turn}
 use Rattle.wire.proofs.put_words.Statement.{statement}
 use Rattle.wire.proofs.put_words.Tie as tie
 

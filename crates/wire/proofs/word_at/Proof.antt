@@ -2,7 +2,7 @@
 use mir.Syntax.{w32}
 use mir.Facts.{toZ-ofZ}
 use borrow.Author.Needs.{sfits-of}
-use Rattle.wire.specs.Bytes.{wordAt}
+use Rattle.files.specs.Bytes.{wordAt}
 use borrow.Author.Needs.{needs}
 use Rattle.wire.proofs.word_at.Statement.{statement}
 use Rattle.wire.proofs.word_at.Tie as tie

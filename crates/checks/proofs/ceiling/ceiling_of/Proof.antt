@@ -7,7 +7,7 @@ use Rattle.checks.proofs.Loops.{sum-none, sum-more}
 use Rattle.checks.proofs.Counts.{ceilingAt, ceiling-is}
 use native.Mathlib.Omega.{arith}
 use Rattle.plant.proofs.Passed.{passed}
-use Rattle.passes.proofs.PartWords.{whole}
+use Rattle.plant.proofs.Passing.{whole}
 use Rattle.checks.proofs.ceiling.ceiling_of.Statement.{statement}
 use Rattle.checks.proofs.ceiling.ceiling_of.Tie as tie
 

@@ -12,7 +12,8 @@ use Rattle.delays.specs.Ranges.{Levels}
 use Rattle.plant.specs.Model.{n#, invariant, cutVariable}
 use Rattle.plant.specs.Tables.{width, allWidths, otherWidths, uncutCeiling}
 use Rattle.plant.proofs.Passed.{Passed, passed, IsCut}
-use Rattle.passes.proofs.PartWords.{whole, invariant-in}
+use Rattle.plant.proofs.Passing.{whole}
+use Rattle.passes.proofs.PartWords.{invariant-in}
 use Rattle.checks.proofs.Extents.{cut-words}
 use Rattle.checks.proofs.Widths.{widths-small}
 use Rattle.checks.proofs.Counts.{with-others, adds-uncut, adds-cut}

@@ -4,7 +4,7 @@ use Prim.Native.Nat.{ℕ, _-_, _<_, _≤_}
 use native.Mathlib.Omega.{arith}
 use Rattle.plant.specs.Model.{B#}
 use Rattle.plant.proofs.Passed.{passed}
-use Rattle.passes.proofs.PartWords.{whole}
+use Rattle.plant.proofs.Passing.{whole}
 use Rattle.checks.specs.Links.{Linked}
 use Rattle.checks.proofs.Links.{one-linked}
 use Rattle.checks.proofs.touch.link.Statement.{statement}

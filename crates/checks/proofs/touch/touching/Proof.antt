@@ -16,7 +16,7 @@ use Rattle.plant.proofs.Tables.{pieces-most}
 use Rattle.tables.proofs.Sizes.{before-most}
 use Rattle.plant.proofs.Passed.{Passed}
 use Rattle.passes.specs.Checked.{Checked}
-use Rattle.passes.proofs.PartWords.{whole}
+use Rattle.plant.proofs.Passing.{whole}
 use Rattle.passes.proofs.Reading.{model-passed}
 use Rattle.checks.specs.Links.{lastBox}
 use Rattle.checks.proofs.Links.{last-within}

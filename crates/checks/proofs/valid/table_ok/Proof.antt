@@ -8,7 +8,7 @@ use Rattle.plant.specs.Tables.{pieceOk, tableOk}
 use Rattle.checks.proofs.Loops.{all-none, all-more}
 use native.Mathlib.Omega.{arith}
 use Rattle.plant.proofs.Passed.{passed}
-use Rattle.passes.proofs.PartWords.{whole}
+use Rattle.plant.proofs.Passing.{whole}
 use Rattle.checks.proofs.valid.table_ok.Statement.{statement}
 use Rattle.checks.proofs.valid.table_ok.Tie as tie
 

@@ -1,6 +1,6 @@
 -- The answer has its reply, and both buffers are the analysis's.
 use borrow.Author.Needs.{needs}
-use Rattle.host.proofs.ForC.{is-analysed}
+use Rattle.interface.proofs.ForC.{is-analysed}
 use Rattle.host.proofs.calls.qii_analyse.Statement.{statement}
 use Rattle.host.proofs.calls.qii_analyse.Tie as tie
 

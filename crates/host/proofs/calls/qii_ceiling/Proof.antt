@@ -2,7 +2,7 @@
 use mathlib.Core.Path.{sym, ap, _∙_}
 use borrow.Author.Needs.{needs}
 use Rattle.plant.specs.Calls.{ceilingReply}
-use Rattle.host.proofs.ForC.{is-reply}
+use Rattle.interface.proofs.ForC.{is-reply}
 use Rattle.host.proofs.calls.qii_ceiling.Statement.{statement}
 use Rattle.host.proofs.calls.qii_ceiling.Tie as tie
 

@@ -1,6 +1,6 @@
 -- The answer has its reply; both counters and both buffers are the desk call's.
 use borrow.Author.Needs.{needs}
-use Rattle.host.proofs.ForC.{is-served}
+use Rattle.interface.proofs.ForC.{is-served}
 use Rattle.host.proofs.calls.qii_desk.Statement.{statement}
 use Rattle.host.proofs.calls.qii_desk.Tie as tie
 

@@ -1,8 +1,8 @@
 -- Each case of the quote has its reply.
 use mathlib.Core.Path.{sym, ap, _∙_}
 use borrow.Author.Needs.{needs}
-use Rattle.quote.specs.Quotes.{quoteReply}
-use Rattle.host.proofs.ForC.{is-quote}
+use Rattle.orders.specs.Quotes.{quoteReply}
+use Rattle.interface.proofs.ForC.{is-quote}
 use Rattle.host.proofs.calls.qii_quote.Statement.{statement}
 use Rattle.host.proofs.calls.qii_quote.Tie as tie
 

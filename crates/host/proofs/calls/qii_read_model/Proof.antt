@@ -1,6 +1,6 @@
 -- The count has its reply, and the words are the reader's.
 use borrow.Author.Needs.{needs}
-use Rattle.host.proofs.ForC.{is-read}
+use Rattle.interface.proofs.ForC.{is-read}
 use Rattle.host.proofs.calls.qii_read_model.Statement.{statement}
 use Rattle.host.proofs.calls.qii_read_model.Tie as tie
 

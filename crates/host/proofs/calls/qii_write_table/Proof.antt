@@ -1,6 +1,6 @@
 -- The count has its reply, and the bytes are the writer's.
 use borrow.Author.Needs.{needs}
-use Rattle.host.proofs.ForC.{is-written}
+use Rattle.interface.proofs.ForC.{is-written}
 use Rattle.host.proofs.calls.qii_write_table.Statement.{statement}
 use Rattle.host.proofs.calls.qii_write_table.Tie as tie
 

@@ -9,11 +9,11 @@ use Rattle.integers.specs.Words.{eqZ}
 use Rattle.integers.specs.Counted.{cat}
 use Rattle.integers.proofs.Signed.{got32}
 use Rattle.integers.proofs.Buffers.{cat-none}
-use Rattle.wire.specs.Fields.{fieldLength}
+use Rattle.files.specs.Fields.{fieldLength}
 use Rattle.plant.specs.Model.{cutVariable}
-use Rattle.model_files.specs.ModelFile.{cutFieldSize}
-use Rattle.model_files.specs.Room.{cutFieldOf}
-use Rattle.model_files.proofs.ModelWriting.{cut-le, cuts-le, cuts-more, cuts-all}
+use Rattle.files.specs.ModelFile.{cutFieldSize}
+use Rattle.files.proofs.ModelLength.{cutFieldOf, cut-le, cuts-le}
+use Rattle.model_files.proofs.ModelWriting.{cuts-more, cuts-all}
 use Rattle.model_files.proofs.writing.cuts_length.Statement.{statement}
 use Rattle.model_files.proofs.writing.cuts_length.Tie as tie
 

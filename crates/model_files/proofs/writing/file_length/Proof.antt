@@ -3,8 +3,8 @@ use mathlib.Core.Path.{sym, ap₂, _∙_}
 use Prim.Native.Nat.{_+_}
 use native.Mathlib.Omega.{arith}
 use borrow.Author.Needs.{needs}
-use Rattle.model_files.proofs.ModelReading.{cuts-small}
-use Rattle.model_files.proofs.ModelWriting.{cuts-most, file-length}
+use Rattle.files.proofs.ModelReading.{cuts-small}
+use Rattle.files.proofs.ModelLength.{cuts-most, file-length}
 use Rattle.model_files.proofs.writing.file_length.Statement.{statement}
 use Rattle.model_files.proofs.writing.file_length.Tie as tie
 

@@ -10,10 +10,10 @@ use mir.Facts.{toZ-pos}
 use mir.Syntax.{w32}
 use Rattle.integers.specs.Words.{word, eqZ}
 use Rattle.integers.proofs.Signed.{got32}
-use Rattle.wire.specs.Fields.{fieldLength}
+use Rattle.files.specs.Fields.{fieldLength}
 use Rattle.plant.specs.Model.{cutSize, cutAt, cutVariable}
-use Rattle.records.proofs.Positions.{cut-within}
-use Rattle.model_files.specs.ModelFile.{cutFieldSize}
+use Rattle.plant.proofs.Positions.{cut-within}
+use Rattle.files.specs.ModelFile.{cutFieldSize}
 use Rattle.model_files.proofs.ModelWriting.{cut-skip, skip-next, cut-next, cut-put}
 use Rattle.model_files.proofs.writing.put_cut.Statement.{statement}
 use Rattle.model_files.proofs.writing.put_cut.Tie as tie

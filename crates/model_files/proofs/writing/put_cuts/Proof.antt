@@ -1,9 +1,9 @@
 -- The invariant: the fields of the cuts of the locations passed stand behind those of the records, and end at the position.
 use Prim.Native.Nat.{_-_, _≤_}
 use native.Mathlib.Omega.{arith}
-use Rattle.wire.proofs.Buffers.{Written, written-none, written-more}
-use Rattle.model_files.specs.ModelFile.{cutsFrom}
-use Rattle.model_files.specs.Room.{cutFieldOf}
+use Rattle.integers.proofs.Filling.{Written, written-none, written-more}
+use Rattle.files.specs.ModelFile.{cutsFrom}
+use Rattle.files.proofs.ModelLength.{cutFieldOf}
 use Rattle.model_files.proofs.ModelWriting.{cuts-room, cut-place, cut-room, cuts-written}
 use Rattle.model_files.proofs.writing.put_cuts.Statement.{statement}
 use Rattle.model_files.proofs.writing.put_cuts.Tie as tie

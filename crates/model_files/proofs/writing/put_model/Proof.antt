@@ -1,7 +1,8 @@
 -- The records, then the cuts behind them.
 use mathlib.Core.Path.{sym, _∙_}
 use borrow.Author.Needs.{needs}
-use Rattle.model_files.proofs.ModelWriting.{file-length, file-put}
+use Rattle.files.proofs.ModelLength.{file-length}
+use Rattle.model_files.proofs.ModelWriting.{file-put}
 use Rattle.model_files.proofs.writing.put_model.Statement.{statement}
 use Rattle.model_files.proofs.writing.put_model.Tie as tie
 

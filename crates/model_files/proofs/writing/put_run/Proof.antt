@@ -4,7 +4,7 @@ use Prim.Native.Nat.{ℕ, _+_, _*_, _-_, _≤_}
 use native.Mathlib.Omega.{arith}
 use borrow.Author.Needs.{needs}
 use lib.ListN.{length}
-use Rattle.wire.proofs.Buffers.{Written, written-none, written-more}
+use Rattle.integers.proofs.Filling.{Written, written-none, written-more}
 use Rattle.model_files.specs.Room.{fieldOf}
 use Rattle.model_files.proofs.ModelWriting.{length-record, run-room, run-place, record-room, run-written}
 use Rattle.model_files.proofs.writing.put_run.Statement.{statement}

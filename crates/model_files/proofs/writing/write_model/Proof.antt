@@ -2,7 +2,7 @@
 use mathlib.Core.Path.{sym, _∙_}
 use borrow.Author.Needs.{needs}
 use Rattle.plant.proofs.Writing.{write-refused, write-done}
-use Rattle.model_files.specs.ModelFile.{writeModelCall}
+use Rattle.files.specs.ModelFile.{writeModelCall}
 use Rattle.model_files.proofs.ModelWriting.{write-yes}
 use Rattle.model_files.proofs.writing.write_model.Statement.{statement}
 use Rattle.model_files.proofs.writing.write_model.Tie as tie

@@ -6,8 +6,8 @@ use lib.Dec.{leb}
 use Rattle.plant.specs.Ask.{ask}
 use Rattle.plant.proofs.Asks.{go, halt}
 use Rattle.plant.proofs.Passed.{passed}
-use Rattle.model.proofs.Passing.{whole-passed}
-use Rattle.model_files.specs.ModelFile.{writeModelQuestions}
+use Rattle.plant.proofs.Passing.{whole-passed}
+use Rattle.files.specs.ModelFile.{writeModelQuestions}
 use Rattle.model_files.proofs.writing.write_questions.Statement.{statement}
 use Rattle.model_files.proofs.writing.write_questions.Tie as tie
 

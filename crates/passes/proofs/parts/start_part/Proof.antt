@@ -4,8 +4,9 @@ use lib.IntN.{pos}
 use Rattle.integers.specs.Words.{eqZ}
 use Rattle.integers.proofs.Signed.{got32}
 use Rattle.plant.proofs.Passed.{Passed, passed}
-use Rattle.records.specs.Whole.{Whole}
-use Rattle.passes.proofs.PartWords.{whole, invariant-in, start-in, start-cut, start-none}
+use Rattle.plant.proofs.Whole.{Whole}
+use Rattle.plant.proofs.Passing.{whole}
+use Rattle.passes.proofs.PartWords.{invariant-in, start-in, start-cut, start-none}
 use borrow.Author.Needs.{needs}
 use Rattle.passes.proofs.parts.start_part.Statement.{statement}
 use Rattle.passes.proofs.parts.start_part.Tie as tie

@@ -8,7 +8,7 @@ use mir.Syntax.{w32}
 use mir.Val.{toZ, ofZ}
 use mir.Facts.{toZ-ofZ}
 use Rattle.plant.specs.Model.{L#, invariant, target, cutVariable, cutValue}
-use Rattle.records.specs.Whole.{Whole, Placed}
+use Rattle.plant.proofs.Whole.{Whole, Placed}
 use Rattle.passes.proofs.Reading.{whole, placed, switch-join, step-joined}
 use borrow.Author.Needs.{needs}
 use Rattle.passes.proofs.switches.join_from.Statement.{statement}

@@ -1,12 +1,11 @@
 -- An absent piece leaves the table as it is.
 use mathlib.Core.Path.{_≡_, sym, _∙_}
-use mathlib.Core.Bool.{false}
 use lib.IntN.{pos}
 use borrow.Author.Needs.{needs}
 use Rattle.integers.specs.Words.{word, eqZ}
 use Rattle.integers.proofs.Signed.{got32}
 use Rattle.plant.specs.Model.{n#}
-use Rattle.passes.proofs.Joined.{read-absent}
+use Rattle.plant.proofs.FaceWords.{read-absent}
 use Rattle.passes.proofs.Landing.{nothing-landed}
 use Rattle.passes.proofs.switches.land.Statement.{statement}
 use Rattle.passes.proofs.switches.land.Tie as tie

@@ -13,7 +13,7 @@ use Rattle.plant.specs.Pieces.{perFace}
 use Rattle.plant.specs.Tables.{tableBy}
 use Rattle.plant.proofs.Pieces.{per-face-most}
 use Rattle.plant.proofs.Tables.{table-length}
-use Rattle.records.specs.Whole.{Whole, Placed}
+use Rattle.plant.proofs.Whole.{Whole, Placed}
 use Rattle.passes.specs.Joining.{LandsOn, joinedBelow}
 use Rattle.passes.proofs.Reading.{whole, placed}
 use Rattle.passes.proofs.Landing.{joinedFrom, from-none, from-all, from-more, is-table}

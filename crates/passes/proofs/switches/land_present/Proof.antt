@@ -11,7 +11,7 @@ use mir.Facts.{toZ-ofZ}
 use Rattle.plant.specs.Model.{n#, L#, target, cutValue, cutFrom, cutOf}
 use Rattle.plant.specs.Pieces.{piecesPerFace, perFace}
 use Rattle.plant.specs.Tables.{faceSize, tableSize, piecesBefore, pieceAt, targetFace}
-use Rattle.records.specs.Whole.{Whole, Placed}
+use Rattle.plant.proofs.Whole.{Whole, Placed}
 use Rattle.passes.specs.Joining.{LandsOn}
 use Rattle.passes.proofs.PartWords.{place-is}
 use Rattle.passes.proofs.Reading.{whole, placed, target-face, place-small, table-small}

@@ -6,7 +6,7 @@ use Prim.Native.Nat.{ℕ, _*_, _≤_}
 use lib.ListN.{getD}
 use Rattle.plant.specs.Model.{L#}
 use Rattle.plant.specs.Tables.{piecesBefore}
-use Rattle.records.specs.Whole.{Whole}
+use Rattle.plant.proofs.Whole.{Whole}
 use Rattle.passes.specs.Joining.{NoCut}
 use Rattle.passes.proofs.Reading.{whole, no-cut}
 use borrow.Author.Needs.{needs}

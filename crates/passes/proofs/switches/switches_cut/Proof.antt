@@ -6,7 +6,7 @@ use lib.ListN.{length}
 use Rattle.plant.specs.Model.{E#}
 use Rattle.plant.specs.Tables.{tableBy, wallsJoined}
 use Rattle.plant.proofs.Tables.{table-length}
-use Rattle.records.specs.Whole.{Whole}
+use Rattle.plant.proofs.Whole.{Whole}
 use Rattle.passes.specs.Joining.{joinedBelow}
 use Rattle.passes.proofs.Reading.{whole}
 use Rattle.passes.proofs.Landing.{switches-none, switches-all}

@@ -8,7 +8,7 @@ use Rattle.plant.specs.Model.{E#, source}
 use Rattle.plant.specs.Pieces.{perFace}
 use Rattle.plant.specs.Tables.{tableBy, wallsJoined}
 use Rattle.plant.proofs.Tables.{table-length}
-use Rattle.records.specs.Whole.{Whole}
+use Rattle.plant.proofs.Whole.{Whole}
 use Rattle.passes.specs.Joining.{joinedBelow}
 use Rattle.passes.proofs.Reading.{whole, placed, lands-uncut}
 use Rattle.passes.proofs.Landing.{switches-none, switches-all, from-one, is-table}

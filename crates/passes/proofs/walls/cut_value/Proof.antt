@@ -2,7 +2,7 @@
 use mathlib.Core.Path.{sym}
 use native.Mathlib.Omega.{arith}
 use Rattle.plant.proofs.Passed.{passed}
-use Rattle.passes.proofs.PartWords.{whole}
+use Rattle.plant.proofs.Passing.{whole}
 use Rattle.passes.proofs.Reading.{uncut-value}
 use borrow.Author.Needs.{needs}
 use Rattle.passes.proofs.walls.cut_value.Statement.{statement}

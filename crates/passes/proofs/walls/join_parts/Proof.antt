@@ -11,7 +11,7 @@ use Rattle.plant.specs.Box.{joins}
 use Rattle.plant.specs.Pieces.{pieces}
 use Rattle.plant.specs.Tables.{pieceAt, pieceOf, partOf, wallFrom}
 use Rattle.plant.proofs.Tables.{pieces-most}
-use Rattle.records.specs.Whole.{Whole}
+use Rattle.plant.proofs.Whole.{Whole}
 use Rattle.tables.proofs.Sizes.{before-most}
 use Rattle.passes.specs.Joining.{Located, locationBy}
 use Rattle.passes.specs.Parts.{IsPart}

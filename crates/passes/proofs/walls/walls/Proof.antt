@@ -14,7 +14,7 @@ use Rattle.plant.specs.Pieces.{pieces}
 use Rattle.plant.specs.Tables.{tableSize, pieceAt}
 use Rattle.plant.proofs.PieceCases.{before-more}
 use Rattle.plant.proofs.Tables.{locationWords}
-use Rattle.records.specs.Whole.{Whole}
+use Rattle.plant.proofs.Whole.{Whole}
 use Rattle.passes.proofs.Blocks.{none-put, put-length, place-rest, one-put, all-put}
 use Rattle.passes.proofs.PartWords.{place-is}
 use Rattle.passes.proofs.Reading.{whole, old-location, locationsOf, locations-sized, all-locations, place-there, place-small, location-from, location-to, location-inside, table-small, table-within, table-sized}

@@ -1,6 +1,6 @@
 -- The count's word stands behind the head field's header.
 use native.Mathlib.Omega.{arith}
-use Rattle.table_files.specs.TableFile.{countWord}
+use Rattle.files.specs.TableFile.{countWord}
 use Rattle.table_files.proofs.reading.count_of.Statement.{statement}
 use Rattle.table_files.proofs.reading.count_of.Tie as tie
 

@@ -6,10 +6,10 @@ use borrow.Author.Tests.{not-true, not-false}
 use borrow.Author.Needs.{needs}
 use lib.IntN.{pos}
 use Rattle.integers.specs.Words.{within}
-use Rattle.wire.specs.Bytes.{wordAt}
-use Rattle.wire.specs.Fields.{fieldAt, isField}
-use Rattle.wire.specs.declared.Field.{Field}
-use Rattle.table_files.proofs.TableWriting.{pieces-few}
+use Rattle.files.specs.Bytes.{wordAt}
+use Rattle.files.specs.Fields.{fieldAt, isField}
+use Rattle.files.specs.declared.Field.{Field}
+use Rattle.files.proofs.TableSizes.{pieces-few}
 use Rattle.table_files.proofs.TableReading.{count-refused, head-there, count-asked}
 use Rattle.table_files.proofs.reading.count_question.Statement.{statement}
 use Rattle.table_files.proofs.reading.count_question.Tie as tie

@@ -3,9 +3,9 @@ use mathlib.Core.Path.{sym, ap₂, _∙_}
 use Prim.Native.Nat.{ℕ}
 use native.Mathlib.Omega.{arith}
 use borrow.Author.Needs.{needs}
-use Rattle.wire.specs.Fields.{fieldPlace}
+use Rattle.files.specs.Fields.{fieldPlace}
 use Rattle.plant.proofs.Asks.{go, halt}
-use Rattle.table_files.specs.TableFile.{fieldsQuestions}
+use Rattle.files.specs.TableFile.{fieldsQuestions}
 use Rattle.table_files.proofs.TableWriting.{sizes-fit, size-is, size-few}
 use Rattle.table_files.proofs.TableReading.{counted-at, counted-few, fields-made}
 use Rattle.table_files.proofs.reading.fields_questions.Statement.{statement}

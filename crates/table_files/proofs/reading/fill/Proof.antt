@@ -5,15 +5,15 @@ use native.Mathlib.Omega.{arith}
 use borrow.Author.Needs.{needs}
 use lib.Dec.{T}
 use lib.ListN.{length}
-use Rattle.wire.specs.Fields.{headerSize, payloadLength, fieldAt, isField}
-use Rattle.wire.proofs.Fields.{due-given, due-whole}
+use Rattle.files.specs.Fields.{headerSize, payloadLength, fieldAt, isField}
+use Rattle.files.proofs.Fields.{due-given, due-whole}
 use Rattle.plant.specs.Model.{n#}
 use Rattle.plant.specs.Tables.{faceSize, tableSize, tableBy}
 use Rattle.tables.proofs.Faces.{table-most}
-use Rattle.table_files.specs.TableFile.{pieceFieldSize, count#, pieceFieldAt, fileFace}
+use Rattle.files.specs.TableFile.{pieceFieldSize, count#, pieceFieldAt, fileFace}
 use Rattle.table_files.specs.TableRoom.{KeyAt}
 use Rattle.table_files.proofs.TableReading.{row-length, asked-count, counted-at, count-few, ready-size, field-due, field-key, field-ends, place-is, place-inside, place-yes-at, place-next, table-none, table-put, table-size, table-end}
-use Rattle.table_files.proofs.TableAsked.{FieldsYes, fields-yes}
+use Rattle.files.proofs.TableAsked.{FieldsYes, fields-yes}
 use Rattle.table_files.proofs.reading.fill.Statement.{statement}
 use Rattle.table_files.proofs.reading.fill.Tie as tie
 

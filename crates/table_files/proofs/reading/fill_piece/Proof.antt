@@ -5,8 +5,8 @@ use native.Mathlib.Omega.{arith}
 use borrow.Author.Needs.{needs}
 use lib.IntN.{pos}
 use lib.ListN.{length-set}
-use Rattle.wire.specs.Bytes.{wordsAt}
-use Rattle.wire.proofs.Words.{length-words}
+use Rattle.files.specs.Bytes.{wordsAt}
+use Rattle.files.proofs.Words.{length-words}
 use Rattle.table_files.proofs.TableReading.{piece-filled}
 use Rattle.table_files.proofs.reading.fill_piece.Statement.{statement}
 use Rattle.table_files.proofs.reading.fill_piece.Tie as tie

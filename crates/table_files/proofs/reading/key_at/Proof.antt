@@ -4,9 +4,9 @@ use Prim.Native.Nat.{_+_, _*_}
 use native.Mathlib.Omega.{arith}
 use borrow.Author.Needs.{needs}
 use lib.ListN.{getD}
-use Rattle.wire.specs.Bytes.{wordsAt}
-use Rattle.table_files.specs.TableFile.{pieceFieldSize, pieceKey}
-use Rattle.table_files.proofs.PlaceWords.{place-least}
+use Rattle.files.specs.Bytes.{wordsAt}
+use Rattle.files.specs.TableFile.{pieceFieldSize, pieceKey}
+use Rattle.files.proofs.PlaceWords.{place-least}
 use Rattle.table_files.proofs.TableReading.{before-is, number-few, key-made, key-few}
 use Rattle.table_files.proofs.reading.key_at.Statement.{statement}
 use Rattle.table_files.proofs.reading.key_at.Tie as tie

@@ -10,14 +10,14 @@ use lib.IntN.{pos, natAbs}
 use Rattle.integers.specs.Words.{within}
 use Rattle.integers.proofs.Tests.{true-is}
 use Rattle.integers.proofs.Counted.{within-abs}
-use Rattle.wire.specs.Bytes.{wordsAt}
+use Rattle.files.specs.Bytes.{wordsAt}
 use Rattle.plant.specs.Model.{n#, L#}
 use Rattle.plant.specs.Pieces.{perFace}
 use Rattle.plant.proofs.Passed.{within-nonneg}
 use Rattle.plant.proofs.Pieces.{per-face-most, per-face-least}
-use Rattle.table_files.specs.TableFile.{pieceFieldSize, placeOk}
+use Rattle.files.specs.TableFile.{pieceFieldSize, placeOk}
 use Rattle.table_files.specs.TableRoom.{locationWord, faceWord, indexWord, KeyAt}
-use Rattle.table_files.proofs.PlaceWords.{place-least}
+use Rattle.files.proofs.PlaceWords.{place-least}
 use Rattle.table_files.proofs.TableReading.{place-no-location, place-no-face, place-no-piece, place-by-key, key-there, key-few, least-no, least-late, least-made}
 use Rattle.table_files.proofs.reading.next_least.Statement.{statement}
 use Rattle.table_files.proofs.reading.next_least.Tie as tie

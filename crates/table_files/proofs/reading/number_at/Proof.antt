@@ -1,5 +1,4 @@
 -- The word that a call gave is what stands in the file.
-use mathlib.Core.Path.{_∙_}
 use borrow.Author.Needs.{needs}
 use Rattle.integers.proofs.Signed.{got32}
 use Rattle.table_files.proofs.TableReading.{natural-of}

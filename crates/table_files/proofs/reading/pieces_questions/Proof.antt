@@ -7,13 +7,13 @@ use borrow.Author.Tests.{not-true, not-false}
 use borrow.Author.Needs.{needs}
 use lib.Dec.{T}
 use Rattle.integers.proofs.Tests.{true-is}
-use Rattle.wire.specs.Bytes.{wordsAt}
-use Rattle.wire.specs.Fields.{headerSize, payloadLength, fieldAt, isField}
-use Rattle.wire.specs.declared.Field.{Field}
-use Rattle.wire.proofs.Fields.{due-given, due-whole}
+use Rattle.files.specs.Bytes.{wordsAt}
+use Rattle.files.specs.Fields.{headerSize, payloadLength, fieldAt, isField}
+use Rattle.files.specs.declared.Field.{Field}
+use Rattle.files.proofs.Fields.{due-given, due-whole}
 use Rattle.plant.specs.Ask.{ask, first}
 use Rattle.plant.proofs.Asks.{first-none, run-stop, run-more, run-end}
-use Rattle.table_files.specs.TableFile.{pieceFieldSize, pieceFieldAt, leastKey, placeOk, pieceQuestion, pieceQuestions}
+use Rattle.files.specs.TableFile.{pieceFieldSize, pieceFieldAt, leastKey, placeOk, pieceQuestion, pieceQuestions}
 use Rattle.table_files.proofs.TableWriting.{sizes-fit, size-is, size-few}
 use Rattle.table_files.proofs.TableReading.{piece-refused, field-there, piece-answered, place-next, least-zero, least-above, least-next}
 use Rattle.table_files.proofs.reading.pieces_questions.Statement.{statement}

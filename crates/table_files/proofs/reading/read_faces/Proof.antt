@@ -5,7 +5,7 @@ use borrow.Author.Tests.{not-true, not-false}
 use borrow.Author.Needs.{needs}
 use Rattle.plant.specs.Tables.{tableOk}
 use Rattle.table_files.specs.TableRoom.{FieldsReady}
-use Rattle.passes.proofs.PartWords.{whole}
+use Rattle.plant.proofs.Passing.{whole}
 use Rattle.table_files.proofs.TableReading.{prefix-length, front-length, table-front, table-onto, table-zeroed, fields-refused, table-refused, table-read}
 use Rattle.table_files.proofs.reading.read_faces.Statement.{statement}
 use Rattle.table_files.proofs.reading.read_faces.Tie as tie

@@ -1,7 +1,7 @@
 -- A refusal by the model's questions or 20, and the rest.
 use mathlib.Core.Path.{sym, _∙_}
 use borrow.Author.Needs.{needs}
-use Rattle.table_files.proofs.TableAsked.{room-yes}
+use Rattle.files.proofs.TableAsked.{room-yes}
 use Rattle.table_files.proofs.TableReading.{room-refused, room-passed}
 use Rattle.table_files.proofs.reading.read_table.Statement.{statement}
 use Rattle.table_files.proofs.reading.read_table.Tie as tie

@@ -1,7 +1,8 @@
 -- A field for each piece, behind the head field.
 use native.Mathlib.Omega.{arith}
 use borrow.Author.Needs.{needs}
-use Rattle.table_files.proofs.TableWriting.{pieces-few, sizes-fit, size-few, longest-made}
+use Rattle.files.proofs.TableSizes.{pieces-few}
+use Rattle.table_files.proofs.TableWriting.{sizes-fit, size-few, longest-made}
 use Rattle.table_files.proofs.writing.longest_file.Statement.{statement}
 use Rattle.table_files.proofs.writing.longest_file.Tie as tie
 

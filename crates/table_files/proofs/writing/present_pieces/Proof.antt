@@ -6,7 +6,8 @@ use borrow.Author.Needs.{needs}
 use Rattle.integers.proofs.Signed.{got32}
 use Rattle.plant.specs.Model.{n#}
 use Rattle.plant.specs.Tables.{faceSize}
-use Rattle.table_files.proofs.TableWriting.{pieces-few, row-inside, row-few, count-few, next-row, countedBelow, counted-none, counted-more, counted-all}
+use Rattle.files.proofs.TableSizes.{pieces-few}
+use Rattle.table_files.proofs.TableWriting.{row-inside, row-few, count-few, next-row, countedBelow, counted-none, counted-more, counted-all}
 use Rattle.table_files.proofs.writing.present_pieces.Statement.{statement}
 use Rattle.table_files.proofs.writing.present_pieces.Tie as tie
 

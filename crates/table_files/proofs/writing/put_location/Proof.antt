@@ -4,8 +4,9 @@ use Prim.Native.Nat.{_-_, _≤_}
 use native.Mathlib.Omega.{arith}
 use borrow.Author.Needs.{needs}
 use Rattle.plant.proofs.Tables.{pieces-most}
-use Rattle.wire.proofs.Buffers.{Written, written-none, written-more}
-use Rattle.table_files.proofs.TableWriting.{location-counted, pieces-few, fieldsOf, location-room, piece-room, location-written}
+use Rattle.integers.proofs.Filling.{Written, written-none, written-more}
+use Rattle.files.proofs.TableSizes.{location-counted, pieces-few, fieldsOf}
+use Rattle.table_files.proofs.TableWriting.{location-room, piece-room, location-written}
 use Rattle.table_files.proofs.writing.put_location.Statement.{statement}
 use Rattle.table_files.proofs.writing.put_location.Tie as tie
 

@@ -7,12 +7,12 @@ use borrow.Author.Needs.{needs}
 use lib.ListN.{length}
 use Rattle.integers.specs.Words.{word}
 use Rattle.integers.proofs.Signed.{got32}
-use Rattle.wire.specs.Fields.{payloadLength}
+use Rattle.files.specs.Fields.{payloadLength}
 use Rattle.plant.specs.Model.{n#}
 use Rattle.plant.specs.Tables.{faceSize}
 use Rattle.plant.proofs.Tables.{piece-inside}
 use Rattle.tables.proofs.Faces.{table-most}
-use Rattle.table_files.proofs.PlaceWords.{place-most}
+use Rattle.files.proofs.PlaceWords.{place-most}
 use Rattle.table_files.proofs.TableWriting.{sizes-fit, size-is, size-few, piece-skip, skip-next, piece-put, piece-next}
 use Rattle.table_files.proofs.writing.put_piece.Statement.{statement}
 use Rattle.table_files.proofs.writing.put_piece.Tie as tie

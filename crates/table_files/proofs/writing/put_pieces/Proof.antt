@@ -5,9 +5,10 @@ use native.Mathlib.Omega.{arith}
 use borrow.Author.Needs.{needs}
 use Rattle.plant.specs.Tables.{piecesBefore}
 use Rattle.plant.proofs.PieceCases.{before-more, before-none}
-use Rattle.table_files.specs.TableFile.{locationFields}
-use Rattle.wire.proofs.Buffers.{Written, written-none, written-more}
-use Rattle.table_files.proofs.TableWriting.{location-counted, pieces-few, head-room, pieces-room, room-of-location, all-written}
+use Rattle.files.specs.TableFile.{locationFields}
+use Rattle.integers.proofs.Filling.{Written, written-none, written-more}
+use Rattle.files.proofs.TableSizes.{location-counted, pieces-few}
+use Rattle.table_files.proofs.TableWriting.{head-room, pieces-room, room-of-location, all-written}
 use Rattle.table_files.proofs.writing.put_pieces.Statement.{statement}
 use Rattle.table_files.proofs.writing.put_pieces.Tie as tie
 

@@ -7,7 +7,7 @@ use mir.Syntax.{w32}
 use mir.Facts.{toZ-pos}
 use Rattle.integers.proofs.Signed.{fits32}
 use Rattle.plant.proofs.Pieces.{per-face-most, per-face-least, face-below, index-below}
-use Rattle.table_files.proofs.PlaceWords.{place-least, cut-by-size, uncut-by-size}
+use Rattle.files.proofs.PlaceWords.{place-least, cut-by-size, uncut-by-size}
 use Rattle.table_files.proofs.TableWriting.{face-is, index-is, place-put-two, place-put-three}
 use Rattle.table_files.proofs.writing.put_place.Statement.{statement}
 use Rattle.table_files.proofs.writing.put_place.Tie as tie

@@ -6,7 +6,8 @@ use borrow.Author.Needs.{needs}
 use mir.Syntax.{w32}
 use mir.Facts.{toZ-pos}
 use Rattle.integers.proofs.Signed.{fits32}
-use Rattle.table_files.proofs.TableWriting.{longest-least, present-few, file-put, file-length}
+use Rattle.files.proofs.TableSizes.{longest-least, file-length}
+use Rattle.table_files.proofs.TableWriting.{present-few, file-put}
 use Rattle.table_files.proofs.writing.put_table.Statement.{statement}
 use Rattle.table_files.proofs.writing.put_table.Tie as tie
 

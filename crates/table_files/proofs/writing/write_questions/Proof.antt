@@ -4,9 +4,9 @@ use mathlib.Core.Path.{refl, sym, ap, _∙_}
 use borrow.Author.Needs.{needs}
 use Rattle.plant.specs.Ask.{ask}
 use Rattle.plant.proofs.Asks.{go, halt, both}
-use Rattle.table_files.specs.TableFile.{writeQuestions}
-use Rattle.table_files.proofs.TableAsked.{room-yes}
-use Rattle.passes.proofs.PartWords.{whole}
+use Rattle.files.specs.TableFile.{writeQuestions}
+use Rattle.files.proofs.TableAsked.{room-yes}
+use Rattle.plant.proofs.Passing.{whole}
 use Rattle.table_files.proofs.writing.write_questions.Statement.{statement}
 use Rattle.table_files.proofs.writing.write_questions.Tie as tie
 

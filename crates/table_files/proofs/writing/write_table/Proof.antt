@@ -2,7 +2,7 @@
 use mathlib.Core.Path.{sym, _∙_}
 use borrow.Author.Needs.{needs}
 use Rattle.plant.proofs.Writing.{write-refused, write-done}
-use Rattle.table_files.specs.TableFile.{writeTableCall}
+use Rattle.files.specs.TableFile.{writeTableCall}
 use Rattle.table_files.proofs.TableWriting.{write-yes}
 use Rattle.table_files.proofs.writing.write_table.Statement.{statement}
 use Rattle.table_files.proofs.writing.write_table.Tie as tie

@@ -1,0 +1,4 @@
+pub mod StartsInside
+pub mod WithoutWindow
+pub mod StartsInsideCases
+pub mod WithoutWindowCases

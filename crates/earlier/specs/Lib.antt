@@ -1,0 +1,2 @@
+pub mod StartsInside
+pub mod WithoutWindow

@@ -1,0 +1,9 @@
+pub mod Bytes
+pub mod Fields
+pub mod ModelFile
+pub mod ModelFilesExact
+pub mod ModelBack
+pub mod UncutModelFile
+pub mod TableFile
+pub mod TableBack
+pub mod UncutTableFile

@@ -1,0 +1,25 @@
+-- A model's file is read exactly if it is the file of words that pass the questions, and then gives those words.
+use mathlib.Core.Path.{_≡_}
+use mathlib.Core.List.{List}
+use Prim.Native.Nat.{ℕ, _≤_}
+use lib.IntN.{ℤ}
+use lib.ListN.{length, take}
+use Rattle.integers.specs.Words.{AreBytes, onto}
+use Rattle.plant.specs.declared.Count.the-variants.{Done}
+use Rattle.plant.specs.Model.{modelSize}
+use Rattle.plant.specs.Questions.{modelQuestions}
+use Rattle.plant.specs.Calls.{readReply, wordsRead}
+use Rattle.files.specs.ModelFile.{modelFile, readModelCall}
+
+-- the bytes s are the file of the words m, which pass the questions and are a model's and no more
+pub record IsModelFile (s : List ℕ) (m : List ℤ) : Type 0 where
+  pub is-file : s ≡ modelFile m
+  pub passes : modelQuestions m ≡ 0
+  pub no-more : length m ≡ modelSize m
+
+pub record ModelFilesExact : Type 0 where
+  -- the file of words that pass is read into every buffer that is long enough, and gives them
+  pub file-reads : (m words : List ℤ) → modelQuestions m ≡ 0 → modelSize m ≤ length words
+      → readModelCall (modelFile m) words ≡ record { count = Done (modelSize m); words = onto (take (modelSize m) m) words }
+  -- bytes that are read are the file of the words that they give
+  pub read-is-file : (s : List ℕ) (words : List ℤ) → AreBytes s → readReply (readModelCall s words) .code ≡ 100 → IsModelFile s (wordsRead (readModelCall s words))

@@ -1,4 +1,0 @@
-pub mod Hosts
-pub mod HostDemand
-pub mod NarrowerFiles
-pub mod ForC

@@ -1,0 +1,3 @@
+pub mod Hosts
+pub mod HostDemand
+pub mod ForC

@@ -1,0 +1,4 @@
+pub mod StaysSafe
+pub mod NarrowerCases
+pub mod AlikeFiles
+pub mod FilesStaySafe

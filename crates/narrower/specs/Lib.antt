@@ -1,0 +1,2 @@
+pub mod StaysSafe
+pub mod FilesStaySafe

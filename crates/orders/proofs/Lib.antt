@@ -1,0 +1,5 @@
+pub mod Serving
+pub mod Answers
+pub mod Counts
+pub mod Kept
+pub mod QuoteCases

@@ -1,0 +1,1 @@
+// All that is promised, as one theorem. Definitions and laws alone.
