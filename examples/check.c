@@ -12,8 +12,6 @@
 #include "qiifaduleh.h"
 #include "sample.h"
 
-#include <inttypes.h>
-
 /* One byte more than the longest files: a file that fills one of these is refused in any case. */
 static uint8_t model[QII_MODEL_BYTES_MAX + 1];
 static uint8_t table[QII_TABLE_BYTES_MAX + 1];
@@ -36,6 +34,6 @@ int main(int argc, char **argv)
         printf("accepted\n");
         return ANSWERED;
     }
-    printf("refused %" PRIu64 ": %s\n", number, qii_meaning((uint32_t)number));
+    print_refusal((uint32_t)number);
     return REFUSED;
 }

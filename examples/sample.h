@@ -14,10 +14,12 @@
 /* The limit where none is given. */
 #define USUAL_LIMIT 1000
 
-/* Exit status of the samples. */
+/* Exit status of the samples; the last two where a sample tells the answers apart. */
 #define ANSWERED 0
 #define REFUSED 1
 #define CALLED_WRONGLY 2
+#define UNKNOWN 3
+#define UNFINISHED 4
 
 /* Reads the beginning of a file into a buffer. Gives its length, or -1 if it cannot be read. */
 static inline long read_file(const char *name, uint8_t *bytes, size_t size)
@@ -73,6 +75,19 @@ static inline const char *answer_word(uint32_t code)
     }
 }
 
+/* Prints a refusal: the number, and what it means in words. */
+static inline void print_refusal(uint32_t number)
+{
+    printf("refused %" PRIu32 ": %s\n", number, qii_meaning(number));
+}
+
+/* The same, after what is refused: an order's file, or a plant. */
+static inline void print_refused(const char *name, uint32_t number)
+{
+    printf("%s: ", name);
+    print_refusal(number);
+}
+
 /* Prints what decide gave, with the length of the table file that it left, or the refusal. Gives
    whether it answered. */
 static inline int print_decided(uint64_t decided, const uint8_t *table)
@@ -80,18 +95,12 @@ static inline int print_decided(uint64_t decided, const uint8_t *table)
     const char *word = answer_word(qii_code(decided));
 
     if (word == NULL) {
-        printf("refused %" PRIu32 "\n", qii_code(decided));
+        print_refusal(qii_code(decided));
         return 0;
     }
     printf("answer %s\npasses %" PRIu32 "\ntable bytes %zu\n", word, qii_passes(decided),
            qii_table_len(table));
     return 1;
-}
-
-/* Prints what is refused, an order's file or a plant, and the number with its meaning in words. */
-static inline void print_refused(const char *name, uint32_t number)
-{
-    printf("%s: refused %" PRIu32 ": %s\n", name, number, qii_meaning(number));
 }
 
 /* Takes a number from its decimal digits. Gives 0 if there is none in 32 bits. */
