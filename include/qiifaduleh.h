@@ -12,7 +12,7 @@
  *                qii_desk          the same, charged to a desk of two counters
  *                qii_check         says whether a table shows that a model is safe
  *                qii_ceiling       the passes after which the analysis has always ended
- *                qii_quote         what an analysis may take at most: words, bytes and passes
+ *                qii_quote         what no analysis exceeds: words, bytes and passes
  *     Between:   qii_read_model    a model file's words
  *                qii_write_model   a model's file
  *                qii_read_table    a table file's words
@@ -21,7 +21,8 @@
  * If check or qii_check accepts a table, no run of the model, of any length, meets a forbidden box.
  * This is proved, and it does not rest on the analysis. Proved too, for every input: the number and
  * the values that each call gives, and all memory that it leaves. docs/PROMISES.md says which
- * theorem carries what.
+ * theorem carries what. That a model has the runs of its plant is for those to see who draw it:
+ * WHAT SAFE DOES NOT SAY, below, and docs/MODELLING.md.
  *
  *     uint8_t table[QII_TABLE_BYTES_MAX];
  *     uint64_t decided = decide(model, model_len, table, sizeof table, 1000);
@@ -45,7 +46,7 @@
  *
  *     Input     Bytes or words of any number and content may be handed over. A call answers, or it
  *               refuses with the number of the first question that is not yes. It fails in no other
- *               way, and it always returns; under a high limit that can take long.
+ *               way, and it always returns; under a high limit that can take long (Time).
  *     Numbers   Every call gives a number, of enum qii_answer or of enum qii_refusal; decide gives
  *               it times 2^32, plus the passes. A number has one meaning, whichever call gives it.
  *     Values    A call with a parameter value writes it in every case: 0 on a refusal. qii_quote
@@ -59,9 +60,16 @@
  *     Overlap   What is lent for writing, these numbers too, overlaps nothing else that the call is
  *               handed. Slices that are only read may overlap.
  *     Threads   Calls may run on several threads at once, as long as no thread uses memory that
- *               another's call is writing.
+ *               another's call is writing. qii_desk says how threads share a desk.
  *     Stack     A thread that makes a call needs a stack of QII_STACK_BYTES, or for all calls but
  *               decide and check of QII_STACK_BYTES_ON_WORDS; see there.
+ *     Time      decide, qii_analyse and qii_desk make the passes that they answer, and at most one
+ *               more; check and qii_check one at most, the other calls none. Passes can be many:
+ *               a model file of 11 kB took 2,560,001 of them, in 15 s. The largest plant, all its
+ *               locations cut, takes some 0.2 ms a pass. (Measured, not proved.) A call cannot be
+ *               stopped from outside, and none goes on where another ended: the limit is the way
+ *               to bound it. To try a limit, and after each QII_UNFINISHED twice that limit, costs
+ *               about twice as much in all as the last limit alone; a desk charges every try.
  *
  * WHAT THE WORDS SAY
  *
@@ -96,15 +104,16 @@
  *               rate. A switch leads from its source location, with levels in its guard, to its
  *               target location, with levels in its reset box: each masked variable set to any
  *               level of its reset range, the others unchanged. The levels always lie in the
- *               location's invariant. Levels and delays need not be whole numbers. A run meets a
- *               forbidden box if it starts in one of its location, or a delay or switch of it ends
- *               in one.
+ *               location's invariant. Levels and delays are fractions, with a denominator that is
+ *               the run's own. A run meets a forbidden box if it starts in one of its location, or
+ *               a delay or switch of it ends in one.
  *     Table     For each location the pieces of its 2n faces, face by face: its piece, or piece 0
- *               and then piece 1. A piece is a flag and a box: 1 and the reached part of it, or all
- *               zeros where none is reached.
- *     Pass      A pass widens each piece by what can be reached in one step from the start parts
- *               and from the pieces of the table before the pass, rounded outward, then cut to the
- *               piece. Table 0 is all zeros, table k is the table after k passes.
+ *               and then piece 1. A piece is a flag and a box: 1 and a box that holds what is
+ *               reached of it, perhaps more, or all zeros where nothing is.
+ *     Pass      A pass widens each piece to the smallest box that holds it and what can be reached
+ *               in one step from the start parts and from the pieces of the table before the pass,
+ *               rounded outward, then cut to the piece. Table 0 is all zeros, table k is the table
+ *               after k passes.
  *
  *     Words past the end of a model or of a table are not part of it: a list may be longer.
  *
@@ -132,6 +141,26 @@
  *
  *             1, 2, 5, 10, 10,       piece 0: x 2..5
  *             1, 5, 8, 10, 10,       piece 1: x 5..8
+ *
+ * WHAT SAFE DOES NOT SAY
+ *
+ *     Safe is about the runs of the model. A run ends where the model has no way on, and a model
+ *     whose runs end too early is safe and worthless. It passes all questions, and nothing warns:
+ *
+ *     Outside   A forbidden box outside its location's invariant is never met. One location, level
+ *               30..100, a pump of 2..5, no switch, forbidden 101..120: safe after 1 pass. Let the
+ *               invariant go on above the rim, up to 120, and forbid 100..120: unknown.
+ *     Walls     A level that is pushed against a wall which no switch leaves stops there, and with
+ *               it the run: no time can pass. In that plant no run goes on from 100.
+ *     Switches  A switch whose guard, reset box or target invariant takes only part of what arrives
+ *               drops the rest of the runs. A vat is full with a heat of 36..60, and then emptied,
+ *               but a guard takes a heat of 20..40 alone. The other fillings end there. They would
+ *               come to a heat of up to 70, and from 65 up is forbidden: safe after 3 passes.
+ *     Entries   A location that nothing enters says nothing, nor do its forbidden boxes.
+ *
+ *     models/worthless-wall.model and models/worthless-guard.model are these plants. After safe the
+ *     table helps: no run enters a location that has no present piece, but by starting there; where
+ *     a piece is present and no switch leads from its wall, or none takes all of it, runs may end.
  *
  * WHAT THE FILES SAY
  *
@@ -200,10 +229,21 @@ uint64_t decide(const uint8_t *model, size_t model_len, uint8_t *table, size_t t
  *
  * Gives QII_ACCEPTED, or a refusal. It writes nothing.
  *
- * A table file that is accepted for a model is accepted for every narrower one, as where a pump was
- * exchanged for a steadier one: the same variables, locations, invariants and cuts, no new switch,
- * and every rate, start, guard, reset and forbidden box inside one of the model's in its place.
- * docs/PROMISES.md, "A narrower plant", has the conditions in full. So it is with qii_check.
+ * A table file that is accepted for a model is accepted for every narrower one that is not refused
+ * itself, as where a pump was exchanged for a steadier one. So it is with qii_check. Narrower takes
+ * all of this:
+ *
+ *     walls        the same n and L, the same invariants, the same cuts;
+ *     rates        in each location inside the model's;
+ *     starts       a start part, where there is one, inside the model's in that location;
+ *     switches     for each of them one of the model with the same source and target location, the
+ *                  same wall variable d, the same sides and the same mask, whose guard and reset
+ *                  boxes hold its own;
+ *     forbidden    each box inside one of the model's in the same location.
+ *
+ * Where one of these is broken, by another mask, say, the table can be refused although every box
+ * lies inside the model's. No call compares two models; check says of a table whether it still
+ * holds. docs/PROMISES.md, "A narrower plant", names the theorem.
  *
  * Asks, in this order: 1 to 4; 6 and 7 of each record's field in turn; 8, and 46 of each cut's
  * field in turn; 11 to 13 of each location in turn, 14 to 18 of each switch, 19 of each forbidden
@@ -271,19 +311,19 @@ uint32_t qii_write_model(const int32_t *model, size_t model_len, uint8_t *file, 
  *     value               the ceiling: at most 12,800,001,408, so more than 32 bits
  *
  * Gives QII_DONE, or a refusal. Under a limit of at least the ceiling, the analysis is never
- * QII_UNFINISHED; most models end after far fewer passes. A ceiling can be above every limit.
+ * QII_UNFINISHED. Most models end after far fewer passes. A ceiling can be above every limit.
  *
  * Asks the model's questions.
  */
 uint32_t qii_ceiling(const int32_t *model, size_t model_len, uint64_t *value);
 
 /*
- * qii_quote - what may an order take at most?
+ * qii_quote - what does no order of a model exceed?
  *
  *     model, model_len    model words
  *     words               the words of the model's table: the room that 20 and 21 ask for
  *     bytes               the room that 39 asks for: no table file of the model is longer
- *     ceiling             the most passes of an answer: what qii_ceiling gives
+ *     ceiling             what qii_ceiling gives: no answer has more passes
  *
  * Gives QII_DONE, or a refusal, with 0 in all three. No analysis by passes exceeds any of the
  * three: under whatever limit, an answer of qii_analyse, of qii_desk or, for the model's file, of
@@ -343,11 +383,33 @@ uint32_t qii_analyse(const int32_t *model, size_t model_len, uint32_t limit, int
  *     after a refusal                   both counters as they were.
  *
  * So for every list of calls of one desk, from counters 0 on: jobs is the number of answered calls,
- * and passes is the sum of the passes answered. The counters never wrap: a call whose job or whose
- * limit the counters could not take is refused by 22 before any pass is made.
+ * and passes is the sum of the passes answered. The counters never wrap: a call that would be
+ * answered, but whose job or whose limit the counters could not take, is refused by 22 before any
+ * pass is made.
  *
  * The library keeps no desk: the counters are the caller's, and nothing but these calls may change
- * them in between. Two threads need two desks, or a lock around the call.
+ * them in between, unless both are set to 0: a fresh desk.
+ *
+ * After 22 nothing has changed. Unless jobs is 4,294,967,295, make the call again under a limit of
+ * at most 4,294,967,295 - passes. Or write down both counters, set them to 0, and make it again as
+ * it was: a fresh desk takes every limit, and what was written down and what the desk counts from
+ * there on add up.
+ *
+ * Threads: both counters, like the buffers and value, are lent until the call returns, all its
+ * passes long, and meanwhile no other thread may so much as read them. A lock around the call keeps
+ * to that, and makes analyses wait for each other. So let every call have a fresh desk of its own,
+ * and add it afterwards to totals that all threads share:
+ *
+ *     uint32_t jobs = 0, charged = 0;
+ *
+ *     number = qii_desk(&jobs, &charged, model, ..);     (no lock is held)
+ *     lock();
+ *     all_jobs += jobs;                                  (both totals of type uint64_t)
+ *     all_charged += charged;
+ *     unlock();
+ *
+ * Each desk has what its one call was answered, so the totals are the number of answered calls and
+ * the sum of the passes answered, of all threads; and 22 never comes.
  *
  * Asks, in this order: the model's questions; 20 of the table buffer; 21 of the work buffer; 22 of
  * the counters and the limit.
@@ -365,7 +427,7 @@ uint32_t qii_desk(uint32_t *jobs, uint32_t *passes, const int32_t *model, size_t
  *     value               how many words the table has: QII_CUT_TABLE_WORDS(L, C, n)
  *
  * Gives QII_DONE, or a refusal. A file that reads is exactly the one that qii_write_table writes of
- * its table.
+ * its table, with the same model.
  *
  * Leaves in the buffer
  *     after QII_DONE                          the table, and the rest as it was;
@@ -387,8 +449,9 @@ uint32_t qii_read_table(const int32_t *model, size_t model_len, const uint8_t *f
  *                         however few pieces are present
  *     value               how many bytes the file has
  *
- * Gives QII_DONE, or a refusal. qii_read_table reads the file as the same table. Any table with
- * well-formed pieces can be written, also one that qii_check refuses by 33 or 34.
+ * Gives QII_DONE, or a refusal. With the same model, qii_read_table reads the file as the same
+ * table. Any table with well-formed pieces can be written, also one that qii_check refuses by 33 or
+ * 34.
  *
  * Leaves in the buffer, after QII_DONE, the file, and the rest as it was; after a refusal, all as
  * it was.
@@ -406,8 +469,8 @@ enum qii_answer {
     /* No run meets a forbidden box; the table is accepted; what was to be read, written or quoted
        is. */
     QII_SAFE = 100,
-    /* A start part or a piece of the table touches a forbidden box. With other cuts the plant may be
-       safe. */
+    /* A start part or a piece of the table touches a forbidden box. In finer units, or with other
+       cuts, the plant may come out safe: docs/MODELLING.md. */
     QII_UNKNOWN = 101,
     /* The limit came before an answer. */
     QII_UNFINISHED = 102
@@ -470,7 +533,7 @@ enum qii_refusal {
     QII_TABLE_SHORT = 20,
     /* The work buffer has fewer than QII_CUT_TABLE_WORDS(L, C, n) words. */
     QII_WORK_SHORT = 21,
-    /* jobs + 1, or passes + limit, is above 4,294,967,295. */
+    /* jobs + 1, or passes + limit, is above 4,294,967,295. qii_desk says what to do then. */
     QII_DESK_FULL = 22,
 
     /* A piece's flag is not 0 or 1, an absent piece is not all zeros, or a present one is not
@@ -550,7 +613,9 @@ enum qii_refusal {
 
 /* The stack of a thread that makes any call, and of one that makes any but decide and check. Of it
    decide and check use up to 205,000 bytes, qii_check 83,000, each of the others less than 3,000
-   (measured by tests/c/stack.c); the rest is for the thread itself and for the caller. */
+   (measured by tests/c/stack.c); the rest is for the thread itself and for the caller. Not counted
+   are a program's own thread-local memory, which can lie on the thread's stack, and what a
+   sanitizer takes: add them. */
 #define QII_STACK_BYTES (256 * 1024)
 #define QII_STACK_BYTES_ON_WORDS (128 * 1024)
 
