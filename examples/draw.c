@@ -11,6 +11,12 @@
  * length of its table file, and what becomes of the second shut-off valve; or that the plant is
  * refused, with the number and what it means in words.
  *
+ * Safe is about the runs of the model, and says nothing of a plant that the model does not draw.
+ * Before a valve is left out, read WHAT SAFE DOES NOT SAY in qiifaduleh.h. The plant here keeps
+ * clear of all four: its levels go on above the rim, every wall that a level is pushed against has
+ * a switch or lies behind the rim, every switch takes all that arrives, and every location is
+ * entered. docs/MODELLING.md draws another plant, step by step.
+ *
  * Exit status: 0 answered, 1 refused, 2 called wrongly or a file that cannot be written.
  *
  *     cc -std=c99 -I include -o draw examples/draw.c target/staticlib/libhost.a
@@ -26,7 +32,8 @@ enum { LEVEL, CLOCK };
 enum { FILLING, CLOSING, EMPTYING };
 enum { LOW, HIGH };
 
-/* The rim. The levels of the model go on above it, so that a vat that runs over is seen. */
+/* The rim. The levels of the model go on above it, so that a vat that runs over is seen: a
+   forbidden box outside the invariant would never be met. */
 #define RIM 100
 #define TOP 120
 

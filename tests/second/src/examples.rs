@@ -764,3 +764,85 @@ pub fn level_by_level() -> Draft {
         ..Draft::default()
     }
 }
+
+/// A plant that is safe, and worthless: a vat, level 30..100, with a pump of 2 to 5 and no switch. What is forbidden,
+/// 101..120, lies outside the invariant and is never met, and no run goes on from 100. With the level up to 120 and
+/// 100..120 forbidden it is unknown.
+pub fn worthless_wall() -> Draft {
+    Draft {
+        n: 1,
+        locations: vec![LocationDraft { invariant: vec![30, 100], rates: vec![2, 5], start: Some(vec![30, 40]) }],
+        forbidden: vec![(0, vec![101, 120])],
+        ..Draft::default()
+    }
+}
+
+/// Another: variable 0 is the level of a vat, 0..80, variable 1 its heat, 20..100, which rises by 1. In location 0 it
+/// is filled, by 2 to 5, so that it is full with a heat of 36 to 60; in location 1 it is emptied, by 8, and then filled
+/// again with water of heat 20. Forbidden, everywhere, is a heat from 65 up, to which slow fillings come while they are
+/// emptied. The switch between takes a heat of 20 up to `most`, and drops the fillings with more: up to 54 it is safe,
+/// from 55 on unknown. No switch leads to location 2, where all stands but the heat.
+pub fn worthless_guard(most: i32) -> Draft {
+    let walls = vec![0, 80, 20, 100];
+    let location = |level: [i32; 2], start: Option<Vec<i32>>| LocationDraft {
+        invariant: walls.clone(),
+        rates: vec![level[0], level[1], 1, 1],
+        start,
+    };
+    let switch = |source: usize, level: i32, mask: u32, guard: [i32; 2], reset: [i32; 2]| SwitchDraft {
+        source,
+        target: 1 - source,
+        d: 0,
+        source_side: 1 - source,
+        target_side: 1 - source,
+        mask,
+        guard: vec![level, level, guard[0], guard[1]],
+        reset: vec![level, level, reset[0], reset[1]],
+    };
+    Draft {
+        n: 2,
+        locations: vec![location([2, 5], Some(vec![0, 0, 20, 20])), location([-8, -8], None), location([0, 0], None)],
+        switches: vec![switch(0, 80, 0, [20, most], [20, most]), switch(1, 0, 0b10, [20, 100], [20, 20])],
+        forbidden: (0..3).map(|l| (l, vec![0, 80, 65, 100])).collect(),
+        ..Draft::default()
+    }
+}
+
+/// The plant of docs/MODELLING.md: variable 0 is a vat, with its rim at 100, variable 1 the store that feeds it, up to
+/// its float at 300, variable 2 a clock that every switch sets to 0. The pump fills the vat in location 0, from empty
+/// to 50, and in location 1, from 50 to 80. At 80 it is stopped, and runs out for `lag` in location 2. In location 3
+/// the vat is drawn on, down to 50, and the store is filled; in location 4 the store is full. At 50 the pump starts
+/// again. Forbidden are the vat from its rim up and the store from 10 down.
+pub fn store_and_vat(lag: i32) -> Draft {
+    let location = |invariant: [i32; 6], rates: [i32; 6]| LocationDraft {
+        invariant: invariant.to_vec(),
+        rates: rates.to_vec(),
+        start: None,
+    };
+    let mut locations = vec![
+        location([0, 50, 0, 300, 0, 100], [2, 5, -6, -4, 1, 1]),
+        location([50, 80, 0, 300, 0, 100], [2, 5, -6, -4, 1, 1]),
+        location([80, 120, 0, 300, 0, lag], [1, 5, -6, -3, 1, 1]),
+        location([50, 120, 0, 300, 0, 100], [-2, -1, 7, 9, 1, 1]),
+        location([50, 120, 300, 300, 0, 0], [-2, -1, 0, 0, 0, 0]),
+    ];
+    locations[0].start = Some(vec![0, 0, 300, 300, 0, 0]);
+    // The invariant of a location with another range of one variable.
+    let with = |l: usize, variable: usize, range: [i32; 2]| {
+        let mut bounds = locations[l].invariant.clone();
+        bounds[2 * variable..2 * variable + 2].copy_from_slice(&range);
+        bounds
+    };
+    // From one wall of d to another, with the clock at 0 afterwards.
+    let switch = |source: usize, target: usize, d: usize, source_side: usize, target_side: usize| {
+        let guard = with(source, d, [locations[source].invariant[2 * d + source_side]; 2]);
+        let reset = [&guard[..4], &[0, 0]].concat();
+        SwitchDraft { source, target, d, source_side, target_side, mask: 0b100, guard, reset }
+    };
+    let between = [switch(0, 1, 0, 1, 0), switch(1, 2, 0, 1, 0), switch(2, 3, 2, 1, 0)];
+    let again = [switch(3, 1, 0, 0, 0), switch(3, 4, 1, 1, 1), switch(4, 1, 0, 0, 0)];
+    let over = [2, 3, 4].map(|l| (l, with(l, 0, [100, 120])));
+    let dry = [0, 1, 2, 3].map(|l| (l, with(l, 1, [0, 10])));
+    let (switches, forbidden) = ([between, again].concat(), over.into_iter().chain(dry).collect());
+    Draft { n: 3, locations, switches, forbidden, ..Draft::default() }
+}

@@ -6,8 +6,8 @@ use crate::draft::Draft;
 use crate::examples::{
     all_cut, box_ends, brine_tank, brine_tank_steadier, dosing, figure_1, guarded_box, hand_filled, heated_vat,
     large_grid, plant_p, plant_p_behind, plant_p_cut, plant_p_cut_table, plant_p_from, plant_p_table, plant_p_unknown,
-    plant_p_wider, standing_pump, three_tanks, two_tank, water_level, worn_pump, AT_THE_STIRRER, BY_HAND, OVER_THE_RIM,
-    RUNS_DRY, RUNS_OVER,
+    plant_p_wider, standing_pump, store_and_vat, three_tanks, two_tank, water_level, worn_pump, worthless_guard,
+    worthless_wall, AT_THE_STIRRER, BY_HAND, OVER_THE_RIM, RUNS_DRY, RUNS_OVER,
 };
 use crate::files::{field, model_file, table_file, FACE, TABLE_HEAD};
 use crate::model::{Edition, Plant};
@@ -52,6 +52,9 @@ fn answered() -> Vec<(&'static str, Draft)> {
         ("hand-filled-stirrer", hand_filled(BY_HAND, AT_THE_STIRRER)),
         ("brine-tank", brine_tank()),
         ("brine-tank-steadier", brine_tank_steadier()),
+        ("worthless-wall", worthless_wall()),
+        ("worthless-guard", worthless_guard(40)),
+        ("store-and-vat", store_and_vat(2)),
     ]
 }
 

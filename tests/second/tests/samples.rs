@@ -5,8 +5,8 @@ use second::before;
 use second::compare::written_table;
 use second::draft::Draft;
 use second::examples::{
-    brine_tank, brine_tank_steadier, hand_filled, heated_vat, shut_off, three_tanks, water_level, worn_pump,
-    AT_THE_STIRRER, BY_HAND, OVER_THE_RIM, RUNS_DRY, RUNS_OVER,
+    brine_tank, brine_tank_steadier, hand_filled, heated_vat, shut_off, store_and_vat, three_tanks, water_level,
+    worn_pump, worthless_guard, worthless_wall, AT_THE_STIRRER, BY_HAND, OVER_THE_RIM, RUNS_DRY, RUNS_OVER,
 };
 use second::files::{model_file, model_of_file, parse_table};
 use second::listing::{listing, LIMIT};
@@ -52,6 +52,9 @@ fn first_lines() {
         ("hand-filled-stirrer", "unknown 2 3"),
         ("brine-tank", "safe 5 6"),
         ("brine-tank-steadier", "safe 3 5"),
+        ("worthless-wall", "safe 1 2"),
+        ("worthless-guard", "safe 3 5"),
+        ("store-and-vat", "safe 15 19"),
         ("refused-empty", "refused 1"),
         ("refused-cut", "refused 7"),
         ("refused-trailing", "refused 8"),
@@ -162,6 +165,7 @@ fn answers_of_before() {
         ("standing-pump", "safe 4"),
         ("worn-pump", "unknown 1"),
         ("worn-pump-over", "safe 5"),
+        ("store-and-vat", "safe 15"),
     ];
     let mut found = Vec::new();
     for (name, file) in samples::all() {
@@ -308,4 +312,44 @@ fn runs_find_what_is_there_to_find() {
     assert_eq!((safe.forbidden, safe.unreached), (0, 0));
     assert!(travelled(20, false).unreached > 0);
     assert!(travelled(25, true).forbidden > 0);
+}
+
+/// The plants that are safe and worthless are unknown once they are drawn with room above the rim, and with a switch
+/// that takes all that arrives.
+#[test]
+fn what_safe_does_not_say() {
+    let text = |draft: &Draft| listing(&model_file(&draft.words()));
+    let mut over = worthless_wall();
+    assert_eq!(text(&over), "safe 1 2\n0 0 30 30\n0 1 100 100\n");
+    over.locations[0].invariant[1] = 120;
+    over.forbidden[0].1[0] = 100;
+    assert!(text(&over).starts_with("unknown 0 "));
+    let lines = "safe 3 5\n0 0 0 0 20 20\n0 1 80 80 36 60\n0 2 0 0 20 20\n1 0 0 0 46 50\n1 1 80 80 36 40\n";
+    assert_eq!(text(&worthless_guard(40)), lines);
+    assert!(text(&worthless_guard(54)).starts_with("safe ") && text(&worthless_guard(55)).starts_with("unknown 2 "));
+    assert!(text(&worthless_guard(100)).starts_with("unknown 2 "));
+}
+
+/// What docs/MODELLING.md says of its plant: the words and the listing, which stand there indented; that it is unknown
+/// with a run-out of 4, but not if the vat ends below its rim; and unknown with a clock that stands still in location 3.
+#[test]
+fn modelling() {
+    let paper = std::fs::read_to_string(concat!(env!("CARGO_MANIFEST_DIR"), "/../../docs/MODELLING.md")).unwrap();
+    let indented = paper.lines().filter_map(|line| line.strip_prefix("    "));
+    let (words, lines): (Vec<_>, Vec<_>) = indented.partition(|line| line.contains(", "));
+    let numbers = words.iter().flat_map(|line| line.split(',')).filter_map(|word| word.trim().parse::<i32>().ok());
+    let draft = store_and_vat(2);
+    assert_eq!(numbers.collect::<Vec<_>>(), draft.words());
+    assert_eq!(lines.join("\n") + "\n", listing(&model_file(&draft.words())));
+    let mut longer = store_and_vat(4);
+    assert!(listing(&model_file(&longer.words())).starts_with("unknown "));
+    longer.locations[2..].iter_mut().for_each(|location| location.invariant[1] = 99);
+    assert!(listing(&model_file(&longer.words())).starts_with("safe "));
+    let mut standing = draft;
+    standing.locations[3].invariant[5] = 0;
+    standing.locations[3].rates[4..].fill(0);
+    for switch in &mut standing.switches[3..5] {
+        switch.guard[5] = 0;
+    }
+    assert!(listing(&model_file(&standing.words())).starts_with("unknown "));
 }
