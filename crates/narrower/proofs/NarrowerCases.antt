@@ -27,7 +27,7 @@ use Rattle.plant.specs.Cases.{box₂}
 use Rattle.plant.proofs.Passed.{inside-is}
 use Rattle.plant.proofs.Samples.{gone, there, no-cut}
 use Rattle.narrower.proofs.StaysSafe.{narrower-stays-safe}
-use Rattle.plant.proofs.Witnesses.{one, both, three}
+use Rattle.integers.proofs.Few.{one, both, three}
 
 -- ---- the two plants: a tank of brine, x its level, y its strength, both 0..100; location 0 fills it with water, location 1 empties it
 

@@ -1,0 +1,5 @@
+pub mod CutCases
+pub mod StartCases
+pub mod WindowCases
+pub mod ResetCases
+pub mod Witnesses

@@ -1,0 +1,1 @@
+// Cases of a plant, computed with its definitions: a wrong one fails. Laws alone; nothing rests on them.
