@@ -10,10 +10,10 @@ use std::hint::black_box;
 
 use other::{NAME, WHAT};
 use plants::{creeping, ranged, spreading, whole, Timed};
-use second::compare::{written_table, MOST_ROOM};
-use second::examples::{all_cut, plant_p, plant_p_cut, standing_pump, two_tank};
-use second::files::model_of_file;
-use second::host_ffi;
+use second::c_calls::host_ffi;
+use second::held::compare::{written_table, MOST_ROOM};
+use second::inputs::examples::{all_cut, plant_p, plant_p_cut, standing_pump, two_tank};
+use second::reference::files::model_of_file;
 use timing::{pair, Pair};
 
 /// No plant here needs as many passes.

@@ -5,7 +5,7 @@ pub use timed::{check, decide, NAME, WHAT};
 
 #[cfg(not(feature = "before"))]
 mod timed {
-    pub use second::host::{check_quick as check, decide_quick as decide};
+    pub use second::reference::host::{check_quick as check, decide_quick as decide};
 
     pub const NAME: &str = "second";
     pub const WHAT: &str = "the second implementation";

@@ -3,13 +3,13 @@
 //! for a touch goes through all of them after every pass. It is the table at rest of before
 //! request T-06, in which today's lies: a library of before answers safe too.
 
-use second::before;
-use second::delays::touches;
-use second::draft::{grid, Draft, SwitchDraft};
-use second::files::model_file;
-use second::generate::close_by;
-use second::model::{Edition, Plant};
-use second::random::Random;
+use second::inputs::draft::{grid, Draft, SwitchDraft};
+use second::inputs::generate::close_by;
+use second::inputs::random::Random;
+use second::reference::before;
+use second::reference::delays::touches;
+use second::reference::files::model_file;
+use second::reference::model::{Edition, Plant};
 
 const CELL_WIDTH: i32 = 20;
 const STROKES: i32 = 256;
@@ -51,7 +51,7 @@ fn cells(n: usize, locations: usize) -> Vec<usize> {
     cells
 }
 
-/// No cuts and no reset ranges. The plants take this, or `second::examples::all_cut`, or `ranged`, before their
+/// No cuts and no reset ranges. The plants take this, or `second::inputs::examples::all_cut`, or `ranged`, before their
 /// forbidden boxes are laid.
 pub fn whole(draft: Draft) -> Draft {
     draft

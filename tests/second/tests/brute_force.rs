@@ -1,27 +1,31 @@
 //! Cross checks on random and on very small models.
 
-use second::analysis::{run, run_quick, Answer};
-use second::before::{self, lies_inside};
-use second::ceiling;
-use second::checker::ask_table;
-use second::damage::damage_table;
-use second::delays::{delays, delays_inside, touches, touches_quick, Delays, End};
-use second::draft::{Draft, LocationDraft, SwitchDraft};
-use second::fraction::Fraction;
-use second::generate::{close, close_by, crossing_model, helped_model, pass_budget, random_model, random_table};
-use second::model::{ordered_inside, Edition, Piece, Plant, MAX_BOX};
-use second::narrower::narrower;
-use second::narrowing::narrowed;
-use second::plain;
-use second::pumps::pump_model;
-use second::random::Random;
-use second::ranges::{any_range, highs_alone, in_other_edition, inside_alone, lows_alone, ranged_model, with_ranges};
-use second::simulate::{
+use second::held::simulate::{
     is_forbidden, is_reached, is_run, may_move, may_start, random_run, travel, Configuration, Move, Travelled,
 };
-use second::starts::{any_crosses, table_of_whole_boxes, touched_by_whole_boxes, trimmed};
-use second::steps::{switch_step, wall_step};
-use second::tables::{forbidden_touched, pass, well_formed};
+use second::inputs::damage::damage_table;
+use second::inputs::draft::{Draft, LocationDraft, SwitchDraft};
+use second::inputs::generate::{
+    close, close_by, crossing_model, helped_model, pass_budget, random_model, random_table,
+};
+use second::inputs::narrowing::narrowed;
+use second::inputs::pumps::pump_model;
+use second::inputs::random::Random;
+use second::inputs::ranges::{
+    any_range, highs_alone, in_other_edition, inside_alone, lows_alone, ranged_model, with_ranges,
+};
+use second::inputs::starts::{any_crosses, table_of_whole_boxes, touched_by_whole_boxes, trimmed};
+use second::reference::analysis::{run, run_quick, Answer};
+use second::reference::before::{self, lies_inside};
+use second::reference::ceiling;
+use second::reference::checker::ask_table;
+use second::reference::delays::{delays, delays_inside, touches, touches_quick, Delays, End};
+use second::reference::fraction::Fraction;
+use second::reference::model::{ordered_inside, Edition, Piece, Plant, MAX_BOX};
+use second::reference::narrower::narrower;
+use second::reference::plain;
+use second::reference::steps::{switch_step, wall_step};
+use second::reference::tables::{forbidden_touched, pass, well_formed};
 
 /// The delay rule against its meaning: t is a delay exactly if p + a·t ≤ b ≤ q + c·t.
 #[test]

@@ -1,17 +1,17 @@
 //! All cases of document 01's section "Plant P and other cases", and the order of questions.
 
-use second::analysis::Answer;
-use second::before;
-use second::calls::{self, Buffers};
-use second::delays::{delays, touches, touches_quick, End};
-use second::desk::Desk;
-use second::draft::{Draft, LocationDraft, SwitchDraft};
-use second::examples::*;
-use second::files::{field, model_file};
-use second::fraction::{down, up, Fraction};
-use second::listing::listing;
-use second::model::{Plant, HEAD_WORDS, MAX_BOX};
-use second::steps::wall_step;
+use second::inputs::draft::{Draft, LocationDraft, SwitchDraft};
+use second::inputs::examples::*;
+use second::reference::analysis::Answer;
+use second::reference::before;
+use second::reference::calls::{self, Buffers};
+use second::reference::delays::{delays, touches, touches_quick, End};
+use second::reference::desk::Desk;
+use second::reference::files::{field, model_file};
+use second::reference::fraction::{down, up, Fraction};
+use second::reference::listing::listing;
+use second::reference::model::{Plant, HEAD_WORDS, MAX_BOX};
+use second::reference::steps::wall_step;
 
 fn buffers(table: usize, work: usize) -> Buffers {
     Buffers { table: vec![-7; table], work: vec![-9; work] }

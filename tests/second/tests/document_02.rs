@@ -1,27 +1,29 @@
 //! Cases of document 02's requests.
 
-use second::analysis::Answer;
-use second::before;
-use second::calls::{self, Buffers};
-use second::ceiling;
-use second::damage::{damage_bytes, damaged_ranges, damaged_starts, edited_model_file, RANGE_DAMAGE, START_DAMAGE};
-use second::draft::{Draft, LocationDraft};
-use second::examples::*;
-use second::exports::{answer, Call, Input, Lent};
-use second::files::{field, file_of_words, model_file, model_file_bytes};
-use second::fixed_quotes::quotes;
-use second::fixed_resets::{short_lists, NO_EDITION};
-use second::fixed_starts::STARTS_OF_P;
-use second::fixed_written::{files, lengths};
-use second::generate::{extreme_model, random_model};
-use second::host::MOST_MODEL_WORDS;
-use second::listing::listing;
-use second::model::{words_per_location, Cut, Edition, Location, Plant, EDITION_AT, HEAD_WORDS, MAX_BOX};
-use second::plain;
-use second::quote::{by_widths, Quote, Taken};
-use second::random::Random;
-use second::simulate::{may_move, may_start, Configuration, Move};
-use second::steps::wall_step;
+use second::c_calls::exports::{answer, Call, Input, Lent};
+use second::fixed::quotes::quotes;
+use second::fixed::resets::{short_lists, NO_EDITION};
+use second::fixed::starts::STARTS_OF_P;
+use second::fixed::written::{files, lengths};
+use second::held::simulate::{may_move, may_start, Configuration, Move};
+use second::inputs::damage::{
+    damage_bytes, damaged_ranges, damaged_starts, edited_model_file, RANGE_DAMAGE, START_DAMAGE,
+};
+use second::inputs::draft::{Draft, LocationDraft};
+use second::inputs::examples::*;
+use second::inputs::generate::{extreme_model, random_model};
+use second::inputs::random::Random;
+use second::reference::analysis::Answer;
+use second::reference::before;
+use second::reference::calls::{self, Buffers};
+use second::reference::ceiling;
+use second::reference::files::{field, file_of_words, model_file, model_file_bytes};
+use second::reference::host::MOST_MODEL_WORDS;
+use second::reference::listing::listing;
+use second::reference::model::{words_per_location, Cut, Edition, Location, Plant, EDITION_AT, HEAD_WORDS, MAX_BOX};
+use second::reference::plain;
+use second::reference::quote::{by_widths, Quote, Taken};
+use second::reference::steps::wall_step;
 
 /// Bad words of plant P: place, word, and the number by which the model's questions refuse it.
 const BAD_WORDS_OF_P: [(usize, i32, u32); 9] = [
@@ -944,6 +946,6 @@ fn the_largest_sizes() {
     let plant = Plant::from_words(&words).unwrap();
     assert_eq!(plant.table_words(), 19_968);
     assert_eq!(plant.table_file_room(), 96_775);
-    assert_eq!(plant.table_file_room(), second::compare::MOST_ROOM);
+    assert_eq!(plant.table_file_room(), second::held::compare::MOST_ROOM);
     assert_eq!(calls::ceiling(&all_cut(widest()).words()), Ok(12_800_001_408));
 }

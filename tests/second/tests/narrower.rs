@@ -3,20 +3,20 @@
 
 use std::collections::BTreeMap;
 
-use second::analysis::{run, Answer};
-use second::ceiling;
-use second::checker::checker;
-use second::draft::{Draft, LocationDraft, SwitchDraft};
-use second::examples::{at_rest, plant_p};
-use second::files::{model_file, table_file};
-use second::fixed_narrower::{kept, needed};
-use second::generate::{extreme_model, random_model};
-use second::host;
-use second::model::Plant;
-use second::narrower::{broken, narrower, Condition};
-use second::narrowing::{narrowed, widened, BREAKS, WAYS};
-use second::random::Random;
-use second::simulate::{is_forbidden, may_move, may_start, random_run, Configuration, Move};
+use second::fixed::narrower::{kept, needed};
+use second::held::simulate::{is_forbidden, may_move, may_start, random_run, Configuration, Move};
+use second::inputs::draft::{Draft, LocationDraft, SwitchDraft};
+use second::inputs::examples::{at_rest, plant_p};
+use second::inputs::generate::{extreme_model, random_model};
+use second::inputs::narrowing::{narrowed, widened, BREAKS, WAYS};
+use second::inputs::random::Random;
+use second::reference::analysis::{run, Answer};
+use second::reference::ceiling;
+use second::reference::checker::checker;
+use second::reference::files::{model_file, table_file};
+use second::reference::host;
+use second::reference::model::Plant;
+use second::reference::narrower::{broken, narrower, Condition};
 
 /// A random model, now and then with its levels and rates at both ends.
 fn any_model(random: &mut Random) -> Vec<i32> {

@@ -1,22 +1,22 @@
 //! The sample models, and what random runs say of one of them.
 
-use second::analysis::{run, Answer};
-use second::before;
-use second::compare::written_table;
-use second::draft::Draft;
-use second::examples::{
+use second::held::compare::written_table;
+use second::held::simulate::{is_forbidden, is_run, random_run, travel, Configuration, Move, Run as OneRun, Travelled};
+use second::inputs::draft::Draft;
+use second::inputs::examples::{
     brine_tank, brine_tank_steadier, hand_filled, heated_vat, shut_off, store_and_vat, three_tanks, water_level,
     worn_pump, worthless_guard, worthless_wall, AT_THE_STIRRER, BY_HAND, OVER_THE_RIM, RUNS_DRY, RUNS_OVER,
 };
-use second::files::{model_file, model_of_file, parse_table};
-use second::listing::{listing, LIMIT};
-use second::model::Plant;
-use second::narrower::narrower;
-use second::quote::{self, Quote};
-use second::random::Random;
-use second::samples;
-use second::simulate::{is_forbidden, is_run, random_run, travel, Configuration, Move, Run as OneRun, Travelled};
-use second::starts::{table_of_whole_boxes, touched_by_whole_boxes};
+use second::inputs::random::Random;
+use second::inputs::samples;
+use second::inputs::starts::{table_of_whole_boxes, touched_by_whole_boxes};
+use second::reference::analysis::{run, Answer};
+use second::reference::before;
+use second::reference::files::{model_file, model_of_file, parse_table};
+use second::reference::listing::{listing, LIMIT};
+use second::reference::model::Plant;
+use second::reference::narrower::narrower;
+use second::reference::quote::{self, Quote};
 
 type Run = fn(&Plant, u32, &mut [i32], &mut [i32]) -> (Answer, u32);
 
@@ -97,7 +97,7 @@ fn said(float: i32) -> Vec<String> {
     };
     let file = model_file(&words);
     let mut buffer = vec![0; plant.table_file_room()];
-    let number = second::host::decide(&file, &mut buffer, LIMIT);
+    let number = second::reference::host::decide(&file, &mut buffer, LIMIT);
     let (answer, valve) = match number >> 32 {
         100 => ("safe", "can be left out"),
         101 => ("unknown", "stays"),
@@ -150,7 +150,7 @@ fn tables() {
     for (name, table, number) in samples::tables() {
         let model = name.split('.').next().unwrap();
         let (_, file) = models.iter().find(|(name, _)| *name == model).expect("a table's model is a sample");
-        assert_eq!(second::host::check(file, &table), number, "{name}");
+        assert_eq!(second::reference::host::check(file, &table), number, "{name}");
     }
 }
 

@@ -1,13 +1,13 @@
 //! The examples of source 000 (report ERL M99/12).
 
-use second::analysis::Answer;
-use second::calls::{self, Buffers};
-use second::ceiling;
-use second::examples::*;
-use second::model::{Plant, MAX_BOX};
-use second::random::Random;
-use second::simulate::{is_forbidden, is_reached, is_run, random_run};
-use second::steps::wall_step;
+use second::held::simulate::{is_forbidden, is_reached, is_run, random_run};
+use second::inputs::examples::*;
+use second::inputs::random::Random;
+use second::reference::analysis::Answer;
+use second::reference::calls::{self, Buffers};
+use second::reference::ceiling;
+use second::reference::model::{Plant, MAX_BOX};
+use second::reference::steps::wall_step;
 
 fn run(words: &[i32]) -> (Answer, u32, Vec<i32>) {
     run_under(words, 100_000)
@@ -135,7 +135,7 @@ fn two_tanks() {
     for _ in 0..300 {
         let run = random_run(&plant, &mut random, 60, 40).unwrap();
         assert!(is_run(&plant, &run));
-        switches += run.moves.iter().filter(|m| matches!(m.0, second::simulate::Move::Switch(_))).count();
+        switches += run.moves.iter().filter(|m| matches!(m.0, second::held::simulate::Move::Switch(_))).count();
         for at in std::iter::once(&run.first).chain(run.moves.iter().map(|m| &m.1)) {
             assert!(!is_forbidden(&plant, 60, at));
             assert!(is_reached(&plant, &table, 60, at));

@@ -5,13 +5,13 @@
 
 use std::cell::Cell;
 
-use second::compare::{Comparison, Tested};
-use second::damage::field_places;
-use second::exports::answer;
-use second::files::{file_of_words, model_of_file, parse_table, table_file, CUT, HEAD, HEAD_2};
-use second::host;
-use second::model::{ask_head, Edition, Model, Plant, Switch, EDITION_AT, LEVEL, SWITCH_HEAD};
-use second::starts::any_crosses;
+use second::c_calls::exports::answer;
+use second::held::compare::{Comparison, Tested};
+use second::inputs::damage::field_places;
+use second::inputs::starts::any_crosses;
+use second::reference::files::{file_of_words, model_of_file, parse_table, table_file, CUT, HEAD, HEAD_2};
+use second::reference::host;
+use second::reference::model::{ask_head, Edition, Model, Plant, Switch, EDITION_AT, LEVEL, SWITCH_HEAD};
 
 const NONE: u8 = 0;
 const ROUNDS_TOWARDS_ZERO: u8 = 1;
@@ -645,7 +645,7 @@ fn check(model: &[u8], table: &[u8]) -> u64 {
         Err(number) => return number as u64,
     };
     let starts = !on(CHECKS_WITHOUT_STARTS);
-    let faces = second::plain::from_words(&plant, &table);
+    let faces = second::reference::plain::from_words(&plant, &table);
     if pass(&plant, &faces, starts) != faces {
         return 33;
     }

@@ -5,17 +5,17 @@
 mod finding;
 
 use finding::{found_after, must_be_found, Answer};
-use second::before;
-use second::ceiling;
-use second::exports::{answer, Call, Input, Lent};
-use second::files::{HEAD, HEAD_2};
-use second::model::{
+use second::c_calls::exports::{answer, Call, Input, Lent};
+use second::inputs::ranges::{highs_alone, lows_alone, with_ranges};
+use second::inputs::starts::{any_crosses, table_of_whole_boxes, touched_by_whole_boxes};
+use second::reference::before;
+use second::reference::ceiling;
+use second::reference::files::{HEAD, HEAD_2};
+use second::reference::model::{
     ask_head, ordered_inside, words_per_location, Edition, Location, Piece, Plant, Sizes, EDITION_AT, LEVEL,
 };
-use second::quote::{by_widths, Quote};
-use second::ranges::{highs_alone, lows_alone, with_ranges};
-use second::starts::{any_crosses, table_of_whole_boxes, touched_by_whole_boxes};
-use second::tables::well_formed;
+use second::reference::quote::{by_widths, Quote};
+use second::reference::tables::well_formed;
 
 fn refused(number: u32) -> bool {
     number < 100
@@ -75,7 +75,7 @@ fn touching_asked_before_unchanged(call: Call, input: &Input, lent: &mut Lent) -
     let number = answer(call, input, lent);
     if call == Call::Check && number == 33 {
         let plant = Plant::from_words(input.model).expect("33 comes after the model's questions");
-        if second::tables::forbidden_touched(&plant, &input.table[..plant.table_words()]) {
+        if second::reference::tables::forbidden_touched(&plant, &input.table[..plant.table_words()]) {
             return 34;
         }
     }
@@ -155,7 +155,7 @@ fn room_of_the_file_alone(call: Call, input: &Input, lent: &mut Lent) -> u32 {
         let plant = Plant::from_words(input.model).expect("39 comes after the model's questions");
         let table = &input.table[..plant.table_words()];
         assert!(well_formed(&plant, table));
-        let file = second::files::table_file(&plant, table);
+        let file = second::reference::files::table_file(&plant, table);
         if file.len() <= lent.file.len() {
             lent.file[..file.len()].copy_from_slice(&file);
             *lent.value = file.len() as u64;
@@ -501,7 +501,7 @@ fn room_of_the_shorter_field(call: Call, input: &Input, lent: &mut Lent) -> u32 
     if call == Call::WriteTable && number == 39 {
         let plant = Plant::from_words(input.model).expect("39 comes after the model's questions");
         let shorter = 7 + plant.pieces() * (11 + 8 * plant.sizes.n);
-        let file = second::files::table_file(&plant, &input.table[..plant.table_words()]);
+        let file = second::reference::files::table_file(&plant, &input.table[..plant.table_words()]);
         if file.len() <= lent.file.len() && shorter <= lent.file.len() {
             lent.file[..file.len()].copy_from_slice(&file);
             *lent.value = file.len() as u64;

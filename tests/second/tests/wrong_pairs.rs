@@ -5,18 +5,18 @@
 mod alone;
 
 use alone::Alone;
-use second::compare::Difference;
-use second::draft::Draft;
-use second::exports::{answer, Call, Input, Lent};
-use second::generate::{close, pass_budget, random_model, random_table};
-use second::lending::Lengths;
-use second::model::{Edition, Plant, LEVEL};
-use second::narrowing::narrowed;
-use second::pairing::{
+use second::c_calls::exports::{answer, Call, Input, Lent};
+use second::held::compare::Difference;
+use second::held::lending::Lengths;
+use second::held::pairing::{
     accepted_stays, ends_within, files_stay, first_stays, limits, never_unknown, quoted_alike, second_safe, Pair,
 };
-use second::random::Random;
-use second::starts::{any_crosses, table_of_whole_boxes, touched_by_whole_boxes};
+use second::inputs::draft::Draft;
+use second::inputs::generate::{close, pass_budget, random_model, random_table};
+use second::inputs::narrowing::narrowed;
+use second::inputs::random::Random;
+use second::inputs::starts::{any_crosses, table_of_whole_boxes, touched_by_whole_boxes};
+use second::reference::model::{Edition, Plant, LEVEL};
 
 type Wrong = fn(Call, &Input, &mut Lent) -> u32;
 
@@ -150,7 +150,7 @@ fn many_boxes_refused(call: Call, input: &Input, lent: &mut Lent) -> u32 {
 fn checked_with_whole_boxes(call: Call, input: &Input, lent: &mut Lent) -> u32 {
     accepted_but(call, input, lent, |plant, list| {
         let reached = table_of_whole_boxes(plant, 0).0;
-        unless(second::before::lies_inside(plant, &reached, list), 33)
+        unless(second::reference::before::lies_inside(plant, &reached, list), 33)
     })
 }
 
@@ -173,7 +173,7 @@ fn no_start_unknown(call: Call, input: &Input, lent: &mut Lent) -> u32 {
 }
 
 fn unfinished_at_the_ceiling(call: Call, input: &Input, lent: &mut Lent) -> u32 {
-    safe_but(call, input, lent, |plant, limit| unless(limit as u64 != second::ceiling::of_plant(plant), 102))
+    safe_but(call, input, lent, |plant, limit| unless(limit as u64 != second::reference::ceiling::of_plant(plant), 102))
 }
 
 fn unfinished_without_end(call: Call, input: &Input, lent: &mut Lent) -> u32 {

@@ -10,14 +10,14 @@ use std::cell::Cell;
 
 use alone::Alone;
 use finding::{found_after, must_be_found, Answer};
-use second::exports::{answer, Call, Input, Lent};
-use second::files::MOST_MODEL_BYTES;
-use second::generate::random_model;
-use second::model::{ask_head, Edition, Plant, EDITION_AT};
-use second::random::Random;
-use second::ranges::{lows_alone, with_ranges};
-use second::starts::trimmed;
-use second::writing::round_trip;
+use second::c_calls::exports::{answer, Call, Input, Lent};
+use second::held::writing::round_trip;
+use second::inputs::generate::random_model;
+use second::inputs::random::Random;
+use second::inputs::ranges::{lows_alone, with_ranges};
+use second::inputs::starts::trimmed;
+use second::reference::files::MOST_MODEL_BYTES;
+use second::reference::model::{ask_head, Edition, Plant, EDITION_AT};
 
 /// Tags and words of a file's fields.
 type Fields = Vec<(u8, Vec<i32>)>;

@@ -13,10 +13,10 @@
 //! memory checker, and leaves out the models of thousands of passes. `--random-only` leaves the
 //! fixed cases out. `--all-numbers` wants every number of every call under fewer counts too.
 
-use second::changes::{Changes, STEP_KINDS};
-use second::compare::{Comparison, Tested};
-use second::coverage::{Counts, Tally};
-use second::host_ffi;
+use second::c_calls::host_ffi;
+use second::held::changes::{Changes, STEP_KINDS};
+use second::held::compare::{Comparison, Tested};
+use second::held::coverage::{Counts, Tally};
 
 const MODELS: u64 = 20_000;
 const DAMAGED: u64 = 100_000;

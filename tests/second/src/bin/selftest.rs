@@ -21,27 +21,27 @@
 
 use std::collections::BTreeMap;
 
-use second::analysis::Answer;
-use second::before::lies_inside;
-use second::calls::{self, Buffers};
-use second::ceiling;
-use second::checker::ask_table;
-use second::damage::*;
-use second::desk::Desk;
-use second::draft::Draft;
-use second::files::{model_file, model_file_bytes, table_file, MOST_MODEL_BYTES};
-use second::generate::*;
-use second::host::{self, MOST_MODEL_WORDS};
-use second::model::{Edition, Plant, HEAD_WORDS};
-use second::narrower::{broken, narrower};
-use second::narrowing::{narrowed, widened, BREAKS, WAYS};
-use second::plain;
-use second::pumps::pump_model;
-use second::quote::{by_widths, Taken};
-use second::random::Random;
-use second::ranges::{any_range, ranged_model};
-use second::simulate::{travel, Travelled};
-use second::starts::any_crosses;
+use second::held::simulate::{travel, Travelled};
+use second::inputs::damage::*;
+use second::inputs::draft::Draft;
+use second::inputs::generate::*;
+use second::inputs::narrowing::{narrowed, widened, BREAKS, WAYS};
+use second::inputs::pumps::pump_model;
+use second::inputs::random::Random;
+use second::inputs::ranges::{any_range, ranged_model};
+use second::inputs::starts::any_crosses;
+use second::reference::analysis::Answer;
+use second::reference::before::lies_inside;
+use second::reference::calls::{self, Buffers};
+use second::reference::ceiling;
+use second::reference::checker::ask_table;
+use second::reference::desk::Desk;
+use second::reference::files::{model_file, model_file_bytes, table_file, MOST_MODEL_BYTES};
+use second::reference::host::{self, MOST_MODEL_WORDS};
+use second::reference::model::{Edition, Plant, HEAD_WORDS};
+use second::reference::narrower::{broken, narrower};
+use second::reference::plain;
+use second::reference::quote::{by_widths, Taken};
 
 const MODELS: u64 = 10_000;
 const SEED: u64 = 0x01_9912;

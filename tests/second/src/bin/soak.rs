@@ -13,16 +13,18 @@ use std::collections::BTreeMap;
 use std::fs::File;
 use std::io::Read;
 
-use second::compare::MOST_ROOM;
-use second::damage::{damage_bytes, damage_table, damaged_cuts, damaged_table_file, edited_model_file, edited_words};
-use second::exports::{Call, Input, Lent};
-use second::files::{model_file, table_file};
-use second::generate::{close, pass_budget, random_limit, random_model, random_table};
-use second::host_ffi;
-use second::lending::Lengths;
-use second::model::Plant;
-use second::quote::Quote;
-use second::random::Random;
+use second::c_calls::exports::{Call, Input, Lent};
+use second::c_calls::host_ffi;
+use second::held::compare::MOST_ROOM;
+use second::held::lending::Lengths;
+use second::inputs::damage::{
+    damage_bytes, damage_table, damaged_cuts, damaged_table_file, edited_model_file, edited_words,
+};
+use second::inputs::generate::{close, pass_budget, random_limit, random_model, random_table};
+use second::inputs::random::Random;
+use second::reference::files::{model_file, table_file};
+use second::reference::model::Plant;
+use second::reference::quote::Quote;
 
 const CALLS: u64 = 1_000_000;
 const SEED: u64 = 0x50AC;

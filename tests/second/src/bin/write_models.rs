@@ -5,8 +5,8 @@
 
 use std::path::Path;
 
-use second::listing::listing;
-use second::samples;
+use second::inputs::samples;
+use second::reference::listing::listing;
 
 fn main() {
     let directory = std::env::args().nth(1).expect("the directory to write to");

@@ -1,12 +1,12 @@
 //! Calls that nothing is compared with: what holds of them, holds by themselves.
 
-use second::compare::Difference;
-use second::exports::{Call, Input, Lent};
-use second::lending::{Left, Lengths};
-use second::pairing::HostCalls;
-use second::quote::Quote;
-use second::random::Random;
-use second::writing::Calls;
+use second::c_calls::exports::{Call, Input, Lent};
+use second::held::compare::Difference;
+use second::held::lending::{Left, Lengths};
+use second::held::pairing::HostCalls;
+use second::held::writing::Calls;
+use second::inputs::random::Random;
+use second::reference::quote::Quote;
 
 pub struct Alone {
     pub answer: fn(Call, &Input, &mut Lent) -> u32,

@@ -1,8 +1,8 @@
 //! How soon the comparison finds a wrong call beside decide and check.
 
-use second::compare::{Comparison, Tested};
-use second::exports::{Call, Input, Lent};
-use second::host;
+use second::c_calls::exports::{Call, Input, Lent};
+use second::held::compare::{Comparison, Tested};
+use second::reference::host;
 
 pub type Answer = fn(Call, &Input, &mut Lent) -> u32;
 
