@@ -1,6 +1,7 @@
 //! Cases of document 02's requests.
 
-use second::c_calls::exports::{answer, Call, Input, Lent};
+use second::c_calls::exports::{answer, Call};
+use second::c_calls::slices::{Input, Lent, Numbers, Slice};
 use second::fixed::quotes::quotes;
 use second::fixed::resets::{short_lists, NO_EDITION};
 use second::fixed::starts::STARTS_OF_P;
@@ -17,6 +18,7 @@ use second::reference::analysis::Answer;
 use second::reference::before;
 use second::reference::calls::{self, Buffers};
 use second::reference::ceiling;
+use second::reference::desk::Desk;
 use second::reference::files::{field, file_of_words, model_file, model_file_bytes};
 use second::reference::host::MOST_MODEL_WORDS;
 use second::reference::listing::listing;
@@ -46,16 +48,26 @@ fn buffers(words: usize) -> Buffers {
 const OLD_VALUE: u64 = 3;
 const OLD_QUOTE: Quote = Quote { words: 11, bytes: 12, ceiling: 13 };
 
-/// A call on model words that writes neither words nor counters: its number, value and quote.
+/// All that any call is lent, with this byte buffer.
+fn all_lent(file: &[u8]) -> Lent {
+    Lent::all(0, |slice| match slice {
+        Slice::FileRoom => Numbers::Bytes(file.into()),
+        Slice::Jobs => Numbers::Counters([1].into()),
+        Slice::Passes => Numbers::Counters([2].into()),
+        Slice::Value => Numbers::Values([OLD_VALUE].into()),
+        Slice::Quote => Numbers::Values(OLD_QUOTE.values().into()),
+        _ => Numbers::Words([4].into()),
+    })
+}
+
+/// A call on model words that writes neither words nor counters, though it is lent all: its number, value and quote.
 fn answered(call: Call, model: &[i32], file: &mut [u8]) -> (u32, u64, Quote) {
-    let (mut jobs, mut passes, mut value, mut quote) = (1, 2, OLD_VALUE, OLD_QUOTE);
-    let (words, work) = (&mut [4][..], &mut [5][..]);
-    let mut lent =
-        Lent { words, work, file, jobs: &mut jobs, passes: &mut passes, value: &mut value, quote: &mut quote };
+    let mut lent = all_lent(file);
     let number = answer(call, &Input::of_model(model), &mut lent);
-    assert_eq!((&*lent.words, &*lent.work), (&[4][..], &[5][..]));
-    assert_eq!((jobs, passes), (1, 2));
-    (number, value, quote)
+    assert_eq!([Slice::Words, Slice::Work].map(|slice| lent.read::<i32>(slice)), [&[4], &[4]]);
+    assert_eq!(lent.desk(), Some(Desk { jobs: 1, passes: 2 }));
+    file.copy_from_slice(lent.read(Slice::FileRoom));
+    (number, *lent.value(), lent.quote().expect("the quote is lent"))
 }
 
 /// T-01: files worked out by hand, byte by byte. Words behind a model's are not part of it; bytes behind its file

@@ -5,11 +5,13 @@
 mod finding;
 
 use finding::{found_after, must_be_found, Answer};
-use second::c_calls::exports::{answer, Call, Input, Lent};
+use second::c_calls::exports::{answer, Call};
+use second::c_calls::slices::{Input, Lent, Slice};
 use second::inputs::ranges::{highs_alone, lows_alone, with_ranges};
 use second::inputs::starts::{any_crosses, table_of_whole_boxes, touched_by_whole_boxes};
 use second::reference::before;
 use second::reference::ceiling;
+use second::reference::desk::Desk;
 use second::reference::files::{HEAD, HEAD_2};
 use second::reference::model::{
     ask_head, ordered_inside, words_per_location, Edition, Location, Piece, Plant, Sizes, EDITION_AT, LEVEL,
@@ -23,14 +25,14 @@ fn refused(number: u32) -> bool {
 
 /// The words of the model's table, if the model passes its questions.
 fn table_words(input: &Input) -> Option<usize> {
-    Plant::from_words(input.model).ok().map(|plant| plant.table_words())
+    Plant::from_words(input.model()).ok().map(|plant| plant.table_words())
 }
 
 fn value_not_written_on_a_refusal(call: Call, input: &Input, lent: &mut Lent) -> u32 {
-    let old = *lent.value;
+    let old = lent.read::<u64>(Slice::Value).to_vec();
     let number = answer(call, input, lent);
     if refused(number) {
-        *lent.value = old;
+        lent.slice(Slice::Value).copy_from_slice(&old);
     }
     number
 }
@@ -38,7 +40,7 @@ fn value_not_written_on_a_refusal(call: Call, input: &Input, lent: &mut Lent) ->
 fn limit_as_value_of_unknown(call: Call, input: &Input, lent: &mut Lent) -> u32 {
     let number = answer(call, input, lent);
     if call == Call::Desk && number == 101 {
-        *lent.value = input.limit as u64;
+        *lent.value() = input.limit as u64;
     }
     number
 }
@@ -46,26 +48,26 @@ fn limit_as_value_of_unknown(call: Call, input: &Input, lent: &mut Lent) -> u32 
 fn ceiling_of_32_bits(call: Call, input: &Input, lent: &mut Lent) -> u32 {
     let number = answer(call, input, lent);
     if call == Call::Ceiling {
-        *lent.value = *lent.value as u32 as u64;
+        *lent.value() = *lent.value() as u32 as u64;
     }
     number
 }
 
 /// Does the model pass its questions, with words past its end?
 fn model_is_longer(input: &Input) -> bool {
-    Plant::from_words(input.model).is_ok_and(|plant| plant.words().len() < input.model.len())
+    Plant::from_words(input.model()).is_ok_and(|plant| plant.words().len() < input.model().len())
 }
 
 fn longer_model_refused(call: Call, input: &Input, lent: &mut Lent) -> u32 {
     if call == Call::Ceiling && model_is_longer(input) {
-        *lent.value = 0;
+        *lent.value() = 0;
         return 5;
     }
     answer(call, input, lent)
 }
 
 fn longer_table_refused(call: Call, input: &Input, lent: &mut Lent) -> u32 {
-    if call == Call::Check && table_words(input).is_some_and(|size| size < input.table.len()) {
+    if call == Call::Check && table_words(input).is_some_and(|size| size < input.table().len()) {
         return 32;
     }
     answer(call, input, lent)
@@ -74,8 +76,8 @@ fn longer_table_refused(call: Call, input: &Input, lent: &mut Lent) -> u32 {
 fn touching_asked_before_unchanged(call: Call, input: &Input, lent: &mut Lent) -> u32 {
     let number = answer(call, input, lent);
     if call == Call::Check && number == 33 {
-        let plant = Plant::from_words(input.model).expect("33 comes after the model's questions");
-        if second::reference::tables::forbidden_touched(&plant, &input.table[..plant.table_words()]) {
+        let plant = Plant::from_words(input.model()).expect("33 comes after the model's questions");
+        if second::reference::tables::forbidden_touched(&plant, &input.table()[..plant.table_words()]) {
             return 34;
         }
     }
@@ -84,10 +86,10 @@ fn touching_asked_before_unchanged(call: Call, input: &Input, lent: &mut Lent) -
 
 /// Read a model or a table, with something done to the word buffer afterwards.
 fn after_reading(call: Call, input: &Input, lent: &mut Lent, change: fn(u32, &[i32], &mut [i32])) -> u32 {
-    let before = lent.words.to_vec();
+    let before = lent.words(Slice::Words).to_vec();
     let number = answer(call, input, lent);
     if matches!(call, Call::ReadModel | Call::ReadTable) {
-        change(number, &before, lent.words);
+        change(number, &before, lent.words(Slice::Words));
     }
     number
 }
@@ -127,7 +129,8 @@ fn last_word_kept_where_zeroed(call: Call, input: &Input, lent: &mut Lent) -> u3
 fn rest_zeroed_when_read(call: Call, input: &Input, lent: &mut Lent) -> u32 {
     let number = answer(call, input, lent);
     if call == Call::ReadTable && number == 100 {
-        lent.words[*lent.value as usize..].fill(0);
+        let value = *lent.value() as usize;
+        lent.words(Slice::Words)[value..].fill(0);
     }
     number
 }
@@ -135,31 +138,38 @@ fn rest_zeroed_when_read(call: Call, input: &Input, lent: &mut Lent) -> u32 {
 fn rest_of_the_file_zeroed(call: Call, input: &Input, lent: &mut Lent) -> u32 {
     let number = answer(call, input, lent);
     if call == Call::WriteTable && number == 100 {
-        lent.file[*lent.value as usize..].fill(0);
+        let value = *lent.value() as usize;
+        lent.bytes(Slice::FileRoom)[value..].fill(0);
     }
     number
 }
 
 fn room_asked_before_32(call: Call, input: &Input, lent: &mut Lent) -> u32 {
     let number = answer(call, input, lent);
-    let short = Plant::from_words(input.model).is_ok_and(|plant| lent.file.len() < plant.table_file_room());
+    let room = lent.bytes(Slice::FileRoom).len();
+    let short = Plant::from_words(input.model()).is_ok_and(|plant| room < plant.table_file_room());
     if call == Call::WriteTable && number == 32 && short {
         return 39;
     }
     number
 }
 
+/// A file that is written where it should not be.
+fn written(file: &[u8], lent: &mut Lent) -> u32 {
+    lent.bytes(Slice::FileRoom)[..file.len()].copy_from_slice(file);
+    *lent.value() = file.len() as u64;
+    100
+}
+
 fn room_of_the_file_alone(call: Call, input: &Input, lent: &mut Lent) -> u32 {
     let number = answer(call, input, lent);
     if call == Call::WriteTable && number == 39 {
-        let plant = Plant::from_words(input.model).expect("39 comes after the model's questions");
-        let table = &input.table[..plant.table_words()];
+        let plant = Plant::from_words(input.model()).expect("39 comes after the model's questions");
+        let table = &input.table()[..plant.table_words()];
         assert!(well_formed(&plant, table));
         let file = second::reference::files::table_file(&plant, table);
-        if file.len() <= lent.file.len() {
-            lent.file[..file.len()].copy_from_slice(&file);
-            *lent.value = file.len() as u64;
-            return 100;
+        if file.len() <= lent.bytes(Slice::FileRoom).len() {
+            return written(&file, lent);
         }
     }
     number
@@ -167,7 +177,7 @@ fn room_of_the_file_alone(call: Call, input: &Input, lent: &mut Lent) -> u32 {
 
 fn work_asked_before_table(call: Call, input: &Input, lent: &mut Lent) -> u32 {
     let number = answer(call, input, lent);
-    let short = table_words(input).is_some_and(|size| lent.work.len() < size);
+    let short = table_words(input).is_some_and(|size| lent.words(Slice::Work).len() < size);
     if call == Call::Analyse && number == 20 && short {
         return 21;
     }
@@ -175,20 +185,20 @@ fn work_asked_before_table(call: Call, input: &Input, lent: &mut Lent) -> u32 {
 }
 
 fn work_zeroed_over_the_table(call: Call, input: &Input, lent: &mut Lent) -> u32 {
-    let before = lent.work.to_vec();
+    let before = lent.words(Slice::Work).to_vec();
     let number = answer(call, input, lent);
     if matches!(call, Call::Analyse | Call::Desk) && !refused(number) {
         let size = table_words(input).expect("an answer comes after the model's questions");
-        lent.work[size..].copy_from_slice(&before[size..]);
+        lent.words(Slice::Work)[size..].copy_from_slice(&before[size..]);
     }
     number
 }
 
 fn work_left_after_unknown(call: Call, input: &Input, lent: &mut Lent) -> u32 {
-    let before = lent.work.to_vec();
+    let before = lent.words(Slice::Work).to_vec();
     let number = answer(call, input, lent);
     if call == Call::Desk && number == 101 {
-        lent.work.copy_from_slice(&before);
+        lent.words(Slice::Work).copy_from_slice(&before);
     }
     number
 }
@@ -197,67 +207,69 @@ fn later_table_words_zeroed(call: Call, input: &Input, lent: &mut Lent) -> u32 {
     let number = answer(call, input, lent);
     if call == Call::Analyse && !refused(number) {
         let size = table_words(input).expect("an answer comes after the model's questions");
-        lent.words[size..].fill(0);
+        lent.words(Slice::Words)[size..].fill(0);
     }
     number
 }
 
 /// The desk, with something done to its counters afterwards: number, limit, before and after.
-fn at_the_desk(call: Call, input: &Input, lent: &mut Lent, change: fn(u32, u32, (u32, u32), &mut Lent)) -> u32 {
-    let before = (*lent.jobs, *lent.passes);
+fn at_the_desk(call: Call, input: &Input, lent: &mut Lent, change: fn(u32, u32, Desk, &mut Desk)) -> u32 {
+    let before = lent.desk();
     let number = answer(call, input, lent);
-    if call == Call::Desk {
-        change(number, input.limit, before, lent);
+    if let (Some(before), Some(mut desk)) = (before, lent.desk()) {
+        change(number, input.limit, before, &mut desk);
+        lent.put_desk(&desk);
     }
     number
 }
 
 fn passes_by_the_limit(call: Call, input: &Input, lent: &mut Lent) -> u32 {
-    at_the_desk(call, input, lent, |number, limit, before, lent| {
+    at_the_desk(call, input, lent, |number, limit, before, desk| {
         if !refused(number) {
-            *lent.passes = before.1 + limit;
+            desk.passes = before.passes + limit;
         }
     })
 }
 
 fn refusal_counts_a_job(call: Call, input: &Input, lent: &mut Lent) -> u32 {
-    at_the_desk(call, input, lent, |number, _, before, lent| {
+    at_the_desk(call, input, lent, |number, _, before, desk| {
         if refused(number) {
-            *lent.jobs = before.0.wrapping_add(1);
+            desk.jobs = before.jobs.wrapping_add(1);
         }
     })
 }
 
 fn unfinished_not_charged(call: Call, input: &Input, lent: &mut Lent) -> u32 {
-    at_the_desk(call, input, lent, |number, _, before, lent| {
+    at_the_desk(call, input, lent, |number, _, before, desk| {
         if number == 102 {
-            (*lent.jobs, *lent.passes) = before;
+            *desk = before;
         }
     })
 }
 
 fn counters_exchanged(call: Call, input: &Input, lent: &mut Lent) -> u32 {
-    at_the_desk(call, input, lent, |number, _, _, lent| {
+    at_the_desk(call, input, lent, |number, _, _, desk| {
         if !refused(number) {
-            std::mem::swap(lent.jobs, lent.passes);
+            std::mem::swap(&mut desk.jobs, &mut desk.passes);
         }
     })
 }
 
 fn jobs_not_asked(call: Call, input: &Input, lent: &mut Lent) -> u32 {
-    if call == Call::Desk && *lent.jobs == u32::MAX {
-        *lent.jobs -= 1;
+    if let Some(desk @ Desk { jobs: u32::MAX, .. }) = lent.desk() {
+        lent.put_desk(&Desk { jobs: u32::MAX - 1, ..desk });
     }
     answer(call, input, lent)
 }
 
 fn limit_cut_to_what_is_left(call: Call, input: &Input, lent: &mut Lent) -> u32 {
-    let limit = if call == Call::Desk { input.limit.min(u32::MAX - *lent.passes) } else { input.limit };
-    answer(call, &Input { limit, ..*input }, lent)
+    let limit = lent.desk().map_or(input.limit, |desk| input.limit.min(u32::MAX - desk.passes));
+    answer(call, &input.under(limit), lent)
 }
 
 fn counters_asked_first(call: Call, input: &Input, lent: &mut Lent) -> u32 {
-    let full = *lent.jobs == u32::MAX || *lent.passes as u64 + input.limit as u64 > u32::MAX as u64;
+    let full = |desk: Desk| desk.jobs == u32::MAX || desk.passes as u64 + input.limit as u64 > u32::MAX as u64;
+    let full = lent.desk().is_some_and(full);
     let number = answer(call, input, lent);
     if call == Call::Desk && (20..22).contains(&number) && full {
         return 22;
@@ -275,7 +287,7 @@ fn number_beside_boxes(model: &[i32]) -> Option<u32> {
 
 fn cuts_asked_before_boxes(call: Call, input: &Input, lent: &mut Lent) -> u32 {
     let number = answer(call, input, lent);
-    if number == 19 && call != Call::ReadModel && number_beside_boxes(input.model) == Some(46) {
+    if number == 19 && call != Call::ReadModel && number_beside_boxes(input.model()) == Some(46) {
         return 46;
     }
     number
@@ -306,8 +318,8 @@ fn highest_value_refused(call: Call, input: &Input, lent: &mut Lent) -> u32 {
             plant.cut(l).is_some_and(|cut| cut.value == invariant[2 * cut.variable + 1] - 1)
         })
     };
-    if call == Call::Ceiling && Plant::from_words(input.model).is_ok_and(|plant| highest(&plant)) {
-        *lent.value = 0;
+    if call == Call::Ceiling && Plant::from_words(input.model()).is_ok_and(|plant| highest(&plant)) {
+        *lent.value() = 0;
         return 46;
     }
     answer(call, input, lent)
@@ -317,8 +329,8 @@ fn highest_value_refused(call: Call, input: &Input, lent: &mut Lent) -> u32 {
 fn ceiling_with(call: Call, input: &Input, lent: &mut Lent, more: fn(&Location, usize) -> u64) -> u32 {
     let number = answer(call, input, lent);
     if call == Call::Ceiling && number == 100 {
-        let plant = Plant::from_words(input.model).expect("a ceiling comes after the model's questions");
-        *lent.value += over_cuts(&plant, more);
+        let plant = Plant::from_words(input.model()).expect("a ceiling comes after the model's questions");
+        *lent.value() += over_cuts(&plant, more);
     }
     number
 }
@@ -359,8 +371,10 @@ fn ceiling_with_second_pieces_on_own_walls(call: Call, input: &Input, lent: &mut
 fn quoted_with(call: Call, input: &Input, lent: &mut Lent, change: fn(&Plant, &mut Quote)) -> u32 {
     let number = answer(call, input, lent);
     if call == Call::Quote && number == 100 {
-        let plant = Plant::from_words(input.model).expect("a quote comes after the model's questions");
-        change(&plant, lent.quote);
+        let plant = Plant::from_words(input.model()).expect("a quote comes after the model's questions");
+        let mut quote = lent.quote().expect("a quote is lent its values");
+        change(&plant, &mut quote);
+        lent.put_quote(&quote);
     }
     number
 }
@@ -443,10 +457,11 @@ fn quoted_words_for_bytes(call: Call, input: &Input, lent: &mut Lent) -> u32 {
 
 /// The quote's refusal, with something done to its number and to what was lent.
 fn not_quoted(call: Call, input: &Input, lent: &mut Lent, change: fn(&mut u32, &Quote, &mut Quote)) -> u32 {
-    let old = *lent.quote;
+    let old = lent.quote();
     let mut number = answer(call, input, lent);
-    if call == Call::Quote && refused(number) {
-        change(&mut number, &old, lent.quote);
+    if let (Some(old), Some(mut quote), true) = (old, lent.quote(), refused(number)) {
+        change(&mut number, &old, &mut quote);
+        lent.put_quote(&quote);
     }
     number
 }
@@ -477,7 +492,7 @@ fn quoted_ceiling_kept_on_11(call: Call, input: &Input, lent: &mut Lent) -> u32 
 
 fn longer_model_not_quoted(call: Call, input: &Input, lent: &mut Lent) -> u32 {
     if call == Call::Quote && model_is_longer(input) {
-        *lent.quote = Quote::default();
+        lent.put_quote(&Quote::default());
         return 5;
     }
     answer(call, input, lent)
@@ -485,12 +500,13 @@ fn longer_model_not_quoted(call: Call, input: &Input, lent: &mut Lent) -> u32 {
 
 /// Words of the table if no location were cut.
 fn words_without_cuts(input: &Input) -> Option<usize> {
-    Plant::from_words(input.model).ok().map(|plant| plant.sizes.locations * words_per_location(plant.sizes.n))
+    Plant::from_words(input.model()).ok().map(|plant| plant.sizes.locations * words_per_location(plant.sizes.n))
 }
 
 fn table_asked_without_pieces(call: Call, input: &Input, lent: &mut Lent) -> u32 {
     let number = answer(call, input, lent);
-    if call == Call::Check && number == 20 && words_without_cuts(input).is_some_and(|size| size <= input.table.len()) {
+    if call == Call::Check && number == 20 && words_without_cuts(input).is_some_and(|size| size <= input.table().len())
+    {
         return 32;
     }
     number
@@ -499,13 +515,11 @@ fn table_asked_without_pieces(call: Call, input: &Input, lent: &mut Lent) -> u32
 fn room_of_the_shorter_field(call: Call, input: &Input, lent: &mut Lent) -> u32 {
     let number = answer(call, input, lent);
     if call == Call::WriteTable && number == 39 {
-        let plant = Plant::from_words(input.model).expect("39 comes after the model's questions");
+        let plant = Plant::from_words(input.model()).expect("39 comes after the model's questions");
         let shorter = 7 + plant.pieces() * (11 + 8 * plant.sizes.n);
-        let file = second::reference::files::table_file(&plant, &input.table[..plant.table_words()]);
-        if file.len() <= lent.file.len() && shorter <= lent.file.len() {
-            lent.file[..file.len()].copy_from_slice(&file);
-            *lent.value = file.len() as u64;
-            return 100;
+        let file = second::reference::files::table_file(&plant, &input.table()[..plant.table_words()]);
+        if file.len().max(shorter) <= lent.bytes(Slice::FileRoom).len() {
+            return written(&file, lent);
         }
     }
     number
@@ -517,9 +531,9 @@ fn well_formed_but_for(call: Call, input: &Input, lent: &mut Lent, widest: fn(&P
     if call != Call::Check || number != 32 {
         return number;
     }
-    let plant = Plant::from_words(input.model).expect("32 comes after the model's questions");
+    let plant = Plant::from_words(input.model()).expect("32 comes after the model's questions");
     let stands = |piece: Piece| {
-        let words = &input.table[plant.piece_places(piece)];
+        let words = &input.table()[plant.piece_places(piece)];
         match words[0] {
             0 => words.iter().all(|&word| word == 0),
             flag => flag == 1 && ordered_inside(&words[1..], &widest(&plant, piece)),
@@ -557,7 +571,7 @@ fn second_pieces_taken_on_own_walls(call: Call, input: &Input, lent: &mut Lent) 
 
 fn thirty_six_for_thirty_seven_of_pieces(call: Call, input: &Input, lent: &mut Lent) -> u32 {
     let number = answer(call, input, lent);
-    let cut = Plant::from_words(input.model).is_ok_and(|plant| plant.any_cut());
+    let cut = Plant::from_words(input.model()).is_ok_and(|plant| plant.any_cut());
     if call == Call::ReadTable && number == 37 && cut {
         return 36;
     }
@@ -578,9 +592,9 @@ fn with_starts(model: &[i32], change: fn(&mut [i32])) -> Option<Vec<i32>> {
 /// The ceiling with start boxes of which something is not asked: put right, they pass.
 fn ceiling_not_asking(call: Call, input: &Input, lent: &mut Lent, put_right: fn(&mut [i32])) -> u32 {
     let number = answer(call, input, lent);
-    let words = with_starts(input.model, put_right);
+    let words = with_starts(input.model(), put_right);
     match words {
-        Some(words) if call == Call::Ceiling && number == 13 => answer(call, &Input { model: &words, ..*input }, lent),
+        Some(words) if call == Call::Ceiling && number == 13 => answer(call, &input.with_model(&words), lent),
         _ => number,
     }
 }
@@ -611,7 +625,7 @@ fn zeros_not_asked_under_flag_0(call: Call, input: &Input, lent: &mut Lent) -> u
 
 fn starts_asked_last(call: Call, input: &Input, lent: &mut Lent) -> u32 {
     let number = answer(call, input, lent);
-    let mended = || with_starts(input.model, |start| start.fill(0));
+    let mended = || with_starts(input.model(), |start| start.fill(0));
     if call == Call::Check && number == 13 {
         return mended().and_then(|words| Plant::from_words(&words).err()).unwrap_or(13);
     }
@@ -619,8 +633,8 @@ fn starts_asked_last(call: Call, input: &Input, lent: &mut Lent) -> u32 {
 }
 
 fn start_inside_still_asked(call: Call, input: &Input, lent: &mut Lent) -> u32 {
-    if call == Call::Ceiling && Plant::from_words(input.model).is_ok_and(|plant| any_crosses(&plant)) {
-        *lent.value = 0;
+    if call == Call::Ceiling && Plant::from_words(input.model()).is_ok_and(|plant| any_crosses(&plant)) {
+        *lent.value() = 0;
         return 13;
     }
     answer(call, input, lent)
@@ -628,10 +642,10 @@ fn start_inside_still_asked(call: Call, input: &Input, lent: &mut Lent) -> u32 {
 
 fn start_inside_still_asked_of_files(call: Call, input: &Input, lent: &mut Lent) -> u32 {
     let number = answer(call, input, lent);
-    if call == Call::ReadModel && number == 100 && Plant::from_words(lent.words).is_ok_and(|plant| any_crosses(&plant))
-    {
-        lent.words.fill(0);
-        *lent.value = 0;
+    let crosses = |words: &[i32]| Plant::from_words(words).is_ok_and(|plant| any_crosses(&plant));
+    if call == Call::ReadModel && number == 100 && crosses(lent.words(Slice::Words)) {
+        lent.words(Slice::Words).fill(0);
+        *lent.value() = 0;
         return 13;
     }
     number
@@ -649,7 +663,7 @@ fn buffer_kept_on_13(call: Call, input: &Input, lent: &mut Lent) -> u32 {
 fn analysed_with_whole_boxes(call: Call, input: &Input, lent: &mut Lent) -> u32 {
     let number = answer(call, input, lent);
     if call == Call::Analyse && number == 100 {
-        let plant = Plant::from_words(input.model).expect("an answer comes after the model's questions");
+        let plant = Plant::from_words(input.model()).expect("an answer comes after the model's questions");
         if touched_by_whole_boxes(&plant, &table_of_whole_boxes(&plant, 100).0) {
             return 101;
         }
@@ -661,11 +675,11 @@ fn analysed_with_whole_boxes(call: Call, input: &Input, lent: &mut Lent) -> u32 
 fn checked_with_whole_boxes(call: Call, input: &Input, lent: &mut Lent) -> u32 {
     let number = answer(call, input, lent);
     if call == Call::Check && number == 100 {
-        let plant = Plant::from_words(input.model).expect("an answer comes after the model's questions");
+        let plant = Plant::from_words(input.model()).expect("an answer comes after the model's questions");
         let (reached, words) = (table_of_whole_boxes(&plant, 0).0, plant.sizes.face_words());
         let holds =
             |(held, new): (&[i32], &[i32])| new[0] == 0 || held[0] == 1 && ordered_inside(&new[1..], &held[1..]);
-        if !input.table.chunks_exact(words).zip(reached.chunks_exact(words)).all(holds) {
+        if !input.table().chunks_exact(words).zip(reached.chunks_exact(words)).all(holds) {
             return 33;
         }
     }
@@ -676,10 +690,13 @@ fn checked_with_whole_boxes(call: Call, input: &Input, lent: &mut Lent) -> u32 {
 fn analysed_as_before(wrong: Call, call: Call, input: &Input, lent: &mut Lent) -> u32 {
     let number = answer(call, input, lent);
     if call == wrong && !refused(number) {
-        let plant = Plant::from_words(input.model).expect("an answer comes after the model's questions");
-        let (found, k) = before::run(&plant, input.limit, lent.words, lent.work);
-        *lent.passes = lent.passes.wrapping_sub(*lent.value as u32).wrapping_add(k);
-        *lent.value = k as u64;
+        let plant = Plant::from_words(input.model()).expect("an answer comes after the model's questions");
+        let [table, work] = lent.several([Slice::Words, Slice::Work]);
+        let (found, k) = before::run(&plant, input.limit, table, work);
+        let right = std::mem::replace(lent.value(), k as u64) as u32;
+        if let Some(Desk { jobs, passes }) = lent.desk() {
+            lent.put_desk(&Desk { jobs, passes: passes.wrapping_sub(right).wrapping_add(k) });
+        }
         return found.code();
     }
     number
@@ -696,8 +713,8 @@ fn charged_with_all_delays(call: Call, input: &Input, lent: &mut Lent) -> u32 {
 fn checked_with_all_delays(call: Call, input: &Input, lent: &mut Lent) -> u32 {
     let number = answer(call, input, lent);
     if call == Call::Check && number == 100 {
-        let plant = Plant::from_words(input.model).expect("an answer comes after the model's questions");
-        return before::ask_table(&plant, &input.table[..plant.table_words()]).err().unwrap_or(100);
+        let plant = Plant::from_words(input.model()).expect("an answer comes after the model's questions");
+        return before::ask_table(&plant, &input.table()[..plant.table_words()]).err().unwrap_or(100);
     }
     number
 }
@@ -711,12 +728,12 @@ fn of_edition(model: &[i32], edition: i32) -> Vec<i32> {
 
 /// The call on the same words with another edition word.
 fn answer_of_edition(call: Call, input: &Input, lent: &mut Lent, edition: i32) -> u32 {
-    answer(call, &Input { model: &of_edition(input.model, edition), ..*input }, lent)
+    answer(call, &input.with_model(&of_edition(input.model(), edition)), lent)
 }
 
 fn edition_asked_before_4(call: Call, input: &Input, lent: &mut Lent) -> u32 {
     let number = answer(call, input, lent);
-    if call == Call::Ceiling && number == 4 && Edition::ask(input.model[EDITION_AT]).is_err() {
+    if call == Call::Ceiling && number == 4 && Edition::ask(input.model()[EDITION_AT]).is_err() {
         return 43;
     }
     number
@@ -725,8 +742,8 @@ fn edition_asked_before_4(call: Call, input: &Input, lent: &mut Lent) -> u32 {
 fn edition_asked_after_the_whole(call: Call, input: &Input, lent: &mut Lent) -> u32 {
     let number = answer(call, input, lent);
     if call == Call::Analyse && number == 43 {
-        let (sizes, _) = ask_head(&of_edition(input.model, 1)).expect("43 comes after 2 to 4");
-        if input.model.len() < sizes.model_words() {
+        let (sizes, _) = ask_head(&of_edition(input.model(), 1)).expect("43 comes after 2 to 4");
+        if input.model().len() < sizes.model_words() {
             return 5;
         }
     }
@@ -736,7 +753,7 @@ fn edition_asked_after_the_whole(call: Call, input: &Input, lent: &mut Lent) -> 
 fn edition_asked_after_the_records(call: Call, input: &Input, lent: &mut Lent) -> u32 {
     let number = answer(call, input, lent);
     if call == Call::Check && number == 43 {
-        return match Plant::from_words(&of_edition(input.model, 2)).err() {
+        return match Plant::from_words(&of_edition(input.model(), 2)).err() {
             Some(other) if other >= 11 => other,
             _ => 43,
         };
@@ -754,7 +771,7 @@ fn edition_not_asked(call: Call, input: &Input, lent: &mut Lent) -> u32 {
 
 fn edition_0_taken(call: Call, input: &Input, lent: &mut Lent) -> u32 {
     let number = answer(call, input, lent);
-    if call == Call::ReadTable && number == 43 && input.model[EDITION_AT] == 0 {
+    if call == Call::ReadTable && number == 43 && input.model()[EDITION_AT] == 0 {
         return answer_of_edition(call, input, lent, 1);
     }
     number
@@ -762,7 +779,7 @@ fn edition_0_taken(call: Call, input: &Input, lent: &mut Lent) -> u32 {
 
 fn edition_3_taken(call: Call, input: &Input, lent: &mut Lent) -> u32 {
     let number = answer(call, input, lent);
-    if call == Call::Desk && number == 43 && input.model[EDITION_AT] == 3 {
+    if call == Call::Desk && number == 43 && input.model()[EDITION_AT] == 3 {
         return answer_of_edition(call, input, lent, 2);
     }
     number
@@ -771,21 +788,21 @@ fn edition_3_taken(call: Call, input: &Input, lent: &mut Lent) -> u32 {
 fn edition_by_its_last_byte(call: Call, input: &Input, lent: &mut Lent) -> u32 {
     let number = answer(call, input, lent);
     if call == Call::Ceiling && number == 43 {
-        return answer_of_edition(call, input, lent, input.model[EDITION_AT] & 255);
+        return answer_of_edition(call, input, lent, input.model()[EDITION_AT] & 255);
     }
     number
 }
 
 fn edition_of_the_word_before(call: Call, input: &Input, lent: &mut Lent) -> u32 {
-    if call == Call::Check && input.model.len() > EDITION_AT {
-        return answer_of_edition(call, input, lent, input.model[EDITION_AT - 1]);
+    if call == Call::Check && input.model().len() > EDITION_AT {
+        return answer_of_edition(call, input, lent, input.model()[EDITION_AT - 1]);
     }
     answer(call, input, lent)
 }
 
 fn four_words_are_a_head(call: Call, input: &Input, lent: &mut Lent) -> u32 {
     let number = answer(call, input, lent);
-    if let (Call::Ceiling, &[n, l, e, b]) = (call, input.model) {
+    if let (Call::Ceiling, &[n, l, e, b]) = (call, input.model()) {
         return Sizes::ask(n, l, e, b).err().unwrap_or(5);
     }
     number
@@ -794,7 +811,7 @@ fn four_words_are_a_head(call: Call, input: &Input, lent: &mut Lent) -> u32 {
 fn read_as_edition_1(call: Call, input: &Input, lent: &mut Lent) -> u32 {
     let number = answer(call, input, lent);
     if call == Call::ReadModel && number == 100 {
-        lent.words[EDITION_AT] = 1;
+        lent.words(Slice::Words)[EDITION_AT] = 1;
     }
     number
 }
@@ -802,14 +819,14 @@ fn read_as_edition_1(call: Call, input: &Input, lent: &mut Lent) -> u32 {
 fn tag_as_edition(call: Call, input: &Input, lent: &mut Lent) -> u32 {
     let number = answer(call, input, lent);
     if call == Call::ReadModel && number == 100 {
-        lent.words[EDITION_AT] = input.file[0] as i32;
+        lent.words(Slice::Words)[EDITION_AT] = input.file()[0] as i32;
     }
     number
 }
 
 fn forty_three_of_a_file(call: Call, input: &Input, lent: &mut Lent) -> u32 {
     let number = answer(call, input, lent);
-    let of_a_tag = input.file.first().is_some_and(|tag| *tag != HEAD && *tag != HEAD_2);
+    let of_a_tag = input.file().first().is_some_and(|tag| *tag != HEAD && *tag != HEAD_2);
     if call == Call::ReadModel && number == 1 && of_a_tag {
         return 43;
     }
@@ -817,8 +834,8 @@ fn forty_three_of_a_file(call: Call, input: &Input, lent: &mut Lent) -> u32 {
 }
 
 fn tag_9_refused(call: Call, input: &Input, lent: &mut Lent) -> u32 {
-    if call == Call::ReadModel && input.file.first() == Some(&HEAD_2) {
-        *lent.value = 0;
+    if call == Call::ReadModel && input.file().first() == Some(&HEAD_2) {
+        *lent.value() = 0;
         return 1;
     }
     answer(call, input, lent)
@@ -833,7 +850,7 @@ fn buffer_kept_on_16(call: Call, input: &Input, lent: &mut Lent) -> u32 {
 }
 
 fn every_masked_variable_asked(call: Call, input: &Input, lent: &mut Lent) -> u32 {
-    if call == Call::Analyse && input.model.get(EDITION_AT) == Some(&2) {
+    if call == Call::Analyse && input.model().get(EDITION_AT) == Some(&2) {
         return answer_of_edition(call, input, lent, 1);
     }
     answer(call, input, lent)
@@ -841,7 +858,7 @@ fn every_masked_variable_asked(call: Call, input: &Input, lent: &mut Lent) -> u3
 
 fn d_alone_asked_in_edition_1(call: Call, input: &Input, lent: &mut Lent) -> u32 {
     let number = answer(call, input, lent);
-    if call == Call::Ceiling && number == 16 && input.model[EDITION_AT] == 1 {
+    if call == Call::Ceiling && number == 16 && input.model()[EDITION_AT] == 1 {
         return answer_of_edition(call, input, lent, 2);
     }
     number
@@ -849,8 +866,8 @@ fn d_alone_asked_in_edition_1(call: Call, input: &Input, lent: &mut Lent) -> u32
 
 fn d_not_asked_in_edition_2(call: Call, input: &Input, lent: &mut Lent) -> u32 {
     let number = answer(call, input, lent);
-    if call == Call::Ceiling && number == 16 && input.model[EDITION_AT] == 2 {
-        let mut words = input.model.to_vec();
+    if call == Call::Ceiling && number == 16 && input.model()[EDITION_AT] == 2 {
+        let mut words = input.model().to_vec();
         let (sizes, _) = ask_head(&words).expect("16 comes after the head's questions");
         for s in 0..sizes.switches {
             let d = words[sizes.switch_at(s) + 2];
@@ -859,15 +876,15 @@ fn d_not_asked_in_edition_2(call: Call, input: &Input, lent: &mut Lent) -> u32 {
                 words[at + 1] = words[at];
             }
         }
-        return answer(call, &Input { model: &words, ..*input }, lent);
+        return answer(call, &input.with_model(&words), lent);
     }
     number
 }
 
 /// The call on the same model with other reset ranges, where its own is answered.
 fn answered_with(call: Call, input: &Input, lent: &mut Lent, wrong: Call, change: fn([i32; 2]) -> [i32; 2]) -> u32 {
-    match Plant::from_words(input.model) {
-        Ok(plant) if call == wrong => answer(call, &Input { model: &with_ranges(&plant, change), ..*input }, lent),
+    match Plant::from_words(input.model()) {
+        Ok(plant) if call == wrong => answer(call, &input.with_model(&with_ranges(&plant, change)), lent),
         _ => answer(call, input, lent),
     }
 }
@@ -1007,7 +1024,7 @@ fn writes_beside_a_buffer_are_found() {
         let number = answer(call, input, lent);
         if call == Call::Analyse {
             // SAFETY: not tight, so margins lie on both sides of the words.
-            unsafe { *lent.words.as_mut_ptr().add(lent.words.len()) = 77 };
+            unsafe { *lent.words(Slice::Words).as_mut_ptr_range().end = 77 };
         }
         number
     }

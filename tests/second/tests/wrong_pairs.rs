@@ -5,9 +5,9 @@
 mod alone;
 
 use alone::Alone;
-use second::c_calls::exports::{answer, Call, Input, Lent};
+use second::c_calls::exports::{answer, Call};
+use second::c_calls::slices::{Input, Lengths, Lent, Slice};
 use second::held::compare::Difference;
-use second::held::lending::Lengths;
 use second::held::pairing::{
     accepted_stays, ends_within, files_stay, first_stays, limits, never_unknown, quoted_alike, second_safe, Pair,
 };
@@ -24,13 +24,13 @@ type Wrong = fn(Call, &Input, &mut Lent) -> u32;
 fn hold(calls: &mut Alone, pair: &Pair, table: &[i32]) -> Result<(), Difference> {
     let quote = quoted_alike(calls, pair)?;
     let (size, limit) = (quote.words as usize, pass_budget(pair.first).min(200));
-    let lengths = Lengths { words: size + calls.random.below(4), work: size, file: 0 };
+    let lengths = Lengths::of_table(size).with(Slice::Words, size + calls.random.below(4));
     if let Some(found) = first_stays(calls, pair, limit, &lengths)? {
         let soon = ends_within(pair.second, 2_000);
         let limits = if soon { limits(&mut calls.random, quote.ceiling) } else { vec![] };
-        second_safe(calls, pair, &found.words, &limits, &lengths)?;
+        second_safe(calls, pair, found.words(), &limits, &lengths)?;
         files_stay(calls, pair, limit, &limits, quote.bytes as usize)?;
-        never_unknown(calls, pair, found.value as u32, &quote)?;
+        never_unknown(calls, pair, found.value() as u32, &quote)?;
     }
     accepted_stays(calls, pair, table)?;
     Ok(())
@@ -62,11 +62,11 @@ fn is_analysis(call: Call) -> bool {
 
 /// The analysis or the checker of another model, where the own passes its questions.
 fn of_another(call: Call, input: &Input, lent: &mut Lent, change: fn(&mut Draft)) -> u32 {
-    match Plant::from_words(input.model) {
+    match Plant::from_words(input.model()) {
         Ok(plant) if is_analysis(call) || call == Call::Check => {
             let mut draft = Draft::of(&plant);
             change(&mut draft);
-            answer(call, &Input { model: &draft.words(), ..*input }, lent)
+            answer(call, &input.with_model(&draft.words()), lent)
         }
         _ => answer(call, input, lent),
     }
@@ -76,7 +76,10 @@ fn of_another(call: Call, input: &Input, lent: &mut Lent, change: fn(&mut Draft)
 fn accepted_but(call: Call, input: &Input, lent: &mut Lent, change: fn(&Plant, &[i32]) -> u32) -> u32 {
     let number = answer(call, input, lent);
     if call == Call::Check && number == 100 {
-        return change(&Plant::from_words(input.model).expect("100 comes after the model's questions"), input.table);
+        return change(
+            &Plant::from_words(input.model()).expect("100 comes after the model's questions"),
+            input.table(),
+        );
     }
     number
 }
@@ -85,7 +88,7 @@ fn accepted_but(call: Call, input: &Input, lent: &mut Lent, change: fn(&Plant, &
 fn safe_but(call: Call, input: &Input, lent: &mut Lent, change: fn(&Plant, u32) -> u32) -> u32 {
     let number = answer(call, input, lent);
     if is_analysis(call) && number == 100 {
-        return change(&Plant::from_words(input.model).expect("100 comes after the model's questions"), input.limit);
+        return change(&Plant::from_words(input.model()).expect("100 comes after the model's questions"), input.limit);
     }
     number
 }
@@ -238,7 +241,7 @@ fn first_box_alone_tested(call: Call, input: &Input, lent: &mut Lent) -> u32 {
 fn ceiling_by_switches(call: Call, input: &Input, lent: &mut Lent) -> u32 {
     let number = answer(call, input, lent);
     if call == Call::Ceiling && number == 100 {
-        *lent.value += input.model[2] as u64;
+        *lent.value() += input.model()[2] as u64;
     }
     number
 }
@@ -246,7 +249,7 @@ fn ceiling_by_switches(call: Call, input: &Input, lent: &mut Lent) -> u32 {
 fn quoted_by_edition(call: Call, input: &Input, lent: &mut Lent) -> u32 {
     let number = answer(call, input, lent);
     if call == Call::Quote && number == 100 {
-        lent.quote.bytes += 4 * input.model[4] as u64;
+        lent.slice::<u64>(Slice::Quote)[1] += 4 * input.model()[4] as u64;
     }
     number
 }
@@ -257,11 +260,11 @@ fn file_of_another_count_refused(call: Call, input: &Input, lent: &mut Lent) -> 
     if call != Call::ReadTable || number != 100 {
         return number;
     }
-    let plant = Plant::from_words(input.model).expect("100 comes after the model's questions");
+    let plant = Plant::from_words(input.model()).expect("100 comes after the model's questions");
     let mut own = vec![0; plant.table_words()];
     close(&plant, &mut own, 2_000);
     let present = |table: &[i32]| table.chunks_exact(plant.sizes.face_words()).filter(|words| words[0] == 1).count();
-    unless(present(&own) == present(&lent.words[..own.len()]), 35)
+    unless(present(&own) == present(&lent.words(Slice::Words)[..own.len()]), 35)
 }
 
 /// Everything is accepted: more is, and a narrower plant is no exception.

@@ -10,7 +10,8 @@ use std::cell::Cell;
 
 use alone::Alone;
 use finding::{found_after, must_be_found, Answer};
-use second::c_calls::exports::{answer, Call, Input, Lent};
+use second::c_calls::exports::{answer, Call};
+use second::c_calls::slices::{Input, Lent, Slice};
 use second::held::writing::round_trip;
 use second::inputs::generate::random_model;
 use second::inputs::random::Random;
@@ -58,11 +59,12 @@ fn written(call: Call, input: &Input, lent: &mut Lent) -> u32 {
         return answer(call, input, lent);
     }
     let writer = WRITER.get();
-    let (number, value) = match (writer.ask)(input.model, lent.file.len()) {
-        Ok(plant) => (100, (writer.leave)(&(writer.file)(&plant, input.model), lent.file)),
-        Err(number) => (number, (writer.refuse)(number, input.model, lent.file)),
+    let (model, room) = (input.model(), lent.bytes(Slice::FileRoom));
+    let (number, value) = match (writer.ask)(model, room.len()) {
+        Ok(plant) => (100, (writer.leave)(&(writer.file)(&plant, model), room)),
+        Err(number) => (number, (writer.refuse)(number, model, room)),
     };
-    *lent.value = value as u64;
+    *lent.value() = value as u64;
     number
 }
 
@@ -409,33 +411,34 @@ fn what_does_not_come_back() {
 }
 
 /// The reader with something done to what it read.
-fn after_reading(call: Call, input: &Input, lent: &mut Lent, change: fn(&mut Lent)) -> u32 {
+fn after_reading(call: Call, input: &Input, lent: &mut Lent, change: fn(&mut [i32], &mut u64)) -> u32 {
     let number = answer(call, input, lent);
     if call == Call::ReadModel && number == 100 {
-        change(lent);
+        let mut value = *lent.value();
+        change(lent.words(Slice::Words), &mut value);
+        *lent.value() = value;
     }
     number
 }
 
 fn read_as_edition_1(call: Call, input: &Input, lent: &mut Lent) -> u32 {
-    after_reading(call, input, lent, |lent| lent.words[EDITION_AT] = Edition::One.word())
+    after_reading(call, input, lent, |words, _| words[EDITION_AT] = Edition::One.word())
 }
 
 fn read_without_cuts(call: Call, input: &Input, lent: &mut Lent) -> u32 {
-    after_reading(call, input, lent, |lent| {
-        let (sizes, _) = ask_head(lent.words).expect("what was read has a head");
-        lent.words[sizes.cut_at(0)..sizes.model_words()]
-            .chunks_exact_mut(2)
-            .for_each(|cut| cut.copy_from_slice(&[-1, 0]));
+    after_reading(call, input, lent, |words, _| {
+        let (sizes, _) = ask_head(words).expect("what was read has a head");
+        let cuts = words[sizes.cut_at(0)..sizes.model_words()].chunks_exact_mut(2);
+        cuts.for_each(|cut| cut.copy_from_slice(&[-1, 0]));
     })
 }
 
 fn read_and_the_rest_zeroed(call: Call, input: &Input, lent: &mut Lent) -> u32 {
-    after_reading(call, input, lent, |lent| lent.words[*lent.value as usize..].fill(0))
+    after_reading(call, input, lent, |words, value| words[*value as usize..].fill(0))
 }
 
 fn read_with_another_value(call: Call, input: &Input, lent: &mut Lent) -> u32 {
-    after_reading(call, input, lent, |lent| *lent.value = lent.words.len() as u64)
+    after_reading(call, input, lent, |words, value| *value = words.len() as u64)
 }
 
 #[test]

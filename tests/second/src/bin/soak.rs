@@ -13,10 +13,10 @@ use std::collections::BTreeMap;
 use std::fs::File;
 use std::io::Read;
 
-use second::c_calls::exports::{Call, Input, Lent};
+use second::c_calls::exports::Call;
 use second::c_calls::host_ffi;
+use second::c_calls::slices::{Input, Lengths, Lent, Numbers, Slice};
 use second::held::compare::MOST_ROOM;
-use second::held::lending::Lengths;
 use second::inputs::damage::{
     damage_bytes, damage_table, damaged_cuts, damaged_table_file, edited_model_file, edited_words,
 };
@@ -24,7 +24,6 @@ use second::inputs::generate::{close, pass_budget, random_limit, random_model, r
 use second::inputs::random::Random;
 use second::reference::files::{model_file, table_file};
 use second::reference::model::Plant;
-use second::reference::quote::Quote;
 
 const CALLS: u64 = 1_000_000;
 const SEED: u64 = 0x50AC;
@@ -34,9 +33,8 @@ const MODELS: usize = 1_000;
 const MOST_PASSES: u32 = 40;
 /// How often the resident memory is looked at: this many times, evenly.
 const LOOKS: u64 = 100;
-/// What the buffers hold before each call.
-const OLD: u8 = 0xC3;
-const OLD_WORD: i32 = 0x3C3C_3C3C;
+/// What all that is lent holds before each call: this in every byte.
+const OLD: u64 = 0xC3C3_C3C3_C3C3_C3C3;
 /// Words of the largest table, which has more than the largest model.
 const MOST_WORDS: usize = 19_968;
 
@@ -47,27 +45,24 @@ enum Asked {
     Other { call: Call, model: Vec<i32>, table: Vec<i32>, file: Vec<u8>, limit: u32, lengths: Lengths },
 }
 
-/// What a call gave: number, value and quote, and a sum over all lent buffers.
-#[derive(Clone, Copy, Default, PartialEq)]
+/// What a call gave: its number, its value, and a sum over all that was lent but for the desk.
+#[derive(Clone, Copy, PartialEq)]
 struct Outcome {
     number: u64,
     value: u64,
-    quote: Quote,
     sum: u64,
 }
 
-/// All memory that is lent, and the desk that stands.
-struct Memory {
-    file: Vec<u8>,
-    words: Vec<i32>,
-    work: Vec<i32>,
-    jobs: u32,
-    passes: u32,
+/// All memory that is lent, with a desk that stands: of each slice the longest that is asked for.
+fn whole_memory() -> Lent {
+    let longest = Lengths::of_table(MOST_WORDS).with(Slice::FileRoom, MOST_ROOM);
+    Lent::all(0, |slice| Numbers::made(slice, longest.of(slice), || 0))
 }
 
-/// The sum of a buffer, in which every byte or word and its place count (FNV-1a).
-fn sum(start: u64, list: impl Iterator<Item = u64>) -> u64 {
-    list.fold(start, |sum, part| (sum ^ part).wrapping_mul(0x0100_0000_01B3))
+/// What was given, and a sum over what was left, in which every number and its place count (FNV-1a).
+fn outcome(number: u64, memory: &mut Lent) -> Outcome {
+    let add = |sum: u64, part: u64| (sum ^ part).wrapping_mul(0x0100_0000_01B3);
+    Outcome { number, value: *memory.value(), sum: memory.sum(0xCBF2_9CE4_8422_2325, add) }
 }
 
 /// What the inputs of one model are made from.
@@ -119,9 +114,9 @@ fn inputs_of_a_call(random: &mut Random, made: &Made, call: Call, pool: &mut Vec
     let mut other = table.clone();
     damage_table(random, plant, &mut other);
     let edited = if random.chance(1, 2) { edited_words(random, plant) } else { words.to_vec() };
-    let whole = Lengths { words: due, work: due, file: room };
-    let mut shorter = |due: usize| due - random.below(2);
-    let short = Lengths { words: shorter(due), work: shorter(due), file: shorter(room) };
+    let whole = Lengths::of_table(due).with(Slice::FileRoom, room);
+    let shorter = |lengths: Lengths, slice: Slice| lengths.with(slice, lengths.of(slice) - random.below(2));
+    let short = Slice::ROOM.into_iter().fold(whole, shorter);
     let (model, table) = (words.to_vec(), table.clone());
     pool.push(Asked::Other { call, model, table, file, limit, lengths: whole });
     pool.push(Asked::Other { call, model: edited, table: other, file: broken, limit, lengths: short });
@@ -144,37 +139,30 @@ fn inputs_of_a_model(random: &mut Random, pool: &mut Vec<Asked>) {
     }
 }
 
+/// Lends these lengths, with old contents but for the desk.
+fn lend(memory: &mut Lent, lengths: &Lengths) {
+    memory.lend(lengths);
+    memory.fill(OLD);
+}
+
 /// Makes one call. A desk call goes to the standing desk.
-fn make(asked: &Asked, memory: &mut Memory) -> Outcome {
-    let seed = 0xCBF2_9CE4_8422_2325;
-    match asked {
+fn make(asked: &Asked, memory: &mut Lent) -> Outcome {
+    let number = match asked {
         Asked::Decide { model, length, limit } => {
-            let buffer = &mut memory.file[..*length];
-            buffer.fill(OLD);
-            let number = host_ffi::decide(model, buffer, *limit);
-            Outcome { number, sum: sum(seed, buffer.iter().map(|&b| b as u64)), ..Outcome::default() }
+            lend(memory, &Lengths::of_file(*length));
+            host_ffi::decide(model, memory.bytes(Slice::FileRoom), *limit)
         }
-        Asked::Check { model, table } => Outcome { number: host_ffi::check(model, table), ..Outcome::default() },
+        Asked::Check { model, table } => {
+            lend(memory, &Lengths::default());
+            host_ffi::check(model, table)
+        }
         Asked::Other { call, model, table, file, limit, lengths } => {
-            let (buffer, work) = (&mut memory.words[..lengths.words], &mut memory.work[..lengths.work]);
-            let bytes = &mut memory.file[..lengths.file];
-            buffer.fill(OLD_WORD);
-            work.fill(OLD_WORD);
-            bytes.fill(OLD);
-            let (mut value, mut quote) = (0, Quote::default());
-            let input = Input { model, table, file, limit: *limit };
-            let number = {
-                let (jobs, passes) = (&mut memory.jobs, &mut memory.passes);
-                let (value, quote) = (&mut value, &mut quote);
-                let mut lent = Lent { words: buffer, work, file: bytes, jobs, passes, value, quote };
-                host_ffi::answer(*call, &input, &mut lent) as u64
-            };
-            let left = sum(seed, memory.words[..lengths.words].iter().map(|&w| w as u64));
-            let left = sum(left, memory.work[..lengths.work].iter().map(|&w| w as u64));
-            let left = sum(left, memory.file[..lengths.file].iter().map(|&b| b as u64));
-            Outcome { number, value, quote, sum: left }
+            lend(memory, lengths);
+            let input = Input::of_model(model).with_table(table).with_file(file).under(*limit);
+            host_ffi::answer(*call, &input, memory) as u64
         }
-    }
+    };
+    outcome(number, memory)
 }
 
 /// The code of an answer or a refusal.
@@ -213,7 +201,7 @@ struct Soaked {
 }
 
 /// Goes through the pool over and over.
-fn soak(pool: &[Asked], first: &[Outcome], memory: &mut Memory, calls: u64) -> Soaked {
+fn soak(pool: &[Asked], first: &[Outcome], memory: &mut Lent, calls: u64) -> Soaked {
     let mut soaked = Soaked { changed: 0, charged: (0, 0), least: u64::MAX, most: 0 };
     let mut text = [0u8; 4096];
     let looks_every = (calls / LOOKS).max(1);
@@ -246,8 +234,7 @@ fn main() {
     for _ in 0..MODELS {
         inputs_of_a_model(&mut random, &mut pool);
     }
-    let mut memory =
-        Memory { file: vec![0; MOST_ROOM], words: vec![0; MOST_WORDS], work: vec![0; MOST_WORDS], jobs: 0, passes: 0 };
+    let mut memory = whole_memory();
     let first: Vec<Outcome> = pool.iter().map(|asked| make(asked, &mut memory)).collect();
     let mut codes: BTreeMap<u64, u64> = BTreeMap::new();
     let (mut jobs, mut passes) = (0, 0);
@@ -262,9 +249,10 @@ fn main() {
     let (jobs, passes) = (jobs + soaked.charged.0, passes + soaked.charged.1);
     let (changed, least, most) = (soaked.changed, soaked.least, soaked.most);
     println!("{calls} calls: {changed} gave something else than at first");
-    println!("the desk has {} jobs and {} passes; its answers make {jobs} and {passes}", memory.jobs, memory.passes);
+    let desk = memory.desk().expect("the desk stands");
+    println!("the desk has {} jobs and {} passes; its answers make {jobs} and {passes}", desk.jobs, desk.passes);
     println!("resident memory after the warm-up: {least} kB at least, {most} kB at most");
-    if changed > 0 || least != most || (memory.jobs as u64, memory.passes as u64) != (jobs, passes) {
+    if changed > 0 || least != most || (desk.jobs as u64, desk.passes as u64) != (jobs, passes) {
         println!("FAILED");
         std::process::exit(1);
     }

@@ -4,9 +4,10 @@
 //! then length. Without it they are stand-ins that call this package itself, so that the
 //! comparing program can be built and tried out.
 
-use crate::c_calls::exports::{Call, Input, Lent};
+use super::exports::Call;
+use super::slices::{Input, Lent};
 #[cfg(feature = "host")]
-use crate::reference::quote::Quote;
+use super::slices::{Number, Slice};
 
 /// True if the program under test is linked in.
 pub const LINKED: bool = cfg!(feature = "host");
@@ -93,18 +94,18 @@ pub fn check(model: &[u8], table: &[u8]) -> u64 {
     unsafe { library::check(model.as_ptr(), model.len(), table.as_ptr(), table.len()) }
 }
 
-/// Any of the other calls.
+/// Any of the other calls. A slice that it does not take is empty, and its pointer is not passed.
 #[cfg(feature = "host")]
 pub fn answer(call: Call, input: &Input, lent: &mut Lent) -> u32 {
-    let (model, model_len) = (input.model.as_ptr(), input.model.len());
-    let (table, table_len) = (input.table.as_ptr(), input.table.len());
-    let (file, file_len) = (input.file.as_ptr(), input.file.len());
-    let (words, words_len) = (lent.words.as_mut_ptr(), lent.words.len());
-    let (work, work_len) = (lent.work.as_mut_ptr(), lent.work.len());
-    let (room, room_len) = (lent.file.as_mut_ptr(), lent.file.len());
-    let (limit, value): (u32, *mut u64) = (input.limit, lent.value);
-    let Quote { words: quoted_words, bytes, ceiling } = &mut *lent.quote;
-    // SAFETY: every pointer is valid for its length, and no two that are lent overlap.
+    let (model, model_len) = (input.model().as_ptr(), input.model().len());
+    let (table, table_len) = (input.table().as_ptr(), input.table().len());
+    let (file, file_len) = (input.file().as_ptr(), input.file().len());
+    let (words, words_len) = lent_pointer(lent, Slice::Words);
+    let (work, work_len) = lent_pointer(lent, Slice::Work);
+    let (room, room_len) = lent_pointer(lent, Slice::FileRoom);
+    let (value, _) = lent_pointer(lent, Slice::Value);
+    let limit = input.limit;
+    // SAFETY: every pointer is valid for its length, and no two that are lent overlap. A quote has three values.
     unsafe {
         match call {
             Call::ReadModel => library::qii_read_model(file, file_len, words, words_len, value),
@@ -114,13 +115,23 @@ pub fn answer(call: Call, input: &Input, lent: &mut Lent) -> u32 {
             Call::ReadTable => library::qii_read_table(model, model_len, file, file_len, words, words_len, value),
             Call::WriteTable => library::qii_write_table(model, model_len, table, table_len, room, room_len, value),
             Call::Desk => {
-                let (jobs, passes): (*mut u32, *mut u32) = (lent.jobs, lent.passes);
+                let [(jobs, _), (passes, _)] = [Slice::Jobs, Slice::Passes].map(|slice| lent_pointer(lent, slice));
                 library::qii_desk(jobs, passes, model, model_len, limit, words, words_len, work, work_len, value)
             }
-            Call::Quote => library::qii_quote(model, model_len, quoted_words, bytes, ceiling),
+            Call::Quote => {
+                let (quote, _) = lent_pointer(lent, Slice::Quote);
+                library::qii_quote(model, model_len, quote, quote.add(1), quote.add(2))
+            }
             Call::WriteModel => library::qii_write_model(model, model_len, room, room_len, value),
         }
     }
+}
+
+/// Where a slice is lent, and how long it is.
+#[cfg(feature = "host")]
+fn lent_pointer<T: Number>(lent: &mut Lent, slice: Slice) -> (*mut T, usize) {
+    let numbers = lent.slice(slice);
+    (numbers.as_mut_ptr(), numbers.len())
 }
 
 #[cfg(not(feature = "host"))]

@@ -1,10 +1,10 @@
 //! The fixed cases of the C calls beside decide and check: the documents' numbers, and sweeps over
 //! every length, every bit and every word of small inputs.
 
-use crate::c_calls::exports::{Call, Input, Slice};
+use crate::c_calls::exports::Call;
+use crate::c_calls::slices::{Input, Left, Lengths, Slice};
 use crate::fixed::documents::EDGES;
 use crate::held::compare::{Comparison, Difference, MOST_ROOM};
-use crate::held::lending::{Left, Lengths};
 use crate::inputs::draft::Draft;
 use crate::inputs::examples;
 use crate::inputs::generate::close;
@@ -29,7 +29,7 @@ impl Whole {
         Whole {
             model_file: model_file(&model),
             table_file: table_file(&plant, &table),
-            lengths: Lengths { words: size, work: size, file: plant.table_file_room() },
+            lengths: Lengths::of_table(size).with(Slice::FileRoom, plant.table_file_room()),
             model,
             table,
         }
@@ -55,13 +55,13 @@ impl Whole {
 
     pub(crate) fn input(&self, call: Call, limit: u32) -> Input<'_> {
         let file = if call == Call::ReadModel { &self.model_file } else { &self.table_file };
-        Input { model: &self.model, table: &self.table, file, limit }
+        Input::of_model(&self.model).with_table(&self.table).with_file(file).under(limit)
     }
 
     pub(crate) fn lengths(&self, call: Call) -> Lengths {
         match call {
-            Call::ReadModel => Lengths { words: self.model.len(), ..self.lengths },
-            Call::WriteModel => Lengths { file: self.model_file.len(), ..self.lengths },
+            Call::ReadModel => self.lengths.with(Slice::Words, self.model.len()),
+            Call::WriteModel => self.lengths.with(Slice::FileRoom, self.model_file.len()),
             _ => self.lengths,
         }
     }
@@ -103,7 +103,7 @@ impl Comparison {
         wanted: (u32, u64),
     ) -> Result<Left, Difference> {
         let left = self.fixed(label, call, input, lengths, Desk::default())?;
-        let found = (left.number, if call.has_value() { left.value } else { 0 });
+        let found = (left.number, left.value());
         if found == wanted {
             return Ok(left);
         }
@@ -130,7 +130,7 @@ impl Comparison {
             self.gives("P", call, &p.input(call, LIMIT), &p.lengths(call), (number, value))?;
         }
         let left = self.gives("P, limit 0", Call::Analyse, &p.input(Call::Analyse, 0), &lengths, (102, 0))?;
-        if left.words.iter().any(|&word| word != 0) {
+        if left.words().iter().any(|&word| word != 0) {
             return Err(Difference { text: "P, limit 0: table 0 is not all zeros".to_string() });
         }
         let unknown = Whole::new(&examples::plant_p_unknown(), examples::plant_p_table());
@@ -139,14 +139,13 @@ impl Comparison {
         let mut narrow = examples::plant_p_table();
         narrow[16] = 3;
         let wider = examples::plant_p_wider();
-        self.gives("narrow", Call::Check, &Input { table: &narrow, ..p.input(Call::Check, 0) }, &lengths, (33, 0))?;
-        self.gives("wider", Call::Check, &Input { table: &wider, ..p.input(Call::Check, 0) }, &lengths, (100, 0))?;
+        self.gives("narrow", Call::Check, &p.input(Call::Check, 0).with_table(&narrow), &lengths, (33, 0))?;
+        self.gives("wider", Call::Check, &p.input(Call::Check, 0).with_table(&wider), &lengths, (100, 0))?;
         Ok(())
     }
 
     /// Lists of words whose numbers the readings give, and the largest ceiling.
     fn numbers_of_lists(&mut self) -> Result<(), Difference> {
-        let none = Input { model: &[], table: &[], file: &[], limit: 0 };
         let lengths = Lengths::default();
         for (list, number) in [
             (&[][..], 5),
@@ -160,10 +159,11 @@ impl Comparison {
             (&[1, 1, 0, 0, 1], 5),
         ] {
             for call in Call::on_words() {
-                self.gives("a short list", call, &Input { model: list, ..none }, &lengths, (number, 0))?;
+                self.gives("a short list", call, &Input::of_model(list), &lengths, (number, 0))?;
             }
         }
-        let input = Input { model: &examples::widest().words(), ..none };
+        let widest = examples::widest().words();
+        let input = Input::of_model(&widest);
         self.gives("the largest ceiling without a cut", Call::Ceiling, &input, &lengths, (100, 7_680_000_768))?;
         Ok(())
     }
@@ -175,8 +175,8 @@ impl Comparison {
         for call in Call::ALL {
             let file = if call == Call::ReadModel { file.clone() } else { field(6, &[0]) };
             let words = if call == Call::ReadModel { model.len() } else { table.len() };
-            let lengths = Lengths { words, work: table.len(), file: MOST_ROOM };
-            let input = Input { model: &model, table: &table, file: &file, limit: LIMIT };
+            let lengths = Lengths::of_table(table.len()).with(Slice::Words, words).with(Slice::FileRoom, MOST_ROOM);
+            let input = Input::of_model(&model).with_table(&table).with_file(&file).under(LIMIT);
             self.gives("n 7", call, &input, &lengths, (2, 0))?;
         }
         Ok(())
@@ -204,11 +204,12 @@ impl Comparison {
             let input = p.input(Call::Desk, limit);
             let left = self.fixed("P at the desk", Call::Desk, &input, &p.lengths(Call::Desk), before)?;
             let wanted = (number, Desk { jobs: jobs_after, passes: passes_after });
-            if (left.number, left.desk) != wanted {
+            if (left.number, left.desk()) != wanted {
                 return Err(Difference {
                     text: format!(
                         "{before:?}, limit {limit}: wanted {wanted:?}, both give {} {:?}",
-                        left.number, left.desk
+                        left.number,
+                        left.desk()
                     ),
                 });
             }
@@ -220,35 +221,29 @@ impl Comparison {
     /// of edition 2.
     fn every_length(&mut self) -> Result<(), Difference> {
         for p in [Whole::p(), Whole::cut_p(), Whole::at_rest(&examples::set_to([2, 5]))] {
-            let more = [1, 0, -1];
-            let longer = |list: &[i32]| [list, &more[..]].concat();
-            let (model, table) = (longer(&p.model), longer(&p.table));
             for call in Call::ALL {
-                let (whole, exact) = (p.input(call, LIMIT), p.lengths(call));
-                let file = [whole.file, &[0; 3]].concat();
-                for &slice in call.slices() {
-                    let most = 3 + match slice {
-                        Slice::Model => whole.model.len(),
-                        Slice::Table => whole.table.len(),
-                        Slice::File => whole.file.len(),
-                        Slice::Words => exact.words,
-                        Slice::Work => exact.work,
-                        Slice::FileRoom => exact.file,
-                    };
-                    for length in 0..=most {
-                        let (mut input, mut lengths) = (whole, exact);
-                        match slice {
-                            Slice::Model => input.model = &model[..length],
-                            Slice::Table => input.table = &table[..length],
-                            Slice::File => input.file = &file[..length],
-                            Slice::Words => lengths.words = length,
-                            Slice::Work => lengths.work = length,
-                            Slice::FileRoom => lengths.file = length,
-                        }
-                        self.fixed("P, every length", call, &input, &lengths, Desk::default())?;
-                    }
+                for slice in call.sized() {
+                    self.every_length_of(&p, call, slice)?;
                 }
             }
+        }
+        Ok(())
+    }
+
+    fn every_length_of(&mut self, p: &Whole, call: Call, slice: Slice) -> Result<(), Difference> {
+        let (whole, exact) = (p.input(call, LIMIT), p.lengths(call));
+        let words = [whole.words(slice), &[1, 0, -1]].concat();
+        let bytes = [whole.bytes(slice), &[0; 3]].concat();
+        let due = if slice.is_read() { whole.length(slice) } else { exact.of(slice) };
+        for length in 0..=due + 3 {
+            let (input, lengths) = if !slice.is_read() {
+                (whole, exact.with(slice, length))
+            } else if slice.is_bytes() {
+                (whole.with_bytes(slice, &bytes[..length]), exact)
+            } else {
+                (whole.with_words(slice, &words[..length]), exact)
+            };
+            self.fixed("P, every length", call, &input, &lengths, Desk::default())?;
         }
         Ok(())
     }
@@ -264,7 +259,7 @@ impl Comparison {
                     let mut changed = words.clone();
                     changed[index] = edge;
                     for call in Call::on_words() {
-                        let input = Input { model: &changed, ..whole.input(call, 20) };
+                        let input = whole.input(call, 20).with_model(&changed);
                         let left = self.fixed(label, call, &input, &whole.lengths(call), Desk::default())?;
                         self.there_and_back(call, &input, &left)?;
                     }
@@ -282,7 +277,7 @@ impl Comparison {
                     let mut changed = p.table.clone();
                     changed[index] = edge;
                     for call in [Call::Check, Call::WriteTable] {
-                        let input = Input { table: &changed, ..p.input(call, 0) };
+                        let input = p.input(call, 0).with_table(&changed);
                         self.fixed("P's table with another word", call, &input, &p.lengths(call), Desk::default())?;
                     }
                 }
@@ -297,14 +292,14 @@ impl Comparison {
         for p in [Whole::p(), Whole::cut_p(), Whole::at_rest(&examples::set_to([2, 5]))] {
             for call in [Call::ReadModel, Call::ReadTable] {
                 let (whole, lengths) = (p.input(call, 0), p.lengths(call));
-                for length in 0..whole.file.len() {
-                    let input = Input { file: &whole.file[..length], ..whole };
+                for length in 0..whole.file().len() {
+                    let input = whole.with_file(&whole.file()[..length]);
                     self.fixed("a file that ends early", call, &input, &lengths, Desk::default())?;
                 }
-                for bit in 0..8 * whole.file.len() {
-                    let mut flipped = whole.file.to_vec();
+                for bit in 0..8 * whole.file().len() {
+                    let mut flipped = whole.file().to_vec();
                     flipped[bit / 8] ^= 1 << (bit % 8);
-                    let input = Input { file: &flipped, ..whole };
+                    let input = whole.with_file(&flipped);
                     let left = self.fixed("a file with a bit flipped", call, &input, &lengths, Desk::default())?;
                     self.there_and_back(call, &input, &left)?;
                 }

@@ -1,11 +1,11 @@
 //! The fixed cases of cut locations (document 02, T-12), of all calls: the numbers of question 46 and of
 //! those that pieces move, in words and in files.
 
-use crate::c_calls::exports::{Call, Input};
+use crate::c_calls::exports::Call;
+use crate::c_calls::slices::{Input, Lengths, Slice};
 use crate::fixed::calls::Whole;
 use crate::fixed::documents::{answer, cut_p_file, cut_p_table_file, p_file};
 use crate::held::compare::{hex, Comparison, Difference, MOST_ROOM};
-use crate::held::lending::Lengths;
 use crate::inputs::draft::Draft;
 use crate::inputs::examples::{self, P_CUT, P_FORBIDDEN, P_LOCATION, P_WORDS};
 use crate::reference::files::{field, file_of_words, model_file};
@@ -202,10 +202,10 @@ impl Comparison {
             self.gives("P cut", call, &whole.input(call, LIMIT), &whole.lengths(call), (number, value))?;
         }
         for call in [Call::Analyse, Call::Desk, Call::ReadTable] {
-            let lengths = Lengths { words: 39, ..whole.lengths(call) };
+            let lengths = whole.lengths(call).with(Slice::Words, 39);
             self.gives("P cut, a word short", call, &whole.input(call, LIMIT), &lengths, (20, 0))?;
         }
-        let lengths = Lengths { work: 39, ..whole.lengths(Call::Analyse) };
+        let lengths = whole.lengths(Call::Analyse).with(Slice::Work, 39);
         self.gives("P cut, a word short", Call::Analyse, &whole.input(Call::Analyse, LIMIT), &lengths, (21, 0))?;
         Ok(())
     }
@@ -232,17 +232,15 @@ impl Comparison {
 
     /// The number of read_model, and the words it left.
     fn call_read_model(&mut self, label: &str, file: &[u8]) -> Result<(u32, Vec<i32>), Difference> {
-        let input = Input { model: &[], table: &[], file, limit: 0 };
-        let lengths = Lengths { words: 200, ..Lengths::default() };
+        let (input, lengths) = (Input::of_file(file), Lengths::of_words(200));
         self.counts.fixed += 3;
         let left = self.call(label, Call::ReadModel, &input, &lengths, Default::default())?;
-        Ok((left.number, left.words))
+        Ok((left.number, left.words().to_vec()))
     }
 
     /// Model words that end with the words of a cut.
     fn words_with_cuts(&mut self) -> Result<(), Difference> {
         let whole = Whole::cut_p();
-        let none = Input { model: &[], table: &[], file: &[], limit: 0 };
         for (cut, number) in WORDS_OF_P {
             let mut model = examples::plant_p().words();
             model[P_CUT..].copy_from_slice(&cut);
@@ -253,10 +251,10 @@ impl Comparison {
                     (100, stopped) => stopped,
                     _ => number,
                 };
-                let input = Input { model: &model, ..none };
+                let input = Input::of_model(&model);
                 self.gives("P with a cut", call, &input, &Lengths::default(), (wanted, 0))?;
                 // One word short: 5, whatever the words are.
-                let input = Input { model: &model[..P_WORDS - 1], ..none };
+                let input = Input::of_model(&model[..P_WORDS - 1]);
                 self.gives("P with half a cut", call, &input, &Lengths::default(), (5, 0))?;
             }
             // A bad box comes first, and so does a bad invariant.
@@ -264,7 +262,7 @@ impl Comparison {
                 let mut model = model.clone();
                 model[place] = word;
                 for call in Call::on_words() {
-                    let input = Input { model: &model, ..none };
+                    let input = Input::of_model(&model);
                     self.gives("P, wrong before its cut", call, &input, &Lengths::default(), (earlier, 0))?;
                 }
             }
@@ -273,7 +271,7 @@ impl Comparison {
         let mut two = examples::water_level_cut().words();
         let cuts = two.len() - 8;
         two[cuts + 3] = 20;
-        self.gives("a cut at an end", Call::Ceiling, &Input { model: &two, ..none }, &Lengths::default(), (46, 0))?;
+        self.gives("a cut at an end", Call::Ceiling, &Input::of_model(&two), &Lengths::default(), (46, 0))?;
         self.gives("P", Call::Ceiling, &whole.input(Call::Ceiling, 0), &Lengths::default(), (100, 46))?;
         Ok(())
     }
@@ -282,13 +280,13 @@ impl Comparison {
     fn tables_of_pieces(&mut self) -> Result<(), Difference> {
         let whole = Whole::cut_p();
         for (label, table, number) in tables_of_p() {
-            let input = Input { table: &table, ..whole.input(Call::Check, 0) };
+            let input = whole.input(Call::Check, 0).with_table(&table);
             self.gives(label, Call::Check, &input, &whole.lengths(Call::Check), (number, 0))?;
             // What is well formed can be written.
             let left = self.call(
                 label,
                 Call::WriteTable,
-                &Input { table: &table, ..whole.input(Call::WriteTable, 0) },
+                &whole.input(Call::WriteTable, 0).with_table(&table),
                 &whole.lengths(Call::WriteTable),
                 Default::default(),
             )?;
@@ -330,9 +328,9 @@ impl Comparison {
         for value in [1 - LEVEL, 0, LEVEL - 1] {
             let cuts = (0..64).map(|l| (l, l % 6, value)).collect();
             let draft = Draft { cuts, ..examples::widest() };
-            let input = Input { model: &draft.words(), table: &[], file: &[], limit: 0 };
+            let words = draft.words();
             let wanted = (100, 12_800_001_408);
-            self.gives("the largest ceiling", Call::Ceiling, &input, &Lengths::default(), wanted)?;
+            self.gives("the largest ceiling", Call::Ceiling, &Input::of_model(&words), &Lengths::default(), wanted)?;
         }
         Ok(())
     }

@@ -1,10 +1,10 @@
 //! The comparison's fixed cases of decide and check: the documents', source 000's examples, the sample models, and
 //! sweeps over every length, every bit and every word of small files; and the list of all fixed cases.
 
-use crate::c_calls::exports::{Call, Input};
+use crate::c_calls::exports::Call;
+use crate::c_calls::slices::{Input, Lengths};
 use crate::fixed::calls::Whole;
 use crate::held::compare::{hex, written_table, Comparison, Difference, MOST_ROOM};
-use crate::held::lending::Lengths;
 use crate::inputs::draft::{grid, Draft};
 use crate::inputs::examples::{self, set_to};
 use crate::inputs::samples;
@@ -212,7 +212,7 @@ impl Comparison {
     ) -> Result<(), Difference> {
         let whole = Whole::new(draft, table.to_vec());
         self.gives(label, Call::Check, &whole.input(Call::Check, 0), &whole.lengths(Call::Check), (number, 0))?;
-        let (model, table) = (whole.input(Call::ReadModel, 0).file, whole.input(Call::ReadTable, 0).file);
+        let (model, table) = (whole.input(Call::ReadModel, 0).file(), whole.input(Call::ReadTable, 0).file());
         self.check_gives(label, model, table, number as u64)
     }
 
@@ -338,7 +338,7 @@ impl Comparison {
             let mut without_the_last = table.clone();
             without_the_last[size - plant.sizes.face_words()..].fill(0);
             self.checks_give(&label, &draft, &without_the_last, 33)?;
-            let short = Input { model: &words, table: &table[..size - 1], file: &[], limit: 0 };
+            let short = Input::of_model(&words).with_table(&table[..size - 1]);
             self.gives(&label, Call::Check, &short, &Lengths::default(), (20, 0))?;
             draft.forbidden = vec![(cells - 1, draft.locations[cells - 1].invariant.clone())];
             self.decide_gives(&label, &model_file(&draft.words()), MOST_ROOM, 9, answer(101, 0))?;

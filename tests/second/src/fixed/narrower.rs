@@ -1,11 +1,11 @@
 //! The fixed pairs of document 02's T-13, worked out small: for each of its conditions pairs that break this one alone,
 //! and for which its promise does not hold; and pairs that keep them all.
 
-use crate::c_calls::exports::{Call, Input};
+use crate::c_calls::exports::Call;
+use crate::c_calls::slices::{Input, Lengths, Slice};
 use crate::fixed::documents::answer;
 use crate::fixed::starts::unwanted;
 use crate::held::compare::{Comparison, Difference, MOST_ROOM};
-use crate::held::lending::Lengths;
 use crate::held::pairing::{files_stay, first_stays, never_unknown, quoted_alike, second_safe, Compared, Pair};
 use crate::inputs::draft::{Draft, LocationDraft, SwitchDraft};
 use crate::inputs::examples::{
@@ -249,19 +249,18 @@ impl Comparison {
     fn needed_case(&mut self, case: &Needed) -> Result<(), Difference> {
         let (label, model) = (case.label, case.first.words());
         let plant = Plant::from_words(&model).expect("the first of a pair passes its questions");
-        let size = plant.table_words();
-        let lengths = Lengths { words: size, work: size, file: plant.table_file_room() };
-        let input = Input { limit: LIMIT, ..Input::of_model(&model) };
+        let lengths = Lengths::of_table(plant.table_words()).with(Slice::FileRoom, plant.table_file_room());
+        let input = Input::of_model(&model).under(LIMIT);
         let found = self.fixed(label, Call::Analyse, &input, &lengths, Desk::default())?;
-        let with_table = Input { table: &found.words, ..input };
+        let with_table = input.with_table(found.words());
         let written = self.fixed(label, Call::WriteTable, &with_table, &lengths, Desk::default())?;
         if found.number != SAFE {
             return Err(unwanted(label, SAFE, found.number));
         }
         let second = case.second.words();
-        let of_second = Input { model: &second, ..with_table };
+        let of_second = with_table.with_model(&second);
         self.gives(label, Call::Check, &of_second, &lengths, (case.refused[0], 0))?;
-        let (file, table) = (model_file(&second), &written.file[..written.value as usize]);
+        let (file, table) = (model_file(&second), &written.file()[..written.value() as usize]);
         self.check_gives(label, &file, table, case.refused[1] as u64)?;
         let (code, passes) = case.answered;
         self.decide_gives(label, &file, MOST_ROOM, LIMIT, answer(code as u64, passes as u64))?;
@@ -276,18 +275,18 @@ impl Comparison {
         let pair = Pair { first, second };
         let calls = &mut Compared(self);
         let quote = quoted_alike(calls, &pair)?;
-        let lengths = Lengths { words: quote.words as usize + 3, work: quote.words as usize, file: 0 };
+        let lengths = Lengths::of_table(quote.words as usize).with(Slice::Words, quote.words as usize + 3);
         let limits = [quote.ceiling as u32, u32::MAX];
         let found =
             first_stays(calls, &pair, LIMIT, &lengths)?.ok_or_else(|| unwanted(case.label, SAFE, "not safe"))?;
-        let again = second_safe(calls, &pair, &found.words, &limits, &lengths)?.expect("there are limits");
+        let again = second_safe(calls, &pair, found.words(), &limits, &lengths)?.expect("there are limits");
         let in_files = files_stay(calls, &pair, LIMIT, &limits, quote.bytes as usize)?;
         let unfinished = never_unknown(calls, &pair, case.passes[0], &quote)?;
         if !in_files
             || unfinished != (case.passes[0] < case.passes[1])
-            || [found.value, again.value] != case.passes.map(u64::from)
+            || [found.value(), again.value()] != case.passes.map(u64::from)
         {
-            return Err(unwanted(case.label, case.passes, (in_files, unfinished, found.value, again.value)));
+            return Err(unwanted(case.label, case.passes, (in_files, unfinished, found.value(), again.value())));
         }
         self.counts.fixed += 1;
         Ok(())

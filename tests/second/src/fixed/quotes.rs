@@ -1,11 +1,11 @@
 //! The fixed cases of the quote (document 02, T-07): quotes worked out by hand, each held to answers of all calls, and
 //! plants whose answer takes all that is quoted.
 
-use crate::c_calls::exports::{Call, Input};
+use crate::c_calls::exports::Call;
+use crate::c_calls::slices::{Input, Lengths};
 use crate::fixed::documents::answer;
 use crate::fixed::starts::unwanted;
 use crate::held::compare::{written_table, Comparison, Difference};
-use crate::held::lending::Lengths;
 use crate::inputs::draft::{Draft, LocationDraft};
 use crate::inputs::examples::{
     all_cut, at_rest, dosing, face_by_face, level_by_level, plant_p, plant_p_cut, three_tanks, widest,
@@ -128,9 +128,9 @@ impl Comparison {
     }
 
     fn quote_gives(&mut self, label: &str, words: &[i32], wanted: [u64; 3]) -> Result<(), Difference> {
-        let input = Input { model: words, table: &[], file: &[], limit: 0 };
+        let input = Input::of_model(words);
         let Quote { words, bytes, ceiling } =
-            self.gives(label, Call::Quote, &input, &Lengths::default(), (100, 0))?.quote;
+            self.gives(label, Call::Quote, &input, &Lengths::default(), (100, 0))?.quote();
         if [words, bytes, ceiling] != wanted {
             return Err(unwanted(label, wanted, [words, bytes, ceiling]));
         }
@@ -147,7 +147,7 @@ impl Comparison {
     ) -> Result<(), Difference> {
         let words = draft.words();
         let (plant, file) = (Plant::from_words(&words).expect("an example passes its questions"), model_file(&words));
-        let quote = self.quote_of(&Input { model: &words, table: &[], file: &[], limit: 0 })?;
+        let quote = self.quote_of(&Input::of_model(&words))?;
         for (limit, code, k) in [(ceiling as u32, 100, passes), (passes, 100, passes), (passes - 1, 102, passes - 1)] {
             let wanted = answer(code, k as u64);
             let buffer = self.decide_gives(label, &file, quote.bytes as usize, limit, wanted)?;

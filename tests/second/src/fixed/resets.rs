@@ -1,11 +1,11 @@
 //! The fixed cases of editions and reset ranges (document 02, T-10), of all calls: question 43 and its place, the
 //! first tag, question 16 in both editions, and switch steps, answers and tables worked out by hand.
 
-use crate::c_calls::exports::{Call, Input};
+use crate::c_calls::exports::Call;
+use crate::c_calls::slices::{Input, Lengths};
 use crate::fixed::documents::{answer, EDGES};
 use crate::fixed::starts::{answered_as, unwanted, Answered, OfTable};
 use crate::held::compare::{Comparison, Difference, MOST_ROOM};
-use crate::held::lending::Lengths;
 use crate::inputs::draft::Draft;
 use crate::inputs::examples::{
     all_cut, hand_filled, large_grid, plant_p, set_to, AT_THE_STIRRER, BY_HAND, OVER_THE_RIM, P_CUT, P_FORBIDDEN,
@@ -345,11 +345,10 @@ impl Comparison {
             }
         }
         // The edition is the fifth word and no other.
-        let none = Input { model: &[], table: &[], file: &[], limit: 0 };
         let one = [1, 1, 0, 0, 1, 0, 9, 1, 1, 0, 0, 0, -1, 0];
-        self.gives("n 1", Call::Ceiling, &Input { model: &one, ..none }, &Lengths::default(), (100, 2))?;
+        self.gives("n 1", Call::Ceiling, &Input::of_model(&one), &Lengths::default(), (100, 2))?;
         for call in Call::on_words() {
-            let input = Input { model: &[2, 2, 2, 2, 0], ..none };
+            let input = Input::of_model(&[2, 2, 2, 2, 0]);
             self.gives("four counts of 2", call, &input, &Lengths::default(), (43, 0))?;
         }
         Ok(())
@@ -389,8 +388,7 @@ impl Comparison {
         } else {
             self.decide_gives(label, file, MOST_ROOM, 9, answer(number as u64, 0))?;
             self.check_gives(label, file, &field(6, &[0]), number as u64)?;
-            let input = Input { model: &[], table: &[], file, limit: 0 };
-            self.gives(label, Call::ReadModel, &input, &Lengths { words, ..Lengths::default() }, (number, 0))?;
+            self.gives(label, Call::ReadModel, &Input::of_file(file), &Lengths::of_words(words), (number, 0))?;
         }
         Ok(())
     }
@@ -425,13 +423,13 @@ impl Comparison {
                 if file[0] != tag || words[EDITION_AT] != edition.word() {
                     return Err(unwanted(&label, tag, file[0]));
                 }
-                let input = Input { model: &[], table: &[], file: &file, limit: 0 };
-                let exact = Lengths { words: words.len(), ..Lengths::default() };
+                let input = Input::of_file(&file);
+                let exact = Lengths::of_words(words.len());
                 let left = self.gives(&label, Call::ReadModel, &input, &exact, (100, words.len() as u64))?;
-                if left.words != words {
-                    return Err(unwanted(&label, words, left.words));
+                if left.words() != words {
+                    return Err(unwanted(&label, words, left.words()));
                 }
-                let short = Lengths { words: words.len() - 1, ..Lengths::default() };
+                let short = Lengths::of_words(words.len() - 1);
                 self.gives(&label, Call::ReadModel, &input, &short, (5, 0))?;
             }
         }
@@ -451,8 +449,8 @@ impl Comparison {
             let plant = Plant::from_words(&words).expect("an example passes its questions");
             self.decide_gives(label, &model, plant.table_file_room(), 9, answer(code, passes))?;
             let size = plant.table_words();
-            let lengths = Lengths { words: size, work: size, file: 0 };
-            let input = Input { model: &words, table: &[], file: &[], limit: 9 };
+            let lengths = Lengths::of_table(size);
+            let input = Input::of_model(&words).under(9);
             for call in [Call::Analyse, Call::Desk] {
                 self.gives(label, call, &input, &lengths, (code as u32, passes))?;
             }

@@ -1,10 +1,10 @@
 //! The fixed cases of start boxes that cross the wall (document 02, T-02), of all calls: question 13 at its
 //! edges and in its order, and answers worked out by hand.
 
-use crate::c_calls::exports::{Call, Input};
+use crate::c_calls::exports::Call;
+use crate::c_calls::slices::{Input, Lengths};
 use crate::fixed::documents::answer;
 use crate::held::compare::{Comparison, Difference, MOST_ROOM};
-use crate::held::lending::Lengths;
 use crate::inputs::draft::Draft;
 use crate::inputs::examples;
 use crate::reference::files::{field, file_of_words};
@@ -232,10 +232,10 @@ impl Comparison {
         number: u32,
         ceiling: u64,
     ) -> Result<(), Difference> {
-        let input = Input { model: words, table: &[], file: &[], limit: LIMIT };
+        let input = Input::of_model(words).under(LIMIT);
         let of_ceiling = (number, if number == 100 { ceiling } else { 0 });
         self.gives(label, Call::Ceiling, &input, &Lengths::default(), of_ceiling)?;
-        let quote = self.gives(label, Call::Quote, &input, &Lengths::default(), (number, 0))?.quote;
+        let quote = self.gives(label, Call::Quote, &input, &Lengths::default(), (number, 0))?.quote();
         if quote.ceiling != of_ceiling.1 || (number != 100 && quote != Quote::default()) {
             return Err(unwanted(label, of_ceiling, quote));
         }
@@ -257,8 +257,7 @@ impl Comparison {
         let (decided, _) = self.decide(label, file, MOST_ROOM, LIMIT)?;
         let checked = self.check(label, file, &field(6, &[0]))?;
         self.counts.fixed += 2;
-        let input = Input { model: &[], table: &[], file, limit: 0 };
-        let lengths = Lengths { words, ..Lengths::default() };
+        let (input, lengths) = (Input::of_file(file), Lengths::of_words(words));
         let read = (number, if number == 100 { words as u64 } else { 0 });
         let left = self.gives(label, Call::ReadModel, &input, &lengths, read)?;
         let refused = number != 100;
@@ -267,8 +266,8 @@ impl Comparison {
         {
             return Err(unwanted(label, number, (decided, checked)));
         }
-        if refused && left.words.iter().any(|&word| word != 0) {
-            return Err(unwanted(label, "a word buffer of zeros", left.words));
+        if refused && left.words().iter().any(|&word| word != 0) {
+            return Err(unwanted(label, "a word buffer of zeros", left.words()));
         }
         Ok(())
     }
@@ -299,16 +298,16 @@ impl Comparison {
         self.decided_by_hand(case, &plant, &table)?;
         self.check_gives(label, &file_of_words(&plant.sizes, &words), &table, checked)?;
         let size = plant.table_words();
-        let lengths = Lengths { words: size, work: size, file: 0 };
-        let input = Input { model: &words, table: &[], file: &table, limit: LIMIT };
-        let read = self.gives(label, Call::ReadTable, &input, &lengths, (100, size as u64))?.words;
+        let lengths = Lengths::of_table(size);
+        let input = Input::of_model(&words).with_file(&table).under(LIMIT);
+        let read = self.gives(label, Call::ReadTable, &input, &lengths, (100, size as u64))?.words().to_vec();
         for call in [Call::Analyse, Call::Desk] {
             let left = self.gives(label, call, &input, &lengths, (code, passes as u64))?;
-            if left.words != read {
-                return Err(unwanted(label, read, left.words));
+            if left.words() != read {
+                return Err(unwanted(label, read, left.words()));
             }
         }
-        self.gives(label, Call::Check, &Input { table: &read, ..input }, &lengths, (checked as u32, 0))?;
+        self.gives(label, Call::Check, &input.with_table(&read), &lengths, (checked as u32, 0))?;
         Ok(())
     }
 
@@ -330,11 +329,11 @@ impl Comparison {
         let words = examples::start_part_across_a_cut().words();
         let plant = Plant::from_words(&words).expect("a start box across walls passes its questions");
         let size = plant.table_words();
-        let lengths = Lengths { words: size, work: size, file: 0 };
-        let input = Input { model: &words, table: &[], file: &[], limit: 1 };
+        let lengths = Lengths::of_table(size);
+        let input = Input::of_model(&words).under(1);
         let left = self.call(label, Call::Analyse, &input, &lengths, Default::default())?;
         self.counts.fixed += 1;
-        let (wanted, found) = ([1, 20, 20, 7, 10, 27, 35], &left.words[plant.face_places(0, 1)][..7]);
+        let (wanted, found) = ([1, 20, 20, 7, 10, 27, 35], &left.words()[plant.face_places(0, 1)][..7]);
         if found != wanted {
             return Err(unwanted(label, wanted, found));
         }

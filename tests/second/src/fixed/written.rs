@@ -1,11 +1,12 @@
 //! The fixed cases of written model files (document 02, T-01): files worked out by hand, byte by byte, the lengths of
 //! others, the order of the questions, and the sample models written again.
 
-use crate::c_calls::exports::{Call, Input};
+use crate::c_calls::exports::Call;
+use crate::c_calls::slices::{Input, Lengths};
 use crate::fixed::quotes::cut;
 use crate::fixed::starts::unwanted;
 use crate::held::compare::{hex, Comparison, Difference};
-use crate::held::writing::{file_room, word_room, written_as};
+use crate::held::writing::written_as;
 use crate::inputs::draft::{Draft, LocationDraft};
 use crate::inputs::examples::{
     all_cut, at_rest, dosing, hand_filled, large_grid, plant_p, plant_p_cut, three_tanks, two_tank, water_level,
@@ -174,7 +175,8 @@ impl Comparison {
         for list in [words, &longer] {
             for length in [0, 1, bytes - 1, bytes + 1, MOST_MODEL_BYTES + 1, bytes] {
                 let wanted = if length < bytes { (40, 0) } else { (100, bytes as u64) };
-                file = self.gives(label, Call::WriteModel, &Input::of_model(list), &file_room(length), wanted)?.file;
+                let (input, room) = (Input::of_model(list), Lengths::of_file(length));
+                file = self.gives(label, Call::WriteModel, &input, &room, wanted)?.file().to_vec();
             }
         }
         let plant = Plant::from_words(words).expect("an example passes its questions");
@@ -190,7 +192,7 @@ impl Comparison {
             changes.iter().for_each(|&(place, word)| words[place] = word);
             let input = Input::of_model(&words);
             for length in [0, 1, 269, 270, MOST_MODEL_BYTES] {
-                self.gives("a bad word", Call::WriteModel, &input, &file_room(length), (number, 0))?;
+                self.gives("a bad word", Call::WriteModel, &input, &Lengths::of_file(length), (number, 0))?;
             }
         }
         Ok(())
@@ -199,14 +201,14 @@ impl Comparison {
     /// Every sample model that reads is written again, byte for byte.
     fn samples_written_again(&mut self) -> Result<(), Difference> {
         for (name, file) in samples::all() {
-            let room = word_room(MOST_MODEL_WORDS);
+            let room = Lengths::of_words(MOST_MODEL_WORDS);
             let read = self.call(name, Call::ReadModel, &Input::of_file(&file), &room, Default::default())?;
             self.counts.fixed += 1;
             if (read.number == 100) == name.starts_with("refused") {
                 return Err(unwanted(name, "a sample that reads, or is refused by its name", read.number));
             }
             if read.number == 100 {
-                written_as(self, &read.words[..read.value as usize], &file, 1)?;
+                written_as(self, &read.words()[..read.value() as usize], &file, 1)?;
                 self.counts.fixed += 2;
             }
         }

@@ -4,10 +4,10 @@
 //! What must not be is asked of every random model. Its tables lie inside those of before after as many passes,
 //! and it does not become unknown; the tested calls accept each table that was accepted before.
 
-use crate::c_calls::exports::{Call, Input};
+use crate::c_calls::exports::Call;
+use crate::c_calls::slices::{Input, Lengths};
 use crate::held::compare::{hex, Comparison, Difference};
 use crate::held::coverage::{note, Tally};
-use crate::held::lending::Lengths;
 use crate::inputs::generate::{close_by, pass_budget, put_random_piece};
 use crate::inputs::random::Random;
 use crate::reference::analysis::{run_quick, Answer};
@@ -244,7 +244,7 @@ impl Comparison {
     /// A table of before, other than the answer's, to both checks.
     fn table_of_before(&mut self, plant: &Plant, table: &[i32]) -> Result<(), Difference> {
         let label = "a table of before";
-        let input = Input { model: plant.words(), table, file: &[], limit: 0 };
+        let input = Input::of_model(plant.words()).with_table(table);
         let by_words = self.call(label, Call::Check, &input, &Lengths::default(), Desk::default())?.number;
         let by_file = self.check(label, &model_file(plant.words()), &table_file(plant, table))?;
         let accepted = by_words == 100 && by_file == 100;

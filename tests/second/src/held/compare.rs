@@ -4,7 +4,8 @@
 
 use std::fmt;
 
-use crate::c_calls::exports::{Call, Input, Lent};
+use crate::c_calls::exports::Call;
+use crate::c_calls::slices::{Input, Lent};
 use crate::held::coverage::{note, Counts};
 use crate::held::simulate::travel;
 use crate::inputs::damage::{

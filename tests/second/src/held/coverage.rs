@@ -354,7 +354,7 @@ pub fn all_damage() -> Vec<String> {
 pub fn all_lengths() -> Vec<String> {
     let mut kinds = Vec::new();
     for call in Call::ALL {
-        for slice in call.slices() {
+        for slice in call.sized() {
             kinds.extend(LENGTH_KINDS[..4].iter().map(|kind| format!("{} {slice:?} {kind}", call.name())));
         }
     }

@@ -3,9 +3,9 @@
 //! A model without a range is answered alike in both editions; one with a range is refused by 16 in edition 1. A
 //! table that is accepted for a model is accepted with what is narrower in each range: fewer levels are set.
 
-use crate::c_calls::exports::{Call, Input, Slice};
+use crate::c_calls::exports::Call;
+use crate::c_calls::slices::{Input, Lengths, Slice};
 use crate::held::compare::{hex, Comparison, Difference};
-use crate::held::lending::Lengths;
 use crate::inputs::generate::pass_budget;
 use crate::inputs::ranges::{
     any_range, highs_alone, in_other_edition, inside_alone, lows_alone, one_wider, with_ranges,
@@ -49,11 +49,12 @@ impl Comparison {
         let model = file_of_words(&plant.sizes, words);
         let (decided, _) = self.decide(label, &model, plant.table_file_room(), 1)?;
         let mut numbers = vec![decided >> 32, self.check(label, &model, &table_file(plant, table))?];
-        let lengths = Lengths { words: words.len(), work: plant.table_words(), file: plant.table_file_room() };
+        let table_words = plant.table_words();
         for call in Call::ALL {
-            let lengths =
-                if call.takes(Slice::Work) { Lengths { words: plant.table_words(), ..lengths } } else { lengths };
-            let input = Input { model: words, table, file: &model, limit: 1 };
+            let length = if call.takes(Slice::Work) { table_words } else { words.len() };
+            let lengths = Lengths::of_table(table_words).with(Slice::Words, length);
+            let lengths = lengths.with(Slice::FileRoom, plant.table_file_room());
+            let input = Input::of_model(words).with_table(table).with_file(&model).under(1);
             numbers.push(self.call(label, call, &input, &lengths, Desk::default())?.number as u64);
         }
         if numbers.iter().all(|&number| number == 16) {
@@ -92,7 +93,7 @@ impl Comparison {
 
     /// qii_check and check on a model and a table.
     fn both_checks(&mut self, label: &str, plant: &Plant, table: &[i32]) -> Result<[u64; 2], Difference> {
-        let input = Input { model: plant.words(), table, file: &[], limit: 0 };
+        let input = Input::of_model(plant.words()).with_table(table);
         let by_words = self.call(label, Call::Check, &input, &Lengths::default(), Desk::default())?.number as u64;
         let by_file = self.check(label, &model_file(plant.words()), &table_file(plant, table))?;
         Ok([by_words, by_file])

@@ -3,7 +3,8 @@
 
 use std::cmp::Ordering;
 
-use crate::c_calls::exports::{answer, Call, Input, Lent, Slice};
+use crate::c_calls::exports::{answer, Call};
+use crate::c_calls::slices::{Input, Left, Lengths, Lent, Numbers, Slice};
 use crate::held::compare::{hex, Comparison, Difference};
 use crate::held::coverage::note;
 use crate::held::quoting::quoted_lengths;
@@ -24,42 +25,6 @@ const PAST_THE_TABLE: usize = 5;
 
 /// Models that are kept for the desk's lists.
 const RECENT: usize = 8;
-
-/// How long the lent buffers are.
-#[derive(Clone, Copy, Default)]
-pub struct Lengths {
-    pub words: usize,
-    pub work: usize,
-    pub file: usize,
-}
-
-impl Lengths {
-    /// Those of the buffers that the call takes.
-    fn of(&self, call: Call) -> Lengths {
-        let taken = |slice: Slice, length: usize| if call.takes(slice) { length } else { 0 };
-        Lengths {
-            words: taken(Slice::Words, self.words),
-            work: taken(Slice::Work, self.work),
-            file: taken(Slice::FileRoom, self.file),
-        }
-    }
-}
-
-/// What the tested call gave, and left in the memory that was lent to it.
-#[derive(Default)]
-pub struct Left {
-    pub number: u32,
-    pub value: u64,
-    pub quote: Quote,
-    pub words: Vec<i32>,
-    /// What the words were before.
-    pub old: Vec<i32>,
-    pub work: Vec<i32>,
-    pub file: Vec<u8>,
-    /// What the file's bytes were before.
-    pub old_file: Vec<u8>,
-    pub desk: Desk,
-}
 
 /// The lengths that are due: of the model's words, its table, the file that is handed over, the room for
 /// a table file, and the model's own file.
@@ -91,24 +56,25 @@ impl Due {
             Slice::File => self.file,
             Slice::FileRoom if call == Call::WriteModel => self.model_file,
             Slice::FileRoom => self.room,
+            Slice::Jobs | Slice::Passes | Slice::Value | Slice::Quote => Lengths::default().of(slice),
         }
     }
 
     /// Lengths for the buffers that are lent, each by the one that is due.
     fn lent(&self, call: Call, mut length: impl FnMut(usize) -> usize) -> Lengths {
-        let mut length = |slice: Slice| length(self.of(call, slice));
-        Lengths { words: length(Slice::Words), work: length(Slice::Work), file: length(Slice::FileRoom) }
+        let with = |lengths: Lengths, slice: Slice| lengths.with(slice, length(self.of(call, slice)));
+        Slice::ROOM.into_iter().fold(Lengths::default(), with)
     }
 }
 
 /// Did a call that gave this number come as far as to ask for the length of a lent buffer? What is read counts always.
 fn asked_for(call: Call, slice: Slice, number: u32) -> bool {
     match slice {
-        Slice::Model | Slice::Table | Slice::File => true,
         Slice::Words if call == Call::ReadModel => number >= 5,
         Slice::Words => matches!(number, 20..=40 | 100..),
         Slice::Work => matches!(number, 21..=40 | 100..),
         Slice::FileRoom => matches!(number, 39..=40 | 100..),
+        _ => true,
     }
 }
 
@@ -161,91 +127,56 @@ fn file_for(call: Call, plant: &Plant, table: &[i32]) -> Vec<u8> {
     }
 }
 
-/// A copy in a heap block that ends with it, at some offset, to vary its address.
-fn placed<T: Copy + Default>(random: &mut Random, list: &[T]) -> (Box<[T]>, usize) {
-    let offset = random.below(4);
-    let mut block = vec![T::default(); offset];
-    block.extend(list);
-    (block.into_boxed_slice(), offset)
+/// A copy in a heap block that ends with it, behind so many other numbers.
+fn placed<T: Copy + Default>(list: &[T], behind: usize) -> Box<[T]> {
+    [&vec![T::default(); behind][..], list].concat().into_boxed_slice()
 }
 
-/// All memory that a call may write, with margins around the buffers.
-#[derive(Clone, PartialEq)]
-struct Memory {
-    words: Box<[i32]>,
-    work: Box<[i32]>,
-    file: Box<[u8]>,
-    jobs: Box<u32>,
-    passes: Box<u32>,
-    value: Box<u64>,
-    quote: Box<Quote>,
+/// Copies of the slices that a call reads, each behind some other numbers, to vary its address.
+struct Placed(Vec<(Slice, usize, Box<[i32]>, Box<[u8]>)>);
+
+impl Placed {
+    fn new(random: &mut Random, input: &Input) -> Placed {
+        let copies = Slice::READ.map(|slice| {
+            let behind = random.below(4);
+            (slice, behind, placed(input.words(slice), behind), placed(input.bytes(slice), behind))
+        });
+        Placed(copies.into())
+    }
+
+    fn input(&self, limit: u32) -> Input<'_> {
+        self.0.iter().fold(Input::default().under(limit), |input, (slice, behind, words, bytes)| {
+            input.with_words(*slice, &words[*behind..]).with_bytes(*slice, &bytes[*behind..])
+        })
+    }
 }
 
-impl Memory {
-    fn old(random: &mut Random, lengths: &Lengths, desk: Desk, margin: usize) -> Memory {
-        Memory {
-            words: old_words(random, lengths.words + 2 * margin),
-            work: old_words(random, lengths.work + 2 * margin),
-            file: (0..lengths.file + 2 * margin).map(|_| random.next() as u8).collect(),
-            jobs: Box::new(desk.jobs),
-            passes: Box::new(desk.passes),
-            value: Box::new(random.next()),
-            quote: Box::new(Quote { words: random.next(), bytes: random.next(), ceiling: random.next() }),
-        }
+/// What a slice of so many numbers holds before a call.
+fn old_numbers(random: &mut Random, slice: Slice, length: usize, desk: Desk) -> Numbers {
+    match slice {
+        Slice::Words | Slice::Work => Numbers::Words(old_words(random, length)),
+        Slice::Jobs => Numbers::made(slice, length, || desk.jobs as u64),
+        Slice::Passes => Numbers::made(slice, length, || desk.passes as u64),
+        _ => Numbers::made(slice, length, || random.next()),
     }
+}
 
-    /// What of it is lent.
-    fn lent(&mut self, margin: usize) -> Lent<'_> {
-        fn inner<T>(block: &mut [T], margin: usize) -> &mut [T] {
-            let end = block.len() - margin;
-            &mut block[margin..end]
-        }
-        Lent {
-            words: inner(&mut self.words, margin),
-            work: inner(&mut self.work, margin),
-            file: inner(&mut self.file, margin),
-            jobs: &mut self.jobs,
-            passes: &mut self.passes,
-            value: &mut self.value,
-            quote: &mut self.quote,
-        }
-    }
-
-    /// What differs from another one, in words.
-    fn difference(&self, other: &Memory) -> Option<String> {
-        fn place<T: PartialEq>(name: &str, here: &[T], there: &[T]) -> Option<String> {
-            let place = (0..here.len()).find(|&i| here[i] != there[i])?;
-            Some(format!("{name} from place {place} on (margin and all)"))
-        }
-        place("the word or table buffer", &self.words, &other.words)
-            .or_else(|| place("the work buffer", &self.work, &other.work))
-            .or_else(|| place("the byte buffer", &self.file, &other.file))
-            .or_else(|| (self.jobs != other.jobs).then(|| format!("jobs, {} and {}", self.jobs, other.jobs)))
-            .or_else(|| (self.passes != other.passes).then(|| format!("passes, {} and {}", self.passes, other.passes)))
-            .or_else(|| (self.value != other.value).then(|| format!("the value, {} and {}", self.value, other.value)))
-            .or_else(|| (self.quote != other.quote).then(|| format!("{:?} and {:?}", self.quote, other.quote)))
-    }
-
-    /// What a call left of this, with words and file as they were before.
-    fn left(mut self, number: u32, mut before: Memory, margin: usize) -> Left {
-        let (lent, before) = (self.lent(margin), before.lent(margin));
-        Left {
-            number,
-            value: *lent.value,
-            quote: *lent.quote,
-            words: lent.words.to_vec(),
-            old: before.words.to_vec(),
-            work: lent.work.to_vec(),
-            file: lent.file.to_vec(),
-            old_file: before.file.to_vec(),
-            desk: Desk { jobs: *lent.jobs, passes: *lent.passes },
-        }
-    }
+/// What a call is lent, with old contents. They are drawn for every slice, so that every call draws alike.
+fn old_memory(random: &mut Random, call: Call, lengths: &Lengths, desk: Desk, margin: usize) -> Lent {
+    let block = |slice: Slice| {
+        let length = match (slice.is_sized(), call.takes(slice)) {
+            (true, true) => lengths.of(slice) + 2 * margin,
+            (true, false) => 2 * margin,
+            (false, _) => lengths.of(slice),
+        };
+        old_numbers(random, slice, length, desk)
+    };
+    Lent::all(margin, block).of(call)
 }
 
 /// What is wrong with a tested call, if anything: by both numbers, by what is left of both memories, and by whether what
 /// it only reads stands.
-fn problem(numbers: [u32; 2], [ours, theirs]: [&Memory; 2], stands: bool) -> Option<String> {
+fn problem(numbers: [u32; 2], [ours, theirs]: [&Lent; 2], stands: bool) -> Option<String> {
     if numbers[0] != numbers[1] {
         return Some("the numbers differ".to_string());
     }
@@ -257,13 +188,15 @@ fn problem(numbers: [u32; 2], [ours, theirs]: [&Memory; 2], stands: bool) -> Opt
 
 /// A call's whole input, in words.
 fn input_text(call: Call, input: &Input, lengths: &Lengths, desk: Desk) -> String {
-    let slices = call.slices().iter().map(|slice| match slice {
-        Slice::Model => format!("model {:?}", input.model),
-        Slice::Table => format!("table {:?}", input.table),
-        Slice::File => format!("file {}", hex(input.file)),
-        Slice::Words => format!("words of {}", lengths.words),
-        Slice::Work => format!("work of {}", lengths.work),
-        Slice::FileRoom => format!("file of {}", lengths.file),
+    let slices = call.sized().map(|slice| {
+        let name = slice.name();
+        if !slice.is_read() {
+            format!("{name} of {}", lengths.of(slice))
+        } else if slice.is_bytes() {
+            format!("{name} {}", hex(input.bytes(slice)))
+        } else {
+            format!("{name} {:?}", input.words(slice))
+        }
     });
     format!("limit {}, {desk:?}\n{}", input.limit, slices.collect::<Vec<_>>().join("\n"))
 }
@@ -279,22 +212,17 @@ impl Comparison {
         lengths: &Lengths,
         desk: Desk,
     ) -> Result<Left, Difference> {
-        let (input, lengths) = (&input.of(call), &lengths.of(call));
+        let input = &input.of(call);
         let margin = if self.tight { 0 } else { MARGIN };
-        let random = &mut self.random;
-        let (model, model_at) = placed(random, input.model);
-        let (table, table_at) = placed(random, input.table);
-        let (file, file_at) = placed(random, input.file);
-        let (model, table, file) = (&model[model_at..], &table[table_at..], &file[file_at..]);
-        let before = Memory::old(random, lengths, desk, margin);
+        let placed = Placed::new(&mut self.random, input);
+        let before = old_memory(&mut self.random, call, lengths, desk, margin);
         let (mut ours, mut theirs) = (before.clone(), before.clone());
-        let our_number = answer(call, input, &mut ours.lent(margin));
+        let our_number = answer(call, input, &mut ours);
         if self.trace {
             eprintln!("{}, {label}: {}", call.name(), input_text(call, input, lengths, desk));
         }
-        let lent_input = Input { model, table, file, limit: input.limit };
-        let their_number = (self.tested.answer)(call, &lent_input, &mut theirs.lent(margin));
-        let stands = (model, table, file) == (input.model, input.table, input.file);
+        let their_number = (self.tested.answer)(call, &placed.input(input.limit), &mut theirs);
+        let stands = placed.input(input.limit) == *input;
         if let Some(problem) = problem([our_number, their_number], [&ours, &theirs], stands) {
             let text = input_text(call, input, lengths, desk);
             return Err(Difference {
@@ -302,7 +230,7 @@ impl Comparison {
             });
         }
         *self.counts.calls.entry(call).or_default().entry(our_number).or_default() += 1;
-        Ok(theirs.left(their_number, before, margin))
+        Ok(Left { number: their_number, after: theirs, before })
     }
 
     /// Compares one call and counts the kinds of its slices' lengths. Those of lent buffers count
@@ -316,15 +244,8 @@ impl Comparison {
         due: &Due,
     ) -> Result<Left, Difference> {
         let left = self.call(label, call, input, lengths, Desk::default())?;
-        for &slice in call.slices() {
-            let length = match slice {
-                Slice::Model => input.model.len(),
-                Slice::Table => input.table.len(),
-                Slice::File => input.file.len(),
-                Slice::Words => lengths.words,
-                Slice::Work => lengths.work,
-                Slice::FileRoom => lengths.file,
-            };
+        for slice in call.sized() {
+            let length = if slice.is_read() { input.length(slice) } else { lengths.of(slice) };
             if asked_for(call, slice, left.number) {
                 let kind = length_kind(length, due.of(call, slice));
                 note(&mut self.counts.lengths, format!("{} {slice:?} {kind}", call.name()));
@@ -353,7 +274,7 @@ impl Comparison {
             let words = of_length(&mut self.random, plant.words(), model_length);
             let table = of_length(&mut self.random, table, table_length);
             file.resize(file_length, 0);
-            let input = Input { model: &words, table: &table, file: &file, limit };
+            let input = Input::of_model(&words).with_table(&table).with_file(&file).under(limit);
             self.sized_call("a random model", call, &input, &lengths, &due)?;
         }
         self.program_case(plant, limit)
@@ -364,27 +285,26 @@ impl Comparison {
     /// each on what the call before it left. The model's file is decided alike, and all of it keeps to the quote.
     pub(crate) fn program_case(&mut self, plant: &Plant, limit: u32) -> Result<(), Difference> {
         let file = self.written_case(plant)?;
-        let none = Input { model: &[], table: &[], file: &[], limit };
-        let model_words = Lengths { words: plant.words().len(), ..Lengths::default() };
-        let read = self.program_call(Call::ReadModel, &Input { file: &file, ..none }, &model_words)?;
-        let with_model = Input { model: &read.words, ..none };
+        let model_words = Lengths::of_words(plant.words().len());
+        let read = self.program_call(Call::ReadModel, &Input::of_file(&file).under(limit), &model_words)?;
+        let with_model = Input::of_model(read.words()).under(limit);
         let quote = self.quote_of(&with_model)?;
         let buffers = quoted_lengths(&quote);
         let found = self.program_call(Call::Analyse, &with_model, &buffers)?;
         self.note_found(plant, quote.ceiling, &found);
         let charged = self.standing_desk(&with_model, &quote)?;
-        let with_table = Input { table: &found.words, ..with_model };
+        let with_table = with_model.with_table(found.words());
         let checked = self.program_call(Call::Check, &with_table, &buffers)?.number;
         hold_answer(&found, limit, quote.ceiling, checked)?;
         let written = self.program_call(Call::WriteTable, &with_table, &buffers)?;
-        let with_file = Input { file: &written.file[..written.value as usize], ..with_table };
+        let with_file = with_table.with_file(&written.file()[..written.value() as usize]);
         let again = self.program_call(Call::ReadTable, &with_file, &buffers)?;
-        if again.words != found.words {
+        if again.words() != found.words() {
             return Err(Difference { text: format!("a table file reads as something else\nmodel {}", hex(&file)) });
         }
-        let by_words = Decided { code: found.number as u64, passes: found.value, table: with_file.file.to_vec() };
-        self.decided_alike(plant, &file, limit, buffers.file, &by_words)?;
-        let taken = Taken { passes: found.value.max(charged), words: again.value, bytes: written.value };
+        let by_words = Decided { code: found.number as u64, passes: found.value(), table: with_file.file().to_vec() };
+        self.decided_alike(plant, &file, limit, buffers.of(Slice::FileRoom), &by_words)?;
+        let taken = Taken { passes: found.value().max(charged), words: again.value(), bytes: written.value() };
         self.short_of_the_quote(&with_file, &file, &quote)?;
         self.quote_case(plant, limit, &quote, &taken)
     }
@@ -397,10 +317,10 @@ impl Comparison {
     /// Counts what an analysis is an extreme of.
     fn note_found(&mut self, plant: &Plant, ceiling: u64, found: &Left) {
         self.counts.extreme("a ceiling above 4,294,967,295", ceiling > u32::MAX as u64);
-        self.counts.extreme("qii_analyse of more than 1,500 passes", found.value > 1_500);
-        self.counts.extreme("a face from -1,000,000 to 1,000,000", spans_all_levels(plant, &found.words));
+        self.counts.extreme("qii_analyse of more than 1,500 passes", found.value() > 1_500);
+        self.counts.extreme("a face from -1,000,000 to 1,000,000", spans_all_levels(plant, found.words()));
         if found.number >= 100 {
-            self.counts.note_pieces(plant, &found.words);
+            self.counts.note_pieces(plant, found.words());
         }
     }
 
@@ -409,21 +329,21 @@ impl Comparison {
     fn standing_desk(&mut self, input: &Input, quote: &Quote) -> Result<u64, Difference> {
         let label = "the standing desk";
         let size = quote.words as usize;
-        let longer = Lengths { words: size + PAST_THE_TABLE, work: size + PAST_THE_TABLE, file: 0 };
+        let longer = Lengths::of_table(size + PAST_THE_TABLE);
         // A limit that the counter can take, so that it is mostly answered.
         let limit = input.limit.min(u32::MAX - self.desk.passes);
-        let left = self.call(label, Call::Desk, &Input { limit, ..*input }, &longer, self.desk)?;
+        let left = self.call(label, Call::Desk, &input.under(limit), &longer, self.desk)?;
         if left.number >= 100 {
             self.answered += 1;
-            self.passes += left.value;
+            self.passes += left.value();
         }
-        self.desk = left.desk;
-        self.counts.extreme("qii_desk of more than 1,500 passes", left.number >= 100 && left.value > 1_500);
-        if left.words[size..] != left.old[size..] {
+        self.desk = left.desk();
+        self.counts.extreme("qii_desk of more than 1,500 passes", left.number >= 100 && left.value() > 1_500);
+        if left.words()[size..] != left.old_words()[size..] {
             return Err(Difference { text: format!("{label}: words past the {size} quoted do not stand") });
         }
         hold_counters(label, self.desk, self.answered, self.passes)?;
-        Ok(left.value)
+        Ok(left.value())
     }
 
     /// One damaged input of one of the calls. A model that is read or written of it goes back too.
@@ -439,7 +359,7 @@ impl Comparison {
         let exact = random.chance(3, 4);
         let lengths = due.lent(call, |due| if exact { due } else { random_length(random, due) });
         let limit = self.random.below(pass_budget(plant).min(30) as usize) as u32;
-        let input = Input { model: &words, table: &list, file: &file, limit };
+        let input = Input::of_model(&words).with_table(&list).with_file(&file).under(limit);
         if call == Call::WriteModel {
             // The model's questions come before 40.
             self.sized_call("a damaged model, and no buffer", call, &input, &Lengths::default(), &due)?;
@@ -450,8 +370,7 @@ impl Comparison {
 
     /// Model words, a table's words and a file for a call, with one damaged that it reads.
     fn damaged_slices(&mut self, call: Call, plant: &Plant, table: &[i32]) -> (Vec<i32>, Vec<i32>, Vec<u8>) {
-        let read = |slice: &Slice| matches!(slice, Slice::Model | Slice::Table | Slice::File);
-        let slices: Vec<Slice> = call.slices().iter().copied().filter(read).collect();
+        let slices: Vec<Slice> = call.sized().filter(|slice| slice.is_read()).collect();
         let mut words = plant.words().to_vec();
         let mut list = table.to_vec();
         let mut file = file_for(call, plant, table);
@@ -534,16 +453,16 @@ impl Comparison {
             let random = &mut self.random;
             let sure = random.chance(3, 4);
             let mut length = |due: usize| if sure { due } else { random_length(random, due) };
-            let lengths = Lengths { words: length(due.table), work: length(due.table), file: 0 };
+            let lengths = Lengths::of_words(length(due.table)).with(Slice::Work, length(due.table));
             let model = if self.random.chance(1, 8) { self.damaged_words(&plant) } else { words.clone() };
-            let input = Input { model: &model, table: &[], file: &[], limit };
+            let input = Input::of_model(&model).under(limit);
             let left = self.call("a list of desk calls", Call::Desk, &input, &lengths, desk)?;
             if left.number >= 100 {
                 jobs += 1;
-                passes += left.value;
+                passes += left.value();
             }
             self.note_desk(desk, limit, &left);
-            desk = left.desk;
+            desk = left.desk();
             hold_counters("a list of desk calls", desk, jobs, passes)?;
         }
         Ok(())
@@ -559,8 +478,8 @@ impl Comparison {
             left.number == 22 && !full_jobs && full_passes,
             left.number == 22 && full_jobs && full_passes,
             left.number >= 100 && just_fits,
-            left.number >= 100 && left.desk.jobs == u32::MAX,
-            left.number >= 100 && left.desk.passes == u32::MAX && left.value > 0,
+            left.number >= 100 && left.desk().jobs == u32::MAX,
+            left.number >= 100 && left.desk().passes == u32::MAX && left.value() > 0,
             (5..=21).contains(&left.number) && (full_jobs || full_passes),
         ];
         for (kind, is) in DESK_CALLS.into_iter().zip(kinds) {

@@ -4,11 +4,11 @@
 //! for the second too; the ceilings and the quotes of the two are equal, and the second's table lies inside the
 //! first's.
 
-use crate::c_calls::exports::{Call, Input};
+use crate::c_calls::exports::Call;
+use crate::c_calls::slices::{Input, Left, Lengths, Slice};
 use crate::held::changes::wider;
 use crate::held::compare::{hex, written_table, Comparison, Difference};
 use crate::held::coverage::note;
-use crate::held::lending::{Left, Lengths};
 use crate::held::writing::Calls;
 use crate::inputs::generate::pass_budget;
 use crate::inputs::narrowing::{narrowed, WAYS};
@@ -68,7 +68,7 @@ pub fn quoted_alike(calls: &mut impl HostCalls, pair: &Pair) -> Result<Quote, Di
         let input = Input::of_model(plant.words());
         let quoted = calls.make(Call::Quote, &input, &Lengths::default())?;
         let ceiling = calls.make(Call::Ceiling, &input, &Lengths::default())?;
-        found.push(((quoted.number, ceiling.number), quoted.quote, ceiling.value));
+        found.push(((quoted.number, ceiling.number), quoted.quote(), ceiling.value()));
     }
     let (numbers, quote, ceiling) = found[0];
     pair.hold(found[0] == found[1] && numbers == (100, 100) && ceiling == quote.ceiling, "other quotes or ceilings")?;
@@ -76,7 +76,7 @@ pub fn quoted_alike(calls: &mut impl HostCalls, pair: &Pair) -> Result<Quote, Di
 }
 
 fn analysed(calls: &mut impl HostCalls, plant: &Plant, limit: u32, lengths: &Lengths) -> Result<Left, Difference> {
-    calls.make(Call::Analyse, &Input { limit, ..Input::of_model(plant.words()) }, lengths)
+    calls.make(Call::Analyse, &Input::of_model(plant.words()).under(limit), lengths)
 }
 
 /// The first is analysed, in a table buffer that may have more words than the table. If it is safe, that whole buffer
@@ -91,7 +91,7 @@ pub fn first_stays(
     if first.number != 100 {
         return Ok(None);
     }
-    table_stays(calls, pair, &first.words)?;
+    table_stays(calls, pair, first.words())?;
     Ok(Some(first))
 }
 
@@ -109,12 +109,12 @@ pub fn second_safe(
     for &limit in limits {
         let found = analysed(calls, pair.second, limit, lengths)?;
         pair.hold(found.number == 100, &format!("qii_analyse gives {} under limit {limit}", found.number))?;
-        let inside = lies_inside(pair.second, &found.words[..size], &table[..size]);
+        let inside = lies_inside(pair.second, &found.words()[..size], &table[..size]);
         pair.hold(inside, "its table does not lie inside the first's")?;
         second = Some(found);
     }
     if let Some(&limit) = limits.first() {
-        let input = Input { limit, ..Input::of_model(pair.second.words()) };
+        let input = Input::of_model(pair.second.words()).under(limit);
         let charged = calls.make(Call::Desk, &input, lengths)?.number;
         pair.hold(charged == 100, &format!("qii_desk gives {charged} under limit {limit}"))?;
     }
@@ -124,7 +124,7 @@ pub fn second_safe(
 /// The second, of a first that is safe, is unknown under no limit, on words or in a file: under this one it is safe or
 /// unfinished. Tells whether it is unfinished.
 pub fn never_unknown(calls: &mut impl HostCalls, pair: &Pair, limit: u32, quote: &Quote) -> Result<bool, Difference> {
-    let lengths = Lengths { words: quote.words as usize, work: quote.words as usize, file: 0 };
+    let lengths = Lengths::of_table(quote.words as usize);
     let by_words = analysed(calls, pair.second, limit, &lengths)?.number as u64;
     let (number, _) = calls.decide_file(&model_file(pair.second.words()), quote.bytes as usize, limit)?;
     let numbers = [by_words, number >> 32];
@@ -134,7 +134,7 @@ pub fn never_unknown(calls: &mut impl HostCalls, pair: &Pair, limit: u32, quote:
 
 /// These words are accepted as a table for the second by qii_check.
 fn table_stays(calls: &mut impl HostCalls, pair: &Pair, table: &[i32]) -> Result<(), Difference> {
-    let input = Input { table, ..Input::of_model(pair.second.words()) };
+    let input = Input::of_model(pair.second.words()).with_table(table);
     let number = calls.make(Call::Check, &input, &Lengths::default())?.number;
     pair.hold(number == 100, &format!("qii_check gives {number} for a table that is accepted for the first\n{table:?}"))
 }
@@ -164,7 +164,7 @@ pub fn files_stay(
 
 /// A table that is accepted for the first, as words or as a file, is accepted for the second. Tells whether it is.
 pub fn accepted_stays(calls: &mut impl HostCalls, pair: &Pair, table: &[i32]) -> Result<bool, Difference> {
-    let of_first = Input { table, ..Input::of_model(pair.first.words()) };
+    let of_first = Input::of_model(pair.first.words()).with_table(table);
     let by_words = calls.make(Call::Check, &of_first, &Lengths::default())?.number == 100;
     let [first, second] = [pair.first, pair.second].map(|plant| model_file(plant.words()));
     let file = table_file(pair.first, table);
@@ -323,14 +323,14 @@ impl Comparison {
     /// The promise where the first is safe, on words and in files. Gives its answer, if it is.
     fn answers_case(&mut self, pair: &Pair, limit: u32, quote: &Quote) -> Result<Option<Left>, Difference> {
         let size = quote.words as usize;
-        let lengths = Lengths { words: size + self.random.below(4), work: size, file: 0 };
+        let lengths = Lengths::of_table(size).with(Slice::Words, size + self.random.below(4));
         let Some(first) = first_stays(&mut Compared(self), pair, limit, &lengths)? else {
             return Ok(None);
         };
-        let limits = self.limits_of(pair, quote, first.value);
-        let second = second_safe(&mut Compared(self), pair, &first.words, &limits, &lengths)?;
+        let limits = self.limits_of(pair, quote, first.value());
+        let second = second_safe(&mut Compared(self), pair, first.words(), &limits, &lengths)?;
         let in_files = files_stay(&mut Compared(self), pair, limit, &limits, quote.bytes as usize)?;
-        let unfinished = never_unknown(&mut Compared(self), pair, first.value as u32, quote)?;
+        let unfinished = never_unknown(&mut Compared(self), pair, first.value() as u32, quote)?;
         self.pair_kind("safe under the first's passes as the limit", !unfinished);
         self.pair_kind("unfinished under the first's passes as the limit", unfinished);
         self.pair_kind("safe on words", true);
@@ -342,17 +342,17 @@ impl Comparison {
     }
 
     fn note_answers(&mut self, first: &Left, second: &Left, size: usize) {
-        let same = first.words[..size] == second.words[..size];
+        let same = first.words()[..size] == second.words()[..size];
         self.pair_kind("under the ceiling as the limit", true);
         self.pair_kind("its own table another than the first's", !same);
         self.pair_kind("its own table the first's", same);
-        self.pair_kind("fewer passes than the first", second.value < first.value);
-        self.pair_kind("more passes than the first", second.value > first.value);
+        self.pair_kind("fewer passes than the first", second.value() < first.value());
+        self.pair_kind("more passes than the first", second.value() > first.value());
     }
 
     /// These tables of the first, and a wider one, if they are other than its answer's.
     fn further_tables(&mut self, pair: &Pair, tables: [&[i32]; 2], safe: Option<&Left>) -> Result<(), Difference> {
-        let own = safe.map(|left| &left.words[..pair.first.table_words()]);
+        let own = safe.map(|left| &left.words()[..pair.first.table_words()]);
         let wide = wider(&mut self.random, pair.first, own.unwrap_or(tables[0]), pass);
         for table in tables.into_iter().chain([&wide[..]]).filter(|table| own != Some(*table)) {
             let accepted = accepted_stays(&mut Compared(self), pair, table)?;

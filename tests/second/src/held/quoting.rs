@@ -3,10 +3,10 @@
 
 use std::cmp::Ordering;
 
-use crate::c_calls::exports::{Call, Input};
+use crate::c_calls::exports::Call;
+use crate::c_calls::slices::{Input, Lengths, Slice};
 use crate::held::compare::{hex, Comparison, Difference};
 use crate::held::coverage::note;
-use crate::held::lending::Lengths;
 use crate::reference::files::model_file;
 use crate::reference::model::Plant;
 use crate::reference::quote::{Quote, Taken};
@@ -26,7 +26,7 @@ pub const QUOTED: [(&str, u64); 9] = [
 
 /// Buffers of exactly the quoted lengths.
 pub(crate) fn quoted_lengths(quote: &Quote) -> Lengths {
-    Lengths { words: quote.words as usize, work: quote.words as usize, file: quote.bytes as usize }
+    Lengths::of_table(quote.words as usize).with(Slice::FileRoom, quote.bytes as usize)
 }
 
 /// The kinds of `QUOTED` that an answer is of.
@@ -53,20 +53,20 @@ impl Comparison {
     pub(crate) fn quote_of(&mut self, input: &Input) -> Result<Quote, Difference> {
         let none = Lengths::default();
         let quoted = self.program_call(Call::Quote, input, &none)?;
-        let ceiling = self.program_call(Call::Ceiling, input, &none)?.value;
-        if quoted.number != 100 || quoted.quote.ceiling != ceiling {
-            let text = format!("quoted {} with {:?}, but the ceiling is {ceiling}", quoted.number, quoted.quote);
+        let ceiling = self.program_call(Call::Ceiling, input, &none)?.value();
+        let quote = quoted.quote();
+        if quoted.number != 100 || quote.ceiling != ceiling {
+            let text = format!("quoted {} with {quote:?}, but the ceiling is {ceiling}", quoted.number);
             return Err(Difference { text });
         }
-        Ok(quoted.quote)
+        Ok(quote)
     }
 
     /// Buffers of one word or one byte less than quoted are refused, whatever else is handed over.
     pub(crate) fn short_of_the_quote(&mut self, input: &Input, model: &[u8], quote: &Quote) -> Result<(), Difference> {
         let exact = quoted_lengths(quote);
-        let a_table_word = Lengths { words: exact.words - 1, ..exact };
-        let a_work_word = Lengths { work: exact.work - 1, ..exact };
-        let a_byte = Lengths { file: exact.file - 1, ..exact };
+        let short_of = |slice: Slice| exact.with(slice, exact.of(slice) - 1);
+        let [a_table_word, a_work_word, a_byte] = Slice::ROOM.map(short_of);
         let mut numbers = Vec::new();
         for (call, lengths, due) in [
             (Call::Analyse, a_table_word, 20),
@@ -78,7 +78,7 @@ impl Comparison {
         ] {
             numbers.push((self.program_call(call, input, &lengths)?.number, due));
         }
-        let (decided, _) = self.decide("short of the quote", model, a_byte.file, input.limit)?;
+        let (decided, _) = self.decide("short of the quote", model, a_byte.of(Slice::FileRoom), input.limit)?;
         numbers.push(((decided >> 32) as u32, 39));
         if numbers.iter().all(|(number, due)| number == due) {
             return Ok(());

@@ -1,9 +1,9 @@
 //! A model and the same model with its start boxes trimmed to their start parts (document 02, T-02) are to be
 //! answered alike by the tested calls: the same numbers, the same table bytes, the same words.
 
-use crate::c_calls::exports::{Call, Input};
+use crate::c_calls::exports::Call;
+use crate::c_calls::slices::{Input, Lengths};
 use crate::held::compare::{hex, written_table, Comparison, Difference};
-use crate::held::lending::Lengths;
 use crate::inputs::starts::trimmed;
 use crate::reference::desk::Desk;
 use crate::reference::files::{model_file, table_file};
@@ -62,17 +62,21 @@ impl Comparison {
         for table in [&file, &table_file(plant, tables[0]), &table_file(plant, tables[1])] {
             gave.push(Gave { call: "check", number: self.check(label, &model, table)?, ..Gave::default() });
         }
-        let size = plant.table_words();
-        let lengths = Lengths { words: size, work: size, file: 0 };
+        let lengths = Lengths::of_table(plant.table_words());
         let [first, second] = tables;
         let calls = [Call::Ceiling, Call::Quote, Call::Analyse, Call::Desk, Call::Check].map(|call| (call, first));
         for (call, table) in calls.into_iter().chain([(Call::Check, second)]) {
-            let input = Input { model: plant.words(), table, file: &[], limit };
+            let input = Input::of_model(plant.words()).with_table(table).under(limit);
             let left = self.call(label, call, &input, &lengths, Desk::default())?;
-            let value = if call.has_value() { left.value } else { 0 };
-            let quote = (call == Call::Quote).then_some(left.quote);
-            let (number, desk, words) = (left.number as u64, left.desk, left.words);
-            gave.push(Gave { call: call.name(), number, value, quote, desk, words, file: vec![] });
+            gave.push(Gave {
+                call: call.name(),
+                number: left.number as u64,
+                value: left.value(),
+                quote: left.after.quote(),
+                desk: left.desk(),
+                words: left.words().to_vec(),
+                file: vec![],
+            });
         }
         Ok(gave)
     }

@@ -2,10 +2,11 @@
 //! same words, a file that reads is written again with the same bytes, and a written file is decided as its words are
 //! analysed.
 
-use crate::c_calls::exports::{Call, Input};
+use crate::c_calls::exports::Call;
+use crate::c_calls::slices::{Input, Left, Lengths};
 use crate::held::compare::{hex, written_table, Comparison, Difference};
 use crate::held::coverage::note;
-use crate::held::lending::{of_length, Left, Lengths};
+use crate::held::lending::of_length;
 use crate::inputs::ranges::any_range;
 use crate::inputs::starts::any_crosses;
 use crate::reference::desk::Desk;
@@ -54,16 +55,6 @@ pub trait Calls {
     fn make(&mut self, call: Call, input: &Input, lengths: &Lengths) -> Result<Left, Difference>;
 }
 
-/// A byte buffer of this length, and nothing else.
-pub(crate) fn file_room(file: usize) -> Lengths {
-    Lengths { file, ..Lengths::default() }
-}
-
-/// A word buffer of this length, and nothing else.
-pub(crate) fn word_room(words: usize) -> Lengths {
-    Lengths { words, ..Lengths::default() }
-}
-
 fn broken(what: &str, words: &[i32], file: &[u8]) -> Difference {
     Difference { text: format!("{what}\nmodel {words:?}\nfile {}", hex(file)) }
 }
@@ -72,9 +63,9 @@ fn broken(what: &str, words: &[i32], file: &[u8]) -> Difference {
 /// nothing is written.
 fn refused_by_40(calls: &mut impl Calls, list: &[i32], bytes: usize) -> Result<(), Difference> {
     for length in [0, bytes - 1] {
-        let left = calls.make(Call::WriteModel, &Input::of_model(list), &file_room(length))?;
-        if (left.number, left.value) != (40, 0) || left.file != left.old_file {
-            return Err(broken("not refused by 40, or something is written", list, &left.file));
+        let left = calls.make(Call::WriteModel, &Input::of_model(list), &Lengths::of_file(length))?;
+        if (left.number, left.value()) != (40, 0) || left.file() != left.old_file() {
+            return Err(broken("not refused by 40, or something is written", list, left.file()));
         }
     }
     Ok(())
@@ -85,12 +76,11 @@ fn refused_by_40(calls: &mut impl Calls, list: &[i32], bytes: usize) -> Result<(
 fn written(calls: &mut impl Calls, list: &[i32], bytes: usize, more: usize) -> Result<Vec<u8>, Difference> {
     let mut files = Vec::new();
     for length in [bytes, bytes + more] {
-        let mut left = calls.make(Call::WriteModel, &Input::of_model(list), &file_room(length))?;
-        if (left.number, left.value) != (100, bytes as u64) || left.file[bytes..] != left.old_file[bytes..] {
-            return Err(broken("not written, or not as so many bytes, or more is written", list, &left.file));
+        let left = calls.make(Call::WriteModel, &Input::of_model(list), &Lengths::of_file(length))?;
+        if (left.number, left.value()) != (100, bytes as u64) || left.file()[bytes..] != left.old_file()[bytes..] {
+            return Err(broken("not written, or not as so many bytes, or more is written", list, left.file()));
         }
-        left.file.truncate(bytes);
-        files.push(left.file);
+        files.push(left.file()[..bytes].to_vec());
     }
     if files[0] != files[1] {
         return Err(broken("another file in a longer buffer", list, &files[1]));
@@ -109,9 +99,9 @@ pub fn written_as(calls: &mut impl Calls, words: &[i32], file: &[u8], more: usiz
 /// This file is read as these words, into a buffer of their size and into one that is longer, of which the rest stands.
 pub fn read_as(calls: &mut impl Calls, file: &[u8], words: &[i32], more: usize) -> Result<(), Difference> {
     for length in [words.len(), words.len() + more] {
-        let left = calls.make(Call::ReadModel, &Input::of_file(file), &word_room(length))?;
-        let same = left.words.starts_with(words) && left.words[words.len()..] == left.old[words.len()..];
-        if (left.number, left.value) != (100, words.len() as u64) || !same {
+        let left = calls.make(Call::ReadModel, &Input::of_file(file), &Lengths::of_words(length))?;
+        let same = left.words().starts_with(words) && left.words()[words.len()..] == left.old_words()[words.len()..];
+        if (left.number, left.value()) != (100, words.len() as u64) || !same {
             return Err(broken("a written file is not read as the words that were written", words, file));
         }
     }
@@ -169,12 +159,12 @@ impl Comparison {
         match (call, left.number) {
             (Call::ReadModel, 100) => {
                 note(&mut self.counts.written, "a damaged file that reads");
-                written_as(self, &left.words[..left.value as usize], input.file, more)
+                written_as(self, &left.words()[..left.value() as usize], input.file(), more)
             }
             (Call::WriteModel, 100) => {
                 note(&mut self.counts.written, "damaged words that pass");
-                let plant = Plant::from_words(input.model).expect("what is written passes its questions");
-                read_as(self, &left.file[..left.value as usize], plant.words(), more)
+                let plant = Plant::from_words(input.model()).expect("what is written passes its questions");
+                read_as(self, &left.file()[..left.value() as usize], plant.words(), more)
             }
             _ => Ok(()),
         }

@@ -34,6 +34,15 @@ pub fn of_plant(plant: &Plant) -> Quote {
 }
 
 impl Quote {
+    /// Of its three values, in this order.
+    pub fn of([words, bytes, ceiling]: [u64; 3]) -> Quote {
+        Quote { words, bytes, ceiling }
+    }
+
+    pub fn values(&self) -> [u64; 3] {
+        [self.words, self.bytes, self.ceiling]
+    }
+
     /// Does an analysis that took this keep to the quote? Its table has exactly the words.
     pub fn holds(&self, taken: &Taken) -> bool {
         taken.passes <= self.ceiling && taken.words == self.words && taken.bytes <= self.bytes

@@ -1,8 +1,8 @@
 //! Calls that nothing is compared with: what holds of them, holds by themselves.
 
-use second::c_calls::exports::{Call, Input, Lent};
+use second::c_calls::exports::Call;
+use second::c_calls::slices::{Input, Left, Lengths, Lent, Numbers, Slice};
 use second::held::compare::Difference;
-use second::held::lending::{Left, Lengths};
 use second::held::pairing::HostCalls;
 use second::held::writing::Calls;
 use second::inputs::random::Random;
@@ -15,30 +15,30 @@ pub struct Alone {
 
 impl Calls for Alone {
     fn make(&mut self, call: Call, input: &Input, lengths: &Lengths) -> Result<Left, Difference> {
-        let old: Vec<i32> = (0..lengths.words).map(|_| self.random.next() as i32).collect();
-        let old_file: Vec<u8> = (0..lengths.file).map(|_| self.random.next() as u8).collect();
-        let (mut words, mut work, mut file) = (old.clone(), vec![3; lengths.work], old_file.clone());
-        let (mut value, mut quote) = (7, Quote::default());
-        let number = {
-            let (jobs, passes, value, quote) = (&mut 0, &mut 0, &mut value, &mut quote);
-            let (words, work, file) = (&mut words[..], &mut work[..], &mut file[..]);
-            (self.answer)(call, input, &mut Lent { words, work, file, jobs, passes, value, quote })
-        };
-        Ok(Left { number, value, quote, words, old, work, file, old_file, ..Left::default() })
+        let random = &mut self.random;
+        let before = Lent::all(0, |slice| match slice {
+            Slice::Words | Slice::FileRoom => Numbers::made(slice, lengths.of(slice), || random.next()),
+            Slice::Jobs | Slice::Passes => Numbers::made(slice, lengths.of(slice), || 0),
+            _ => Numbers::made(slice, lengths.of(slice), || 7),
+        });
+        let before = before.of(call);
+        let mut after = before.clone();
+        let number = (self.answer)(call, input, &mut after);
+        Ok(Left { number, after, before })
     }
 }
 
 impl Alone {
     /// A model's words out of its file, or the number that refuses it; and its quote.
     fn read(&mut self, model: &[u8]) -> Result<Result<(Vec<i32>, Quote), u32>, Difference> {
-        let most = Lengths { words: model.len(), ..Lengths::default() };
-        let mut read = self.make(Call::ReadModel, &Input::of_file(model), &most)?;
+        let most = Lengths::of_words(model.len());
+        let read = self.make(Call::ReadModel, &Input::of_file(model), &most)?;
         if read.number != 100 {
             return Ok(Err(read.number));
         }
-        read.words.truncate(read.value as usize);
-        let quoted = self.make(Call::Quote, &Input::of_model(&read.words), &Lengths::default())?;
-        Ok(Ok((read.words, quoted.quote)))
+        let words = read.words()[..read.value() as usize].to_vec();
+        let quoted = self.make(Call::Quote, &Input::of_model(&words), &Lengths::default())?;
+        Ok(Ok((words, quoted.quote())))
     }
 }
 
@@ -49,11 +49,11 @@ impl HostCalls for Alone {
             Ok(read) => read,
             Err(number) => return Ok(((number as u64) << 32, vec![0; room])),
         };
-        let lengths = Lengths { words: quote.words as usize, work: quote.words as usize, file: room };
-        let input = Input { limit, ..Input::of_model(&words) };
+        let lengths = Lengths::of_table(quote.words as usize).with(Slice::FileRoom, room);
+        let input = Input::of_model(&words).under(limit);
         let found = self.make(Call::Analyse, &input, &lengths)?;
-        let written = self.make(Call::WriteTable, &Input { table: &found.words, ..input }, &lengths)?;
-        Ok(((found.number as u64) << 32 | found.value, written.file))
+        let written = self.make(Call::WriteTable, &input.with_table(found.words()), &lengths)?;
+        Ok(((found.number as u64) << 32 | found.value(), written.file().to_vec()))
     }
 
     fn check_file(&mut self, model: &[u8], table: &[u8]) -> Result<u64, Difference> {
@@ -61,13 +61,13 @@ impl HostCalls for Alone {
             Ok(read) => read,
             Err(number) => return Ok(number as u64),
         };
-        let lengths = Lengths { words: quote.words as usize, ..Lengths::default() };
-        let input = Input { file: table, ..Input::of_model(&words) };
+        let lengths = Lengths::of_words(quote.words as usize);
+        let input = Input::of_model(&words).with_file(table);
         let read = self.make(Call::ReadTable, &input, &lengths)?;
         if read.number != 100 {
             return Ok(read.number as u64);
         }
-        let checked = self.make(Call::Check, &Input { table: &read.words, ..input }, &lengths)?;
+        let checked = self.make(Call::Check, &input.with_table(read.words()), &lengths)?;
         Ok(checked.number as u64)
     }
 }

@@ -1,6 +1,7 @@
 //! How soon the comparison finds a wrong call beside decide and check.
 
-use second::c_calls::exports::{Call, Input, Lent};
+use second::c_calls::exports::Call;
+use second::c_calls::slices::{Input, Lent};
 use second::held::compare::{Comparison, Tested};
 use second::reference::host;
 
