@@ -9,7 +9,7 @@ use native.Mathlib.Omega.{arith}
 use lib.Dec.{T, leb, eqb, le→leb, eqb-refl}
 use lib.IntN.{ℤ, pos, negsuc}
 use lib.Signed.{nonNeg}
-use lib.ListN.{length, getD, take, drop, length-append, length-drop, take-append-drop}
+use lib.ListN.{length, getD, take, drop, length-append, length-drop, take-append-drop, replicate}
 use lib.Seq.{getD-at, take-add, take-at, drop-at, getD-take, getD-drop, getD-append-add}
 use Rattle.integers.specs.Words.{word, within, AreWords, AreBytes, onto}
 use Rattle.integers.specs.Counted.{cat}
@@ -29,8 +29,8 @@ use Rattle.plant.specs.Questions.{rangesQuestions, editionQuestion, recordsQues
 use Rattle.plant.proofs.Asks.{ask-intro, ask-le, asked, then-both, then-intro, then-le, first-intro, first-le}
 use Rattle.plant.proofs.Numbers.{records-le, ranges-le}
 use Rattle.plant.proofs.Passed.{IsUncut, IsCut, Passed, passed, ranges-passed}
-use Rattle.plant.specs.declared.Count.the-variants.{Done}
-use Rattle.plant.specs.Calls.{readReply, wordsRead}
+use Rattle.plant.specs.declared.Count.the-variants.{Done, Refused}
+use Rattle.plant.specs.Calls.{readReply, wordsRead, unlessRefused}
 use Rattle.plant.proofs.Reading.{past, done}
 use Rattle.plant.proofs.Whole as model
 use Rattle.plant.proofs.Positions.{head-first, location-within, switch-within, forbidden-within, cut-within}
@@ -465,8 +465,20 @@ read-is-file s words b e =
     rw (x .1 ∙ y .1, take-onto (fileWords s h) words (modelSize h) (length-file s h (length-head s)))
     (read-file s b (k .0) (within-one (word h 1) 64 (ranges-passed h (k .1) .L-within)) (body-passed s h (z .0)) (k .1) (z .1))
 
+-- what a refusal leaves
+refused-by : (s : List ℕ) (words : List ℤ) (q : ℕ) → (headQuestions s then bufferQuestion (headWords s) (length words)) ≡ suc q → readModelCall s words ≡ record { count = Refused (suc q); words = words }
+unfolding readModelCall unlessRefused
+refused-by s words q e = rw e refl
+
+zeroed-by : (s : List ℕ) (words : List ℤ) (q : ℕ) → (headQuestions s then bufferQuestion (headWords s) (length words)) ≡ 0
+    → recordsFileQuestions s (headWords s) ≡ suc q → readModelCall s words ≡ record { count = Refused (suc q); words = replicate (length words) (pos 0) }
+unfolding readModelCall unlessRefused
+zeroed-by s words q e f = rw (e, f) refl
+
 pub model-files-exact : ModelFilesExact
 model-files-exact = record {
+  refused-by = refused-by;
+  zeroed-by = zeroed-by;
   file-reads = λ m words e room. sym (file-read m words e room);
   read-is-file = read-is-file;
 }

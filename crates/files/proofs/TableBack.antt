@@ -4,17 +4,17 @@ use mathlib.Core.Bool.{true, cond}
 use mathlib.Core.List.{List, [], _∷_, _++_}
 use Prim.Native.Nat.{ℕ, zero, suc, _+_, _*_, _-_, _<_, _≤_}
 use native.Mathlib.Omega.{arith}
-use borrow.Author.Tests.{eq-eqb}
+use borrow.Author.Tests.{eq-eqb, lt-leb}
 use lib.Dec.{T, eqb, eqb-refl, leb, le→leb, leb→le}
 use lib.IntN.{ℤ, pos, natAbs}
 use lib.Signed.{leZ}
-use lib.ListN.{length, take, length-append}
+use lib.ListN.{length, take, length-append, replicate}
 use mir.Syntax.{w32}
 use mir.Val.{SFits}
 use mir.Facts.{sfits-lit}
 use Rattle.integers.specs.Words.{word, num, AreWords, AreBytes, within, onto}
 use Rattle.integers.proofs.Order.{trans}
-use Rattle.integers.proofs.Tests.{by-test, and-intro}
+use Rattle.integers.proofs.Tests.{by-test, and-intro, is-true}
 use Rattle.integers.specs.Counted.{cat}
 use Rattle.integers.proofs.Every.{every-none, every-more, every-append, every-cat}
 use Rattle.integers.proofs.Buffers.{cat-ext, take-onto}
@@ -23,12 +23,12 @@ use Rattle.files.specs.Bytes.{wordBytes, wordsBytes}
 use Rattle.files.specs.Fields.{fieldAt, field, isField}
 use Rattle.files.proofs.Words.{length-word, length-bytes, length-words, word-are-bytes, words-are-bytes}
 use Rattle.files.proofs.Fields.{field-are-bytes}
-use Rattle.plant.specs.Ask.{ask, first}
+use Rattle.plant.specs.Ask.{ask, first, _then_}
 use Rattle.plant.specs.Box.{low, high, boxBy, boxAt, Face, absent, present, faceWords}
 use Rattle.plant.specs.Model.{n#, L#, invariant}
 use Rattle.plant.specs.Questions.{modelQuestions}
 use Rattle.plant.specs.Pieces.{anyCut, perFace, pieces, pieceFace, pieceIndex}
-use Rattle.plant.specs.declared.Count.the-variants.{Done}
+use Rattle.plant.specs.declared.Count.the-variants.{Done, Refused}
 use Rattle.plant.specs.Tables.{piecesBefore, pieceCount, tableSize, longestTableFile, tableBy, pieceOf, tableOk}
 use Rattle.plant.proofs.Asks.{ask-intro, ask-yes, asked, then-both, then-intro, first-intro, ask-le, then-le, first-le}
 use Rattle.plant.proofs.Numbers.{model-le}
@@ -36,7 +36,7 @@ use Rattle.plant.proofs.Boxes.{length-boxBy, length-boxAt, box-ends}
 use Rattle.plant.proofs.Passed.{InRange, Passed, passed}
 use Rattle.plant.proofs.Pieces.{per-face-most, face-below, index-below}
 use Rattle.plant.proofs.Tables.{ends, words-ends, piece-counted, count-most, table-length, table-ext, begins-itself, piece-read, OkFace, ok-valid, made-ok}
-use Rattle.plant.specs.Calls.{ReadOutcome, readReply, wordsRead, zeroed, WriteOutcome, writeReply, bytesWritten, writeBy}
+use Rattle.plant.specs.Calls.{ReadOutcome, readReply, wordsRead, zeroed, WriteOutcome, writeReply, bytesWritten, writeBy, unlessRefused}
 use Rattle.plant.proofs.FaceWords.{piece-words}
 use Rattle.plant.proofs.Reading.{past, done}
 use Rattle.plant.proofs.Writing.{not-refused}
@@ -434,6 +434,26 @@ module _ (m : List ℤ) where
       let b : T (tableOk m t) × _ = asked (tableOk m t) 32 _ (omega arith) (a .1) in
       (a .0, b .0, leb→le (longestTableFile m) (length bytes) (ask-yes (leb (longestTableFile m) (length bytes)) 39 (omega arith) (b .1)))
 
+-- ---- refusals
+
+refused-by : (m t : List ℤ) (bytes : List ℕ) (q : ℕ) → writeQuestions m t (length bytes) ≡ suc q → writeTableCall m t bytes ≡ record { count = Refused (suc q); file = bytes }
+unfolding writeTableCall
+refused-by m t bytes q e = rw e refl
+
+too-short : (m t : List ℤ) (bytes : List ℕ) → modelQuestions m ≡ 0 → tableSize m ≤ length t → T (tableOk m t) → length bytes < longestTableFile m → writeTableCall m t bytes ≡ record { count = Refused 39; file = bytes }
+unfolding writeQuestions _then_
+too-short m t bytes asks long good short =
+    refused-by m t bytes 38 (rw (room-asked m asks (length t) long, is-true {b = tableOk m t} good, lt-leb (longestTableFile m) (length bytes) short) refl)
+
+read-refused-by : (m : List ℤ) (s : List ℕ) (buffer : List ℤ) (q : ℕ) → roomQuestions m (length buffer) ≡ suc q → readTableCall m s buffer ≡ record { count = Refused (suc q); words = buffer }
+unfolding readTableCall unlessRefused
+read-refused-by m s buffer q e = rw e refl
+
+read-zeroed-by : (m : List ℤ) (s : List ℕ) (buffer : List ℤ) (q : ℕ) → roomQuestions m (length buffer) ≡ 0 → tableFileQuestions m s ≡ suc q
+    → readTableCall m s buffer ≡ record { count = Refused (suc q); words = replicate (length buffer) (pos 0) }
+unfolding readTableCall unlessRefused
+read-zeroed-by m s buffer q e f = rw (e, f) refl
+
 -- ---- the theorem
 
 written : (m t : List ℤ) (bytes : List ℕ) → modelQuestions m ≡ 0 → tableSize m ≤ length t → T (tableOk m t) → longestTableFile m ≤ length bytes
@@ -465,4 +485,12 @@ read-written m s buffer bytes are code room =
     ∙ ap (λ (x : List ℕ). record { count = Done (length x); file = onto x bytes }) (again m ok s (fields-yes m s (ok .n-positive) (ok .L-positive) (q .0)) are)
 
 pub table-back : TableBack
-table-back = record { written = written; written-read = written-read; read-written = read-written }
+table-back = record {
+  written = written;
+  too-short = too-short;
+  refused-by = refused-by;
+  read-refused-by = read-refused-by;
+  read-zeroed-by = read-zeroed-by;
+  written-read = written-read;
+  read-written = read-written;
+}

@@ -22,6 +22,7 @@ pub promises : Promises
 promises = record {
   first-demand = demands.first-demand;
   desk-first-demand = desk.desk-first-demand;
+  meaning = means.meaning;
   second-demand = demands.second-demand;
   table-back = tables.table-back;
   desk-counts = counts.desk-counts;
@@ -29,7 +30,6 @@ promises = record {
   third-demand = demands.third-demand;
   host-demand = host.host-demand;
   desk-answers = desk.desk-answers;
-  meaning = means.meaning;
   starred = cases.starred;
   further = cases.further;
   model-back = models.model-back;
