@@ -3,9 +3,9 @@
 // what these ask of their callers.
 ghost use Rattle.std.specs.Prelude.{◌≡◌, true};
 ghost use Rattle.integers.specs.Words.{equal};
-ghost use Rattle.plant.specs.Tables.{tableOk, pass};
+ghost use Rattle.plant.specs.Tables.{table_ok, pass};
 ghost use Rattle.plant.specs.Calls as C;
-ghost use Rattle.plant.specs.Calls.{Analysed, ceilingCall, certificateQuestions, tableQuestions, checkCall, answerTable, analysisQuestions, answered, analyseCall};
+ghost use Rattle.plant.specs.Calls.{Analysed, ceiling_call, certificate_questions, table_questions, check_call, answer_table, analysis_questions, answered, analyse_call};
 ghost use Rattle.tables.specs.Places.{Places};
 ghost use Rattle.analysis.specs.Ready.{Sized};
 
@@ -15,7 +15,7 @@ use plant::{Answer, Ceiling, Verdict};
 
 // How many passes settle every answer, or the number of the model's question that is not yes.
 pub fn ceiling(model: &[i32]) -> Ceiling
-    ensures { result ≡ ceilingCall model.now }
+    ensures { result ≡ ceiling_call model.now }
 {
     let q = model::questions(model);
     if q != 0 {
@@ -28,7 +28,7 @@ pub fn ceiling(model: &[i32]) -> Ceiling
 
 // Makes a pass of the table, into `after`, and tells whether it leaves the table as it is.
 fn fixpoint<'a>(model: &'a [i32], places: &[usize], table: &'a [i32], after: &mut [i32]) -> bool
-    requires { Sized model.now table.now × Places model.now places.now × (tableOk model.now table.now ≡ true) × Sized model.now after.old }
+    requires { Sized model.now table.now × Places model.now places.now × (table_ok model.now table.now ≡ true) × Sized model.now after.old }
     ensures { (result ≡ equal (pass model.now table.now) table.now) × (after.new ≡ pass model.now table.now) }
 {
     passes::pass(model, places, table, after);
@@ -42,8 +42,8 @@ fn certificate_with<'a>(
     table: &'a [i32],
     after: &mut [i32],
 ) -> u32
-    requires { Sized model.now table.now × Places model.now places.now × (tableOk model.now table.now ≡ true) × Sized model.now after.old }
-    ensures { result ≡ certificateQuestions model.now table.now }
+    requires { Sized model.now table.now × Places model.now places.now × (table_ok model.now table.now ≡ true) × Sized model.now after.old }
+    ensures { result ≡ certificate_questions model.now table.now }
 {
     if !fixpoint(model, places, table, after) {
         return 33;
@@ -59,8 +59,8 @@ fn certificate_with<'a>(
 
 // The same. The words held for the pass are cleared at each call: fewer for a smaller table.
 fn certificate_held<'a>(model: &'a [i32], places: &[usize], table: &'a [i32]) -> u32
-    requires { Sized model.now table.now × Places model.now places.now × (tableOk model.now table.now ≡ true) }
-    ensures { result ≡ certificateQuestions model.now table.now }
+    requires { Sized model.now table.now × Places model.now places.now × (table_ok model.now table.now ≡ true) }
+    ensures { result ≡ certificate_questions model.now table.now }
 {
     let size = table.len();
     if size <= tables::FEWEST_WORDS {
@@ -77,8 +77,8 @@ fn certificate_held<'a>(model: &'a [i32], places: &[usize], table: &'a [i32]) ->
 
 // 33 and 34 of a table that passes 32.
 pub fn certificate_questions<'a>(model: &'a [i32], table: &'a [i32]) -> u32
-    requires { Sized model.now table.now × (tableOk model.now table.now ≡ true) }
-    ensures { result ≡ certificateQuestions model.now table.now }
+    requires { Sized model.now table.now × (table_ok model.now table.now ≡ true) }
+    ensures { result ≡ certificate_questions model.now table.now }
 {
     let mut places = [0usize; 65];
     tables::places(model, &mut places);
@@ -88,7 +88,7 @@ pub fn certificate_questions<'a>(model: &'a [i32], table: &'a [i32]) -> u32
 // The questions of a table's words, 32 to 34: 0 if all are yes, else the number of the first that is not.
 fn table_questions<'a>(model: &'a [i32], table: &'a [i32]) -> u32
     requires { Sized model.now table.now }
-    ensures { result ≡ tableQuestions model.now table.now }
+    ensures { result ≡ table_questions model.now table.now }
 {
     let mut places = [0usize; 65];
     tables::places(model, &mut places);
@@ -100,7 +100,7 @@ fn table_questions<'a>(model: &'a [i32], table: &'a [i32]) -> u32
 
 // Accepts exactly if the model's questions, 20 and 32 to 34 are all yes.
 pub fn check<'a>(model: &'a [i32], table: &'a [i32]) -> Verdict
-    ensures { result ≡ checkCall model.now table.now }
+    ensures { result ≡ check_call model.now table.now }
 {
     let q = model::questions(model);
     if q != 0 {
@@ -129,7 +129,7 @@ fn counted_passes(
     work: &mut [i32],
 ) -> Answer
     requires { Sized model.now table.old × Places model.now places.now × Sized model.now work.old }
-    ensures { (result ≡ C.analysis model.now limit) × (table.new ≡ answerTable model.now result) }
+    ensures { (result ≡ C.analysis model.now limit) × (table.new ≡ answer_table model.now result) }
 {
     let mut last = [0usize; 64];
     let mut before = [0usize; 64];
@@ -153,7 +153,7 @@ fn counted_passes(
 
 // The questions of an analysis, the model's, 20 and 21: 0 if all are yes, else the number of the first that is not.
 pub fn questions<'a>(model: &'a [i32], table: &'a [i32], work: &'a [i32]) -> u32
-    ensures { result ≡ analysisQuestions model.now table.now work.now }
+    ensures { result ≡ analysis_questions model.now table.now work.now }
 {
     let q = model::questions(model);
     if q != 0 {
@@ -171,7 +171,7 @@ pub fn questions<'a>(model: &'a [i32], table: &'a [i32], work: &'a [i32]) -> u32
 
 // The answer after its questions. The table buffer then begins with the answer's table, and the work buffer is all zero.
 pub fn analyse_passed(model: &[i32], limit: u32, table: &mut [i32], work: &mut [i32]) -> Answer
-    requires { analysisQuestions model.now table.old work.old ≡ 0 }
+    requires { analysis_questions model.now table.old work.old ≡ 0 }
     ensures { record { answer = result; table = table.new; work = work.new } ≡ answered model.now (C.analysis model.now limit) table.old work.old }
 {
     let size = tables::table_size(model);
@@ -184,7 +184,7 @@ pub fn analyse_passed(model: &[i32], limit: u32, table: &mut [i32], work: &mut [
 
 // The questions, and then the answer; a refusal changes nothing.
 pub fn analyse(model: &[i32], limit: u32, table: &mut [i32], work: &mut [i32]) -> Answer
-    ensures { record { answer = result; table = table.new; work = work.new } ≡ analyseCall model.now limit table.old work.old }
+    ensures { record { answer = result; table = table.new; work = work.new } ≡ analyse_call model.now limit table.old work.old }
 {
     let q = questions(model, table, work);
     if q != 0 {

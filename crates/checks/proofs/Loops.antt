@@ -3,9 +3,9 @@ use mathlib.Core.Path.{◌≡◌, refl, ap₂}
 use mathlib.Core.Bool.{Bool, true, false, ◌&&◌}
 use Prim.Native.Nat.{ℕ, ◌+◌, ◌<◌}
 use native.Mathlib.Numerals.{add-one}
-use Rattle.integers.specs.Counted.{all_below, anyBelow, sumBelow}
-use Rattle.integers.proofs.Tests.{is_true, true-is}
-use Rattle.integers.proofs.Counted.{any-intro}
+use Rattle.integers.specs.Counted.{all_below, any_below, sum_below}
+use Rattle.integers.proofs.Tests.{is_true, true_is}
+use Rattle.integers.proofs.Counted.{any_intro}
 
 module _ (f : ℕ → Bool) where
   pub all_none : true ≡ all_below 0 f
@@ -16,22 +16,22 @@ module _ (f : ℕ → Bool) where
   unfolding all_below
   all_more i e h = rw add-one (ap₂ (λ (a b : Bool). a && b) e h)
 
-  pub any_none : anyBelow 0 f ≡ false
-  unfolding anyBelow
+  pub any_none : any_below 0 f ≡ false
+  unfolding any_below
   any_none = refl
 
-  pub any-more : (i : ℕ) → anyBelow i f ≡ false → f i ≡ false → anyBelow (i + 1) f ≡ false
-  unfolding anyBelow
-  any-more i e h = rw (add-one, e, h) refl
+  pub any_more : (i : ℕ) → any_below i f ≡ false → f i ≡ false → any_below (i + 1) f ≡ false
+  unfolding any_below
+  any_more i e h = rw (add-one, e, h) refl
 
-  pub any_found : (i k : ℕ) → i < k → f i ≡ true → anyBelow k f ≡ true
-  any_found i k l e = is_true (any-intro k f i l (true-is e))
+  pub any_found : (i k : ℕ) → i < k → f i ≡ true → any_below k f ≡ true
+  any_found i k l e = is_true (any_intro k f i l (true_is e))
 
 module _ (f : ℕ → ℕ) where
-  pub sum-none : sumBelow 0 f ≡ 0
-  unfolding sumBelow
-  sum-none = refl
+  pub sum_none : sum_below 0 f ≡ 0
+  unfolding sum_below
+  sum_none = refl
 
-  pub sum_more : (i : ℕ) → sumBelow (i + 1) f ≡ sumBelow i f + f i
-  unfolding sumBelow
+  pub sum_more : (i : ℕ) → sum_below (i + 1) f ≡ sum_below i f + f i
+  unfolding sum_below
   sum_more i = rw add-one refl

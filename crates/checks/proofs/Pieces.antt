@@ -8,67 +8,67 @@ use lib.IntN.{ℤ, pos, negsuc, nat_abs}
 use lib.ListN.{take, drop}
 use lib.Signed.{le_z}
 use borrow.Author.Tests.{eqb-true, eqb-false}
-use Rattle.integers.specs.Words.{word, eqZ}
-use Rattle.integers.proofs.Tests.{true-is}
-use Rattle.integers.proofs.Counted.{eqZ-eq}
+use Rattle.integers.specs.Words.{word, eq_z}
+use Rattle.integers.proofs.Tests.{true_is}
+use Rattle.integers.proofs.Counted.{eq_z_eq}
 use Rattle.plant.specs.Box.{low, high}
-use Rattle.plant.specs.Model.{cut_of, cutFrom, variableOf, side_of, wall, faceWall}
-use Rattle.plant.specs.Questions.{insideOk, zerosOk}
-use Rattle.plant.specs.Pieces.{Extent, extentBy, keepsTo, pieceFace, piece_index, pieceVariable, pieceWall, pieceExtent}
-use Rattle.plant.specs.Tables.{faceSize, piece_at, onWall, absentOk, presentOk, pieceOk}
-use Rattle.checks.proofs.Extents.{whole-uncut, own_first, own-second, other-first, other-second, LocationRead}
+use Rattle.plant.specs.Model.{cut_of, cut_from, variable_of, side_of, wall, face_wall}
+use Rattle.plant.specs.Questions.{inside_ok, zeros_ok}
+use Rattle.plant.specs.Pieces.{Extent, extent_by, keeps_to, piece_face, piece_index, piece_variable, piece_wall, piece_extent}
+use Rattle.plant.specs.Tables.{face_size, piece_at, on_wall, absent_ok, present_ok, piece_ok}
+use Rattle.checks.proofs.Extents.{whole_uncut, own_first, own_second, other_first, other_second, LocationRead}
 
-or-none : (a : Bool) → a ≡ (a || false)
-or-none true = refl
-or-none false = refl
+or_none : (a : Bool) → a ≡ (a || false)
+or_none true = refl
+or_none false = refl
 
 module _ (n : ℕ) (inv : List ℤ) (d : ℕ) (w : ℤ) (extent : Extent) (s : List ℤ) where
-  abbrev boxOk : Bool
-  boxOk = insideOk n (drop 1 s) inv && (onWall (drop 1 s) d w && keepsTo extent (drop 1 s))
+  abbrev box_ok : Bool
+  box_ok = inside_ok n (drop 1 s) inv && (on_wall (drop 1 s) d w && keeps_to extent (drop 1 s))
 
-  pub present-asked : eqZ (word s 0) (pos 1) ≡ true → boxOk ≡ (absentOk n s || presentOk n inv d w extent s)
-  unfolding absentOk presentOk
-  present-asked e =
-      ap₂ (λ (a b : Bool). (a && zerosOk (2 * n) (drop 1 s)) || (b && boxOk))
-      (sym (ap (λ (z : ℤ). eqZ z (pos 0)) (eqZ-eq (word s 0) (pos 1) (true-is e)))) (sym e)
+  pub present_asked : eq_z (word s 0) (pos 1) ≡ true → box_ok ≡ (absent_ok n s || present_ok n inv d w extent s)
+  unfolding absent_ok present_ok
+  present_asked e =
+      ap₂ (λ (a b : Bool). (a && zeros_ok (2 * n) (drop 1 s)) || (b && box_ok))
+      (sym (ap (λ (z : ℤ). eq_z z (pos 0)) (eq_z_eq (word s 0) (pos 1) (true_is e)))) (sym e)
 
-  pub absent-asked : eqZ (word s 0) (pos 1) ≡ false → (eqZ (word s 0) (pos 0) && zerosOk (2 * n) (drop 1 s)) ≡ (absentOk n s || presentOk n inv d w extent s)
-  unfolding absentOk presentOk
-  absent-asked e =
-      or-none (eqZ (word s 0) (pos 0) && zerosOk (2 * n) (drop 1 s))
-      ∙ ap (λ (b : Bool). (eqZ (word s 0) (pos 0) && zerosOk (2 * n) (drop 1 s)) || (b && boxOk)) (sym e)
+  pub absent_asked : eq_z (word s 0) (pos 1) ≡ false → (eq_z (word s 0) (pos 0) && zeros_ok (2 * n) (drop 1 s)) ≡ (absent_ok n s || present_ok n inv d w extent s)
+  unfolding absent_ok present_ok
+  absent_asked e =
+      or_none (eq_z (word s 0) (pos 0) && zeros_ok (2 * n) (drop 1 s))
+      ∙ ap (λ (b : Bool). (eq_z (word s 0) (pos 0) && zeros_ok (2 * n) (drop 1 s)) || (b && box_ok)) (sym e)
 
 -- a box keeps to its side
 module _ (variable value : ℤ) (d k : ℕ) (b : List ℤ) where
   abbrev kept : Bool
-  kept = keepsTo (extentBy (cutFrom variable value) d k) b
+  kept = keeps_to (extent_by (cut_from variable value) d k) b
 
-  keeps-by : (extent : Extent) → extentBy (cutFrom variable value) d k ≡ extent → keepsTo extent b ≡ kept
-  keeps-by extent e = ap (λ (x : Extent). keepsTo x b) (sym e)
+  keeps_by : (extent : Extent) → extent_by (cut_from variable value) d k ≡ extent → keeps_to extent b ≡ kept
+  keeps_by extent e = ap (λ (x : Extent). keeps_to x b) (sym e)
 
-  pub keeps-uncut : eqZ variable (negsuc 0) ≡ true → true ≡ kept
-  unfolding keepsTo
-  keeps-uncut e = keeps-by _ (whole-uncut variable value d k e)
+  pub keeps_uncut : eq_z variable (negsuc 0) ≡ true → true ≡ kept
+  unfolding keeps_to
+  keeps_uncut e = keeps_by _ (whole_uncut variable value d k e)
 
-  module _ (is_cut : eqZ variable (negsuc 0) ≡ false) where
-    pub keeps-own : nat_abs variable ≡ d → eqb k 0 ≡ kept
-    unfolding keepsTo
-    keeps-own e = by (eqb k 0) refl
+  module _ (is_cut : eq_z variable (negsuc 0) ≡ false) where
+    pub keeps_own : nat_abs variable ≡ d → eqb k 0 ≡ kept
+    unfolding keeps_to
+    keeps_own e = by (eqb k 0) refl
       where
         by : (t : Bool) → eqb k 0 ≡ t → eqb k 0 ≡ kept
-        by true h = h ∙ keeps-by _ (own_first variable value d k is_cut e (eqb-true k 0 h))
-        by false h = h ∙ keeps-by _ (own-second variable value d k is_cut e (eqb-false k 0 h))
+        by true h = h ∙ keeps_by _ (own_first variable value d k is_cut e (eqb-true k 0 h))
+        by false h = h ∙ keeps_by _ (own_second variable value d k is_cut e (eqb-false k 0 h))
 
-    pub keeps-first : (nat_abs variable ≡ d → ⊥) → k ≡ 0 → le_z (high b (nat_abs variable)) value ≡ kept
-    unfolding keepsTo
-    keeps-first e h = keeps-by _ (other-first variable value d k is_cut e h)
+    pub keeps_first : (nat_abs variable ≡ d → ⊥) → k ≡ 0 → le_z (high b (nat_abs variable)) value ≡ kept
+    unfolding keeps_to
+    keeps_first e h = keeps_by _ (other_first variable value d k is_cut e h)
 
-    pub keeps-second : (nat_abs variable ≡ d → ⊥) → (k ≡ 0 → ⊥) → le_z value (low b (nat_abs variable)) ≡ kept
-    unfolding keepsTo
-    keeps-second e h = keeps-by _ (other-second variable value d k is_cut e h)
+    pub keeps_second : (nat_abs variable ≡ d → ⊥) → (k ≡ 0 → ⊥) → le_z value (low b (nat_abs variable)) ≡ kept
+    unfolding keeps_to
+    keeps_second e h = keeps_by _ (other_second variable value d k is_cut e h)
 
 -- the question of piece q of location l, of words that were read from the table
-pub piece-asked : (m t : List ℤ) (l q : ℕ) {n : ℕ} {inv : List ℤ} {c : ℕ} {variable value : ℤ} {at : ℕ} {piece : List ℤ} {r : Bool} → LocationRead m l n inv c variable value → at ≡ piece_at m l q → piece ≡ take (faceSize n) (drop at t)
-    → r ≡ (absentOk n piece || presentOk n inv (variableOf (q / c)) (wall inv (variableOf (q / c)) (side_of (q / c))) (extentBy (cutFrom variable value) (variableOf (q / c)) (q % c)) piece) → r ≡ pieceOk m t l q
-unfolding pieceOk pieceExtent pieceVariable pieceWall pieceFace piece_index faceWall cut_of
-piece-asked m t l q h a p k = rw (p, a, h.c-is, h.variable-is, h.value-is, h.inv-is, h.n-is) at k
+pub piece_asked : (m t : List ℤ) (l q : ℕ) {n : ℕ} {inv : List ℤ} {c : ℕ} {variable value : ℤ} {at : ℕ} {piece : List ℤ} {r : Bool} → LocationRead m l n inv c variable value → at ≡ piece_at m l q → piece ≡ take (face_size n) (drop at t)
+    → r ≡ (absent_ok n piece || present_ok n inv (variable_of (q / c)) (wall inv (variable_of (q / c)) (side_of (q / c))) (extent_by (cut_from variable value) (variable_of (q / c)) (q % c)) piece) → r ≡ piece_ok m t l q
+unfolding piece_ok piece_extent piece_variable piece_wall piece_face piece_index face_wall cut_of
+piece_asked m t l q h a p k = rw (p, a, h.c_is, h.variable_is, h.value_is, h.inv_is, h.n_is) at k

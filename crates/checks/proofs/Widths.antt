@@ -4,21 +4,21 @@ use mathlib.Core.List.{List}
 use Prim.Native.Nat.{ℕ, ◌+◌, ◌*◌, ◌≤◌}
 use lib.IntN.{ℤ}
 use Rattle.delays.specs.Ranges.{LevelAt, Levels}
-use Rattle.plant.specs.Tables.{width, allWidths}
+use Rattle.plant.specs.Tables.{width, all_widths}
 use Rattle.plant.proofs.Widths as widths
-use Rattle.checks.proofs.Loops.{sum-none, sum_more}
+use Rattle.checks.proofs.Loops.{sum_none, sum_more}
 
 module _ (b : List ℤ) where
-  pub widths-none : allWidths 0 b ≡ 0
-  unfolding allWidths
-  widths-none = sum-none (width b)
+  pub widths_none : all_widths 0 b ≡ 0
+  unfolding all_widths
+  widths_none = sum_none (width b)
 
-  pub widths-more : (i : ℕ) → allWidths (i + 1) b ≡ allWidths i b + width b i
-  unfolding allWidths
-  widths-more i = sum_more (width b) i
+  pub widths_more : (i : ℕ) → all_widths (i + 1) b ≡ all_widths i b + width b i
+  unfolding all_widths
+  widths_more i = sum_more (width b) i
 
   pub width_small : (i : ℕ) → LevelAt b i → width b i ≤ 2000000
-  width_small i h = widths.width_small b i h.low-in h.high-in
+  width_small i h = widths.width_small b i h.low_in h.high_in
 
-  pub widths-small : (i : ℕ) → Levels i b → allWidths i b ≤ i * 2000000
-  widths-small i h = widths.widths-small i b (λ j l. width_small j (h j l))
+  pub widths_small : (i : ℕ) → Levels i b → all_widths i b ≤ i * 2000000
+  widths_small i h = widths.widths_small i b (λ j l. width_small j (h j l))

@@ -2,9 +2,9 @@
 ghost use Rattle.std.specs.Prelude.{◌≡◌, ◌<◌, ◌≤◌};
 ghost use Rattle.delays.specs.Ranges.{LevelAt, Levels};
 ghost use Rattle.plant.specs.Model.{n#, L#, invariant, cut_of};
-ghost use Rattle.plant.specs.Questions.{modelQuestions};
+ghost use Rattle.plant.specs.Questions.{model_questions};
 ghost use Rattle.plant.specs.Tables as T;
-ghost use Rattle.plant.specs.Tables.{allWidths, uncutCeiling, locationCeiling, ceilingOf};
+ghost use Rattle.plant.specs.Tables.{all_widths, uncut_ceiling, location_ceiling, ceiling_of};
 
 // The width (high minus low) of variable i.
 fn width(inv: &[i32], i: usize) -> u64
@@ -18,7 +18,7 @@ fn width(inv: &[i32], i: usize) -> u64
 // The sum of the widths of all n variables.
 fn all_widths(n: usize, inv: &[i32]) -> u64
     requires { (n ≤ 6) × Levels n inv.now }
-    ensures { result ≡ allWidths n inv.now }
+    ensures { result ≡ all_widths n inv.now }
 {
     let mut sum: u64 = 0;
     let mut i: usize = 0;
@@ -32,7 +32,7 @@ fn all_widths(n: usize, inv: &[i32]) -> u64
 // 2n + 2(n - 1) × the sum of the widths; of no variables nothing.
 fn uncut_ceiling(n: usize, widths: u64) -> u64
     requires { (n ≤ 6) × (widths ≤ 12000000) }
-    ensures { (result ≡ uncutCeiling n widths) × (result ≤ 120000012) }
+    ensures { (result ≡ uncut_ceiling n widths) × (result ≤ 120000012) }
 {
     if n == 0 {
         return 0;
@@ -43,8 +43,8 @@ fn uncut_ceiling(n: usize, widths: u64) -> u64
 
 // What location l adds: with a cut as much again as a location of the other variables.
 fn location_ceiling(model: &[i32], l: usize) -> u64
-    requires { (modelQuestions model.now ≡ 0) × (l < L# model.now) }
-    ensures { (result ≡ locationCeiling (n# model.now) (invariant model.now l) (cut_of model.now l)) × (result ≤ 240000024) }
+    requires { (model_questions model.now ≡ 0) × (l < L# model.now) }
+    ensures { (result ≡ location_ceiling (n# model.now) (invariant model.now l) (cut_of model.now l)) × (result ≤ 240000024) }
 {
     let n = records::variables(model);
     let inv = records::invariant(model, l);
@@ -60,8 +60,8 @@ fn location_ceiling(model: &[i32], l: usize) -> u64
 
 // The sum over all locations.
 pub fn ceiling_of(model: &[i32]) -> u64
-    requires { modelQuestions model.now ≡ 0 }
-    ensures { result ≡ ceilingOf model.now }
+    requires { model_questions model.now ≡ 0 }
+    ensures { result ≡ ceiling_of model.now }
 {
     let locations = records::locations(model);
     let mut sum: u64 = 0;

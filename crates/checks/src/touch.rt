@@ -1,19 +1,19 @@
 // Whether a part of a location touches a forbidden box of it.
 ghost use Rattle.std.specs.Prelude.{◌≡◌, true, cond, ◌+◌, ◌-◌, ◌<◌, ◌≤◌, eqb, pos, length};
-ghost use Rattle.integers.specs.Words.{word, eqZ};
+ghost use Rattle.integers.specs.Words.{word, eq_z};
 ghost use Rattle.plant.specs.Model.{n#, L#, B#};
-ghost use Rattle.plant.specs.Questions.{modelQuestions};
+ghost use Rattle.plant.specs.Questions.{model_questions};
 ghost use Rattle.plant.specs.Tables as T;
-ghost use Rattle.plant.specs.Tables.{faceRead, tableOk, startPart};
+ghost use Rattle.plant.specs.Tables.{face_read, table_ok, start_part};
 ghost use Rattle.tables.specs.Places.{Places};
 ghost use Rattle.passes.specs.Ready.{TableReady};
 ghost use Rattle.checks.specs.Links.{Linked};
-ghost use Rattle.checks.specs.Parts.{partWords, PartAt};
+ghost use Rattle.checks.specs.Parts.{part_words, PartAt};
 
 // Links the forbidden boxes of each location, from the last to the first. A box has its number plus 1 here, and 0 is none:
 // `last` holds the last box of each location, and `before` the one before each box in its location. Both are lent all zero.
 pub fn link(model: &[i32], last: &mut [usize; 64], before: &mut [usize; 64])
-    requires { (modelQuestions model.now ≡ 0) × Linked model.now 0 last.old before.old }
+    requires { (model_questions model.now ≡ 0) × Linked model.now 0 last.old before.old }
     ensures { Linked model.now (B# model.now) last.new before.new }
 {
     let boxes = records::forbidden_boxes(model);
@@ -37,8 +37,8 @@ fn parts_asked(earlier: usize, next: usize, last: usize) -> usize
 
 // Writes the words of the start part of location l, a flag and a box of up to six variables, if parts of the location are asked.
 fn start_words(model: &[i32], l: usize, parts: usize, words: &mut [i32])
-    requires { (modelQuestions model.now ≡ 0) × (l < L# model.now) × (length words.old ≡ 13) }
-    ensures { 0 < parts → faceRead (n# model.now) words.new 0 ≡ startPart model.now l }
+    requires { (model_questions model.now ≡ 0) × (l < L# model.now) × (length words.old ≡ 13) }
+    ensures { 0 < parts → face_read (n# model.now) words.new 0 ≡ start_part model.now l }
 {
     if 0 < parts {
         words[0] = 0;
@@ -52,7 +52,7 @@ fn start_words(model: &[i32], l: usize, parts: usize, words: &mut [i32])
 // part, part q + 1 its piece q.
 fn part_at<'a>(start: &'a [i32], table: &'a [i32], n: usize, earlier: usize, p: usize) -> &'a [i32]
     requires { PartAt n start.now table.now earlier p }
-    ensures { result.now ≡ partWords n start.now table.now earlier p }
+    ensures { result.now ≡ part_words n start.now table.now earlier p }
 {
     if p == 0 {
         tables::face(start, 0, n)
@@ -64,7 +64,7 @@ fn part_at<'a>(start: &'a [i32], table: &'a [i32], n: usize, earlier: usize, p: 
 // The first box to ask of a part: none of an absent one.
 fn first_asked(part: &[i32], last: usize) -> usize
     requires { 0 < length part.now }
-    ensures { result ≡ cond (eqZ (word part.now 0) (pos 1)) last 0 }
+    ensures { result ≡ cond (eq_z (word part.now 0) (pos 1)) last 0 }
 {
     if integers::same(part[0], 1) { last } else { 0 }
 }
@@ -78,7 +78,7 @@ pub fn touching(
     before: &[usize],
     table: &[i32],
 ) -> bool
-    requires { TableReady model.now table.now × Places model.now places.now × (tableOk model.now table.now ≡ true) × Linked model.now (B# model.now) last.now before.now }
+    requires { TableReady model.now table.now × Places model.now places.now × (table_ok model.now table.now ≡ true) × Linked model.now (B# model.now) last.now before.now }
     ensures { result ≡ T.touching model.now table.now }
 {
     let locations = records::locations(model);

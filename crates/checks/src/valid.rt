@@ -2,10 +2,10 @@
 // keeping to its side.
 ghost use Rattle.std.specs.Prelude.{◌≡◌, ◌||◌, ◌+◌, ◌*◌, ◌/◌, ◌%◌, ◌<◌, length};
 ghost use Rattle.integers.specs.Counted.{all_below};
-ghost use Rattle.plant.specs.Model.{L#, cutFrom, variableOf, side_of, wall};
-ghost use Rattle.plant.specs.Pieces.{extentBy, keepsTo, pieces};
+ghost use Rattle.plant.specs.Model.{L#, cut_from, variable_of, side_of, wall};
+ghost use Rattle.plant.specs.Pieces.{extent_by, keeps_to, pieces};
 ghost use Rattle.plant.specs.Tables as T;
-ghost use Rattle.plant.specs.Tables.{faceSize, piecesBefore, absentOk, presentOk, pieceOk, tableOk};
+ghost use Rattle.plant.specs.Tables.{face_size, pieces_before, absent_ok, present_ok, piece_ok, table_ok};
 ghost use Rattle.tables.specs.Places.{Places};
 ghost use Rattle.passes.specs.Ready.{TableReady};
 ghost use Rattle.checks.specs.Ready.{CutNamed, LocationReady};
@@ -15,7 +15,7 @@ use super::numbers;
 // A box lies on the wall w of variable d.
 fn on_wall(bounds: &[i32], d: usize, w: i32) -> bool
     requires { 2 * d + 1 < length bounds.now }
-    ensures { result ≡ T.onWall bounds.now d w }
+    ensures { result ≡ T.on_wall bounds.now d w }
 {
     let k = 2 * d;
     integers::same(bounds[k], w) & integers::same(bounds[k + 1], w)
@@ -24,7 +24,7 @@ fn on_wall(bounds: &[i32], d: usize, w: i32) -> bool
 // A box keeps to the side of piece k of a face with the wall variable d, by the words of the location's cut.
 fn keeps(bounds: &[i32], variable: i32, value: i32, d: usize, k: usize) -> bool
     requires { CutNamed (length bounds.now) variable }
-    ensures { result ≡ keepsTo (extentBy (cutFrom variable value) d k) bounds.now }
+    ensures { result ≡ keeps_to (extent_by (cut_from variable value) d k) bounds.now }
 {
     if integers::same(variable, -1) {
         return true;
@@ -50,8 +50,8 @@ fn piece_ok(
     q: usize,
     piece: &[i32],
 ) -> bool
-    requires { LocationReady n inv.now c variable × (q < 2 * n * c) × (length piece.now ≡ faceSize n) }
-    ensures { result ≡ (absentOk n piece.now || presentOk n inv.now (variableOf (q / c)) (wall inv.now (variableOf (q / c)) (side_of (q / c))) (extentBy (cutFrom variable value) (variableOf (q / c)) (q % c)) piece.now) }
+    requires { LocationReady n inv.now c variable × (q < 2 * n * c) × (length piece.now ≡ face_size n) }
+    ensures { result ≡ (absent_ok n piece.now || present_ok n inv.now (variable_of (q / c)) (wall inv.now (variable_of (q / c)) (side_of (q / c))) (extent_by (cut_from variable value) (variable_of (q / c)) (q % c)) piece.now) }
 {
     let flag = piece[0];
     let bounds = &piece[1..];
@@ -68,8 +68,8 @@ fn piece_ok(
 
 // The pieces of location l, which stand behind the earlier ones in the table.
 fn location_ok(model: &[i32], table: &[i32], l: usize, earlier: usize) -> bool
-    requires { TableReady model.now table.now × (l < L# model.now) × (earlier ≡ piecesBefore model.now l) }
-    ensures { result ≡ all_below (pieces model.now l) (pieceOk model.now table.now l) }
+    requires { TableReady model.now table.now × (l < L# model.now) × (earlier ≡ pieces_before model.now l) }
+    ensures { result ≡ all_below (pieces model.now l) (piece_ok model.now table.now l) }
 {
     let n = records::variables(model);
     let inv = records::invariant(model, l);
@@ -90,7 +90,7 @@ fn location_ok(model: &[i32], table: &[i32], l: usize, earlier: usize) -> bool
 // Question 32 of a table.
 pub fn table_ok(model: &[i32], places: &[usize], table: &[i32]) -> bool
     requires { TableReady model.now table.now × Places model.now places.now }
-    ensures { result ≡ tableOk model.now table.now }
+    ensures { result ≡ table_ok model.now table.now }
 {
     let locations = records::locations(model);
     let mut ok = true;

@@ -8,41 +8,41 @@ use native.Mathlib.Omega.{arith}
 use lib.Dec.{T}
 use lib.IntN.{ℤ, pos, negsuc, neg_ℤ, nat_abs, ◌-ℤ◌}
 use lib.Signed.{lt_z, le_z}
-use Rattle.integers.proofs.Parts.{arithZ}
-use Rattle.integers.specs.Rounding.{maxZ, minZ}
-use Rattle.integers.proofs.Tests.{by-test, or_no, and_no}
+use Rattle.integers.proofs.Parts.{arith_z}
+use Rattle.integers.specs.Rounding.{max_z, min_z}
+use Rattle.integers.proofs.Tests.{by_test, or_no, and_no}
 use Rattle.integers.proofs.Order.{trans}
-use Rattle.integers.proofs.Signed.{abs_neg, abs-minus, between}
+use Rattle.integers.proofs.Signed.{abs_neg, abs_minus, between}
 use Rattle.plant.specs.declared.Fraction.{Fraction}
 use Rattle.plant.specs.declared.End.{End}
 use Rattle.plant.specs.declared.End.TheVariants.{At, Endless}
 use Rattle.plant.specs.declared.Interval.{Interval}
 use Rattle.plant.specs.declared.Delays.{Delays}
 use Rattle.plant.specs.declared.Delays.TheVariants.{Between, Never}
-use Rattle.plant.specs.Delays.{ratio, noDelay, earliestInto, isEndless, latestInto, delaysInto, leF, later, sooner, both}
+use Rattle.plant.specs.Delays.{ratio, no_delay, earliest_into, is_endless, latest_into, delays_into, le_f, later, sooner, both}
 use Rattle.plant.specs.Box.{low, high}
 use Rattle.delays.specs.Ranges.{Level, Rate, Levels, InInvariant, Small, SmallEnd, SmallInterval}
 
-ratio-small : (x y d : ℤ) → Level x → Level y → Rate d → 0 < nat_abs d → Small (ratio (x -ℤ y) d)
-ratio-small x y d h k r l = record { num-small = omega (arith, abs-minus x y); den-positive = l; den-small = r }
+ratio_small : (x y d : ℤ) → Level x → Level y → Rate d → 0 < nat_abs d → Small (ratio (x -ℤ y) d)
+ratio_small x y d h k r l = record { num_small = omega (arith, abs_minus x y); den_positive = l; den_small = r }
 
 -- at the rate -d
-ratio-small-neg : (x y d : ℤ) → Level x → Level y → Rate d → 0 < nat_abs d → Small (ratio (x -ℤ y) (neg_ℤ d))
-ratio-small-neg x y d h k r l = ratio-small x y (neg_ℤ d) h k (omega (arith, abs_neg d)) (omega (arith, abs_neg d))
+ratio_small_neg : (x y d : ℤ) → Level x → Level y → Rate d → 0 < nat_abs d → Small (ratio (x -ℤ y) (neg_ℤ d))
+ratio_small_neg x y d h k r l = ratio_small x y (neg_ℤ d) h k (omega (arith, abs_neg d)) (omega (arith, abs_neg d))
 
 -- a rate that a test tells from 0
 below : (z : ℤ) → T (not (le_z (pos 0) z)) → 0 < nat_abs z
-below (pos n) t = absurd (omega arithZ)
+below (pos n) t = absurd (omega arith_z)
 below (negsuc n) t = omega arith
 
 above : (z : ℤ) → T (not (le_z z (pos 0))) → 0 < nat_abs z
-above (pos n) t = omega arithZ
-above (negsuc n) t = absurd (omega arithZ)
+above (pos n) t = omega arith_z
+above (negsuc n) t = absurd (omega arith_z)
 
-and-no-left : (s t : Bool) → T (not (s && t)) → T t → T (not s)
-and-no-left true true h k = h
-and-no-left true false h k = k
-and-no-left false t h k = tt
+and_no_left : (s t : Bool) → T (not (s && t)) → T t → T (not s)
+and_no_left true true h k = h
+and_no_left true false h k = k
+and_no_left false t h k = tt
 
 -- where there is an interval of delays, it is small
 abbrev pub SmallDelays : Delays → Type 0
@@ -50,67 +50,67 @@ SmallDelays Never = Unit {0}
 SmallDelays (Between t) = SmallInterval t
 
 module _ (p q a c lo hi : ℤ) (lp : Level p) (lq : Level q) (ra : Rate a) (rc : Rate c) (ll : Level lo) (lh : Level hi) where
-  earliest-into-small : T (not (noDelay p q a c lo hi)) → Small (earliestInto p q a c lo hi)
-  earliest-into-small t =
+  earliest_into_small : T (not (no_delay p q a c lo hi)) → Small (earliest_into p q a c lo hi)
+  earliest_into_small t =
       let u = or_no (lt_z hi p && le_z (pos 0) a) (lt_z q lo && le_z c (pos 0)) t in
-      by-test Small (lt_z hi p)
-      (λ h. ratio-small-neg p hi a lp lh ra (below a (and_no (lt_z hi p) (le_z (pos 0) a) u.0 h)))
-      (λ _. by-test Small (lt_z q lo)
-      (λ h. ratio-small lo q c ll lq rc (above c (and_no (lt_z q lo) (le_z c (pos 0)) u.1 h)))
-      (λ _. record { num-small = omega arith; den-positive = omega arith; den-small = omega arith }))
+      by_test Small (lt_z hi p)
+      (λ h. ratio_small_neg p hi a lp lh ra (below a (and_no (lt_z hi p) (le_z (pos 0) a) u.0 h)))
+      (λ _. by_test Small (lt_z q lo)
+      (λ h. ratio_small lo q c ll lq rc (above c (and_no (lt_z q lo) (le_z c (pos 0)) u.1 h)))
+      (λ _. record { num_small = omega arith; den_positive = omega arith; den_small = omega arith }))
 
-  pub latest-into-small : SmallEnd (latestInto p q a c lo hi)
-  latest-into-small =
-      by-test SmallEnd (isEndless p q a c lo hi) (λ _. tt)
+  pub latest_into_small : SmallEnd (latest_into p q a c lo hi)
+  latest_into_small =
+      by_test SmallEnd (is_endless p q a c lo hi) (λ _. tt)
       (λ t.
       let u = or_no (le_z a (pos 0) && le_z (pos 0) c) ((lt_z hi p && le_z (pos 0) c) || (lt_z q lo && le_z a (pos 0))) t in
-      by-test Small (lt_z c (pos 0))
-      (λ h. ratio-small-neg q lo c lq ll rc (below c (omega arithZ)))
-      (λ h. ratio-small hi p a lh lp ra (above a (and-no-left (le_z a (pos 0)) (le_z (pos 0) c) u.0 (omega arithZ)))))
+      by_test Small (lt_z c (pos 0))
+      (λ h. ratio_small_neg q lo c lq ll rc (below c (omega arith_z)))
+      (λ h. ratio_small hi p a lh lp ra (above a (and_no_left (le_z a (pos 0)) (le_z (pos 0) c) u.0 (omega arith_z)))))
 
-  pub into-small : SmallDelays (delaysInto p q a c lo hi)
-  unfolding delaysInto
-  into-small = by-test SmallDelays (noDelay p q a c lo hi) (λ _. tt) (λ n. record { earliest-small = earliest-into-small n; latest-small = latest-into-small })
+  pub into_small : SmallDelays (delays_into p q a c lo hi)
+  unfolding delays_into
+  into_small = by_test SmallDelays (no_delay p q a c lo hi) (λ _. tt) (λ n. record { earliest_small = earliest_into_small n; latest_small = latest_into_small })
 
-  pub delays-small : (t : Interval) → delaysInto p q a c lo hi ≡ Between t → SmallInterval t
-  delays-small t e = subst SmallDelays e into-small
+  pub delays_small : (t : Interval) → delays_into p q a c lo hi ≡ Between t → SmallInterval t
+  delays_small t e = subst SmallDelays e into_small
 
 -- a cross product
-pub cross-small : {e f : Fraction} → Small e → Small f → e.num * f.den ≤ 2000000000
-cross-small s t = mul-le-mul s.num-small t.den-small
+pub cross_small : {e f : Fraction} → Small e → Small f → e.num * f.den ≤ 2000000000
+cross_small s t = mul-le-mul s.num_small t.den_small
 
 -- ---- what two small intervals share is small
 
-later-small : {e f : Fraction} → Small e → Small f → Small (later e f)
-later-small {e} {f} s t = by-test Small (leF e f) (λ _. t) (λ _. s)
+later_small : {e f : Fraction} → Small e → Small f → Small (later e f)
+later_small {e} {f} s t = by_test Small (le_f e f) (λ _. t) (λ _. s)
 
-pub sooner-small : (e f : End) → SmallEnd e → SmallEnd f → SmallEnd (sooner e f)
-sooner-small Endless f s t = t
-sooner-small (At e) Endless s t = s
-sooner-small (At e) (At f) s t = by-test Small (leF e f) (λ _. s) (λ _. t)
+pub sooner_small : (e f : End) → SmallEnd e → SmallEnd f → SmallEnd (sooner e f)
+sooner_small Endless f s t = t
+sooner_small (At e) Endless s t = s
+sooner_small (At e) (At f) s t = by_test Small (le_f e f) (λ _. s) (λ _. t)
 
-pub shared-small : {s t : Interval} → SmallInterval s → SmallInterval t → SmallInterval (both s t)
-shared-small {s} {t} h k =
+pub shared_small : {s t : Interval} → SmallInterval s → SmallInterval t → SmallInterval (both s t)
+shared_small {s} {t} h k =
     record {
-      earliest-small = later-small h.earliest-small k.earliest-small;
-      latest-small = sooner-small s.latest t.latest h.latest-small k.latest-small;
+      earliest_small = later_small h.earliest_small k.earliest_small;
+      latest_small = sooner_small s.latest t.latest h.latest_small k.latest_small;
     }
 
 -- ---- the ends of a cut are levels
 
-pub level-max : (x y : ℤ) → Level x → Level y → Level (maxZ x y)
-unfolding maxZ
-level-max x y h k = by-test Level (lt_z x y) (λ _. k) (λ _. h)
+pub level_max : (x y : ℤ) → Level x → Level y → Level (max_z x y)
+unfolding max_z
+level_max x y h k = by_test Level (lt_z x y) (λ _. k) (λ _. h)
 
-pub level-min : (x y : ℤ) → Level x → Level y → Level (minZ x y)
-unfolding minZ
-level-min x y h k = by-test Level (lt_z x y) (λ _. h) (λ _. k)
+pub level_min : (x y : ℤ) → Level x → Level y → Level (min_z x y)
+unfolding min_z
+level_min x y h k = by_test Level (lt_z x y) (λ _. h) (λ _. k)
 
 -- ---- a box inside an invariant of levels is one of levels
 
-pub in-levels : {n : ℕ} {inv b : List ℤ} → Levels n inv → InInvariant n inv b → Levels n b
-in-levels {n} {inv} {b} v h i l = record {
+pub in_levels : {n : ℕ} {inv b : List ℤ} → Levels n inv → InInvariant n inv b → Levels n b
+in_levels {n} {inv} {b} v h i l = record {
   there = omega (arith, h.sized);
-  low-in = between (low b i) (h.inside.lower i l) (trans (h.is-ordered i l) (h.inside.higher i l)) (v i l).low-in (v i l).high-in;
-  high-in = between (high b i) (trans (h.inside.lower i l) (h.is-ordered i l)) (h.inside.higher i l) (v i l).low-in (v i l).high-in;
+  low_in = between (low b i) (h.inside.lower i l) (trans (h.is_ordered i l) (h.inside.higher i l)) (v i l).low_in (v i l).high_in;
+  high_in = between (high b i) (trans (h.inside.lower i l) (h.is_ordered i l)) (h.inside.higher i l) (v i l).low_in (v i l).high_in;
 }

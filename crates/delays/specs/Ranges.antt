@@ -16,14 +16,14 @@ Rate z = nat_abs z ≤ 1000
 -- the low and the high of variable i stand in the words b, and are levels
 pub record LevelAt (b : List ℤ) (i : ℕ) : Type 0 where
   pub there : 2 * i + 1 < length b
-  pub low-in : Level (low b i)
-  pub high-in : Level (high b i)
+  pub low_in : Level (low b i)
+  pub high_in : Level (high b i)
 
 -- and are rates
 pub record RateAt (b : List ℤ) (i : ℕ) : Type 0 where
   pub there : 2 * i + 1 < length b
-  pub low-in : Rate (low b i)
-  pub high-in : Rate (high b i)
+  pub low_in : Rate (low b i)
+  pub high_in : Rate (high b i)
 
 -- the same of each of n variables
 abbrev pub Levels : ℕ → List ℤ → Type 0
@@ -35,19 +35,19 @@ Rates n b = (i : ℕ) → i < n → RateAt b i
 -- a box of n variables, ordered and inside the invariant
 pub record InInvariant (n : ℕ) (inv b : List ℤ) : Type 0 where
   pub sized : length b ≡ 2 * n
-  pub is-ordered : Ordered n b
+  pub is_ordered : Ordered n b
   pub inside : Inside n b inv
 
 -- a delay between two levels at a rate
 pub record Small (f : Fraction) : Type 0 where
-  pub num-small : f.num ≤ 2000000
-  pub den-positive : 0 < f.den
-  pub den-small : f.den ≤ 1000
+  pub num_small : f.num ≤ 2000000
+  pub den_positive : 0 < f.den
+  pub den_small : f.den ≤ 1000
 
 abbrev pub SmallEnd : End → Type 0
 SmallEnd (At f) = Small f
 SmallEnd Endless = Unit {0}
 
 pub record SmallInterval (t : Interval) : Type 0 where
-  pub earliest-small : Small t.earliest
-  pub latest-small : SmallEnd t.latest
+  pub earliest_small : Small t.earliest
+  pub latest_small : SmallEnd t.latest

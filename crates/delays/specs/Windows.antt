@@ -10,8 +10,8 @@ use Rattle.delays.specs.Ranges.{SmallEnd}
 
 -- variable i of a part can be in the invariant's range: the part is neither above nor below it
 pub record WithinAt (inv part : List ℤ) (i : ℕ) : Type 0 where
-  pub not-above : low part i ≤ℤ high inv i
-  pub not-below : low inv i ≤ℤ high part i
+  pub not_above : low part i ≤ℤ high inv i
+  pub not_below : low inv i ≤ℤ high part i
 
 -- the delays from 0 to an end
 abbrev pub up_to : End → Interval
@@ -19,5 +19,5 @@ up_to e = record { earliest = ratio (pos 0) (pos 1); latest = e }
 
 -- the window of a part ends at e
 pub record WindowEnd (n : ℕ) (inv rate part : List ℤ) (e : End) : Type 0 where
-  pub is-window : window n inv rate part ≡ Between (up_to e)
+  pub is_window : window n inv rate part ≡ Between (up_to e)
   pub small : SmallEnd e

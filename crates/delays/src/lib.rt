@@ -1,9 +1,9 @@
 // The delays from a part to a wall or into a range, and whether a part touches a box (document 01, "Delays").
 ghost use Rattle.std.specs.Prelude.{◌≡◌, true, false, cond, ◌-ℤ◌};
-ghost use Rattle.integers.specs.Rounding.{maxZ, minZ};
+ghost use Rattle.integers.specs.Rounding.{max_z, min_z};
 ghost use Rattle.plant.specs.Box.{low, high};
 ghost use Rattle.plant.specs.Delays as D;
-ghost use Rattle.plant.specs.Delays.{ratio, noDelay, isEndless, earliestInto, latestInto, delaysInto, delaysTo, leF, both, bothDelays, reachesEnd, orNever};
+ghost use Rattle.plant.specs.Delays.{ratio, no_delay, is_endless, earliest_into, latest_into, delays_into, delays_to, le_f, both, both_delays, reaches_end, or_never};
 ghost use Rattle.plant.specs.declared.Delays.TheVariants.{Between};
 ghost use Rattle.plant.specs.Steps as Steps;
 ghost use Rattle.delays.specs.Ranges.{Level, Rate, LevelAt, RateAt, Levels, Rates, InInvariant, Small, SmallEnd, SmallInterval};
@@ -24,14 +24,14 @@ fn delay(x: i64, y: i64, v: i64) -> Fraction
 
 // No delay leads from the part p..q with the rate a..c into the range lo..hi.
 fn no_delay(p: i64, q: i64, a: i64, c: i64, lo: i64, hi: i64) -> bool
-    ensures { result ≡ noDelay p q a c lo hi }
+    ensures { result ≡ no_delay p q a c lo hi }
 {
     ((hi < p) & (0 <= a)) | ((q < lo) & (c <= 0))
 }
 
 // The latest delay into the range is endless.
 fn endless(p: i64, q: i64, a: i64, c: i64, lo: i64, hi: i64) -> bool
-    ensures { result ≡ isEndless p q a c lo hi }
+    ensures { result ≡ is_endless p q a c lo hi }
 {
     ((a <= 0) & (0 <= c)) | (((hi < p) & (0 <= c)) | ((q < lo) & (a <= 0)))
 }
@@ -39,7 +39,7 @@ fn endless(p: i64, q: i64, a: i64, c: i64, lo: i64, hi: i64) -> bool
 // The earliest delay into the range.
 fn earliest(p: i64, q: i64, a: i64, c: i64, lo: i64, hi: i64) -> Fraction
     requires { Level p × Level q × Level lo × Level hi }
-    ensures { result ≡ earliestInto p q a c lo hi }
+    ensures { result ≡ earliest_into p q a c lo hi }
 {
     if hi < p {
         delay(p, hi, a)
@@ -53,7 +53,7 @@ fn earliest(p: i64, q: i64, a: i64, c: i64, lo: i64, hi: i64) -> Fraction
 // The latest delay into the range.
 fn latest(p: i64, q: i64, a: i64, c: i64, lo: i64, hi: i64) -> End
     requires { Level p × Level q × Level lo × Level hi }
-    ensures { result ≡ latestInto p q a c lo hi }
+    ensures { result ≡ latest_into p q a c lo hi }
 {
     if endless(p, q, a, c, lo, hi) {
         End::Endless
@@ -67,7 +67,7 @@ fn latest(p: i64, q: i64, a: i64, c: i64, lo: i64, hi: i64) -> End
 // The delays from the part p..q with the rate a..c into the range lo..hi.
 pub fn delays_into(p: i64, q: i64, a: i64, c: i64, lo: i64, hi: i64) -> Delays
     requires { Level p × Level q × Rate a × Rate c × Level lo × Level hi }
-    ensures { result ≡ delaysInto p q a c lo hi }
+    ensures { result ≡ delays_into p q a c lo hi }
 {
     if no_delay(p, q, a, c, lo, hi) {
         Delays::Never
@@ -82,7 +82,7 @@ pub fn delays_into(p: i64, q: i64, a: i64, c: i64, lo: i64, hi: i64) -> Delays
 // The delays at which variable i of a part can be in the range lo..hi.
 pub fn variable_delays(rate: &[i32], part: &[i32], i: usize, lo: i64, hi: i64) -> Delays
     requires { RateAt rate.now i × LevelAt part.now i × Level lo × Level hi }
-    ensures { result ≡ delaysInto (low part.now i) (high part.now i) (low rate.now i) (high rate.now i) lo hi }
+    ensures { result ≡ delays_into (low part.now i) (high part.now i) (low rate.now i) (high rate.now i) lo hi }
 {
     let k = 2 * i;
     let j = k + 1;
@@ -96,7 +96,7 @@ pub fn variable_delays(rate: &[i32], part: &[i32], i: usize, lo: i64, hi: i64) -
 // One delay is no later than another, compared exactly.
 fn le(e: Fraction, f: Fraction) -> bool
     requires { Small e × Small f }
-    ensures { result ≡ leF e f }
+    ensures { result ≡ le_f e f }
 {
     e.num * f.den <= f.num * e.den
 }
@@ -112,7 +112,7 @@ fn later(e: Fraction, f: Fraction) -> Fraction
 // The earlier of two delays.
 fn earlier(e: Fraction, f: Fraction) -> Fraction
     requires { Small e × Small f }
-    ensures { result ≡ cond (leF e f) e f }
+    ensures { result ≡ cond (le_f e f) e f }
 {
     if le(e, f) { e } else { f }
 }
@@ -152,7 +152,7 @@ fn both(s: Interval, t: Interval) -> Interval
 // An interval holds a delay: its earliest is no later than its latest.
 fn has_delay(t: Interval) -> bool
     requires { SmallInterval t }
-    ensures { result ≡ reachesEnd t.earliest t.latest }
+    ensures { result ≡ reaches_end t.earliest t.latest }
 {
     let e = t.earliest;
     let l = t.latest;
@@ -165,7 +165,7 @@ fn has_delay(t: Interval) -> bool
 // The delays from a part to the wall value b of variable d that are in a window from 0 to an end; none if no delay is.
 pub fn wall_delays(rate: &[i32], part: &[i32], d: usize, b: i64, end: End) -> Delays
     requires { RateAt rate.now d × LevelAt part.now d × Level b × SmallEnd end }
-    ensures { result ≡ orNever (bothDelays (delaysTo (low part.now d) (high part.now d) (low rate.now d) (high rate.now d) b) (Between (up_to end))) }
+    ensures { result ≡ or_never (both_delays (delays_to (low part.now d) (high part.now d) (low rate.now d) (high rate.now d) b) (Between (up_to end))) }
 {
     let Delays::Between(t) = variable_delays(rate, part, d, b, b) else {
         return Delays::Never;
@@ -187,7 +187,7 @@ pub fn wall_delays(rate: &[i32], part: &[i32], d: usize, b: i64, end: End) -> De
 // which two comparisons tell.
 fn latest_inside(inv: &[i32], rate: &[i32], part: &[i32], i: usize) -> End
     requires { LevelAt inv.now i × RateAt rate.now i × LevelAt part.now i × WithinAt inv.now part.now i }
-    ensures { result ≡ latestInto (low part.now i) (high part.now i) (low rate.now i) (high rate.now i) (low inv.now i) (high inv.now i) }
+    ensures { result ≡ latest_into (low part.now i) (high part.now i) (low rate.now i) (high rate.now i) (low inv.now i) (high inv.now i) }
 {
     let k = 2 * i;
     let j = k + 1;
@@ -220,7 +220,7 @@ pub fn window_end(n: usize, inv: &[i32], rate: &[i32], part: &[i32]) -> End
 // The low of variable i of the box a cut to the box b.
 pub fn cut_low(a: &[i32], b: &[i32], i: usize) -> i64
     requires { LevelAt a.now i × LevelAt b.now i }
-    ensures { result ≡ maxZ (low a.now i) (low b.now i) }
+    ensures { result ≡ max_z (low a.now i) (low b.now i) }
 {
     let k = 2 * i;
     integers::larger(integers::word(a, k), integers::word(b, k))
@@ -229,7 +229,7 @@ pub fn cut_low(a: &[i32], b: &[i32], i: usize) -> i64
 // The high of variable i of the box a cut to the box b.
 pub fn cut_high(a: &[i32], b: &[i32], i: usize) -> i64
     requires { LevelAt a.now i × LevelAt b.now i }
-    ensures { result ≡ minZ (high a.now i) (high b.now i) }
+    ensures { result ≡ min_z (high a.now i) (high b.now i) }
 {
     let j = 2 * i + 1;
     integers::smaller(integers::word(a, j), integers::word(b, j))

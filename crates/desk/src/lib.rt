@@ -1,7 +1,7 @@
 // The order desk: two counters, and an analysis that moves them (document 01, "Desk and host").
 ghost use Rattle.std.specs.Prelude.{◌≡◌};
-ghost use Rattle.plant.specs.Calls.{passesOf};
-ghost use Rattle.orders.specs.Desks.{countersOk, Served, deskCall};
+ghost use Rattle.plant.specs.Calls.{passes_of};
+ghost use Rattle.orders.specs.Desks.{counters_ok, Served, desk_call};
 
 use orders::Desk;
 use plant::Answer;
@@ -15,14 +15,14 @@ pub struct Receipt {
 
 // The counters can take one job more and the limit.
 fn counters_ok(desk: Desk, limit: u32) -> bool
-    ensures { result ≡ countersOk desk limit }
+    ensures { result ≡ counters_ok desk limit }
 {
     (desk.jobs < 4294967295) & (desk.passes <= 4294967295 - limit)
 }
 
 // The number of passes that an answer made; a refusal made none.
 fn passes_of(answer: Answer) -> u32
-    ensures { result ≡ passesOf answer }
+    ensures { result ≡ passes_of answer }
 {
     match answer {
         Answer::Safe(k) => k,
@@ -35,7 +35,7 @@ fn passes_of(answer: Answer) -> u32
 // The desk call with the desk by value: the questions of an analysis, then 22, then the analysis. A refusal moves no counter and
 // changes nothing lent.
 pub fn serve(desk: Desk, model: &[i32], limit: u32, table: &mut [i32], work: &mut [i32]) -> Receipt
-    ensures { record { desk = result.desk; analysed = record { answer = result.answer; table = table.new; work = work.new } } ≡ deskCall desk model.now limit table.old work.old }
+    ensures { record { desk = result.desk; analysed = record { answer = result.answer; table = table.new; work = work.new } } ≡ desk_call desk model.now limit table.old work.old }
 {
     let q = analysis::questions(model, table, work);
     if q != 0 {
@@ -66,7 +66,7 @@ pub fn desk_call(
     table: &mut [i32],
     work: &mut [i32],
 ) -> Answer
-    ensures { record { desk = desk.exit.now; analysed = record { answer = result; table = table.new; work = work.new } } ≡ deskCall desk.entry.now model.now limit table.old work.old }
+    ensures { record { desk = desk.exit.now; analysed = record { answer = result; table = table.new; work = work.new } } ≡ desk_call desk.entry.now model.now limit table.old work.old }
 {
     let receipt = serve(*desk, model, limit, table, work);
     *desk = receipt.desk;

@@ -2,92 +2,92 @@
 -- the part. What rests on the two is written again under its own name, some of it in one piece; all else is today's, from Questions,
 -- Tables and Calls. No call and no demand rests on this file: it says that a model which passes so is answered as if T-02 had not been.
 use Rattle.std.specs.Prelude.{◌≡◌, Bool, cond, not, ◌&&◌, ◌||◌, List, ℕ, zero, suc, ◌*◌, ◌<◌, leb, ℤ, pos, length, take}
-use Rattle.integers.specs.Words.{equal, eqZ}
-use Rattle.integers.specs.Counted.{anyBelow}
+use Rattle.integers.specs.Words.{equal, eq_z}
+use Rattle.integers.specs.Counted.{any_below}
 use Rattle.plant.specs.declared.Answer.{Answer}
 use Rattle.plant.specs.declared.Answer.TheVariants.{Safe, Unknown, Unfinished}
 use Rattle.plant.specs.Ask.{ask, ◌then◌, first}
-use Rattle.plant.specs.Box.{Face, absent, present, onBox, joins}
-use Rattle.plant.specs.Model.{n#, L#, E#, B#, headSize, modelSize, invariant, rate, startFlag, startBox, source}
-use Rattle.plant.specs.Questions.{levelLimit, rateLimit, boxOk, insideOk, zerosOk, switchQuestions, forbiddenQuestion, cutQuestion, rangesQuestions, editionQuestion}
+use Rattle.plant.specs.Box.{Face, absent, present, on_box, joins}
+use Rattle.plant.specs.Model.{n#, L#, E#, B#, head_size, model_size, invariant, rate, start_flag, start_box, source}
+use Rattle.plant.specs.Questions.{level_limit, rate_limit, box_ok, inside_ok, zeros_ok, switch_questions, forbidden_question, cut_question, ranges_questions, edition_question}
 use Rattle.plant.specs.Questions as Q
-use Rattle.plant.specs.Pieces.{perFace, pieces, pieceFace}
-use Rattle.plant.specs.Tables.{tableSize, tableBy, piece_of, tableOk, toPiece, wallStepAt, switchOnto, partTouches}
+use Rattle.plant.specs.Pieces.{per_face, pieces, piece_face}
+use Rattle.plant.specs.Tables.{table_size, table_by, piece_of, table_ok, to_piece, wall_step_at, switch_onto, part_touches}
 use Rattle.plant.specs.Tables as T
-use Rattle.plant.specs.Calls.{tableRoomQuestion}
+use Rattle.plant.specs.Calls.{table_room_question}
 use Rattle.plant.specs.Calls as C
 
 -- ---- 13: start flag 0 and box zeros, or start flag 1 and box ordered inside the invariant
 
-unfoldable pub startOk : List ℤ → ℕ → Bool
-startOk m l =
-    (eqZ (startFlag m l) (pos 0) && zerosOk (2 * n# m) (startBox m l))
-    || (eqZ (startFlag m l) (pos 1) && insideOk (n# m) (startBox m l) (invariant m l))
+unfoldable pub start_ok : List ℤ → ℕ → Bool
+start_ok m l =
+    (eq_z (start_flag m l) (pos 0) && zeros_ok (2 * n# m) (start_box m l))
+    || (eq_z (start_flag m l) (pos 1) && inside_ok (n# m) (start_box m l) (invariant m l))
 
-unfoldable pub locationQuestions : List ℤ → ℕ → ℕ
-locationQuestions m l =
-    ask (boxOk (n# m) levelLimit (invariant m l)) 11
-    then ask (boxOk (n# m) rateLimit (rate m l)) 12
-    then ask (startOk m l) 13
+unfoldable pub location_questions : List ℤ → ℕ → ℕ
+location_questions m l =
+    ask (box_ok (n# m) level_limit (invariant m l)) 11
+    then ask (box_ok (n# m) rate_limit (rate m l)) 12
+    then ask (start_ok m l) 13
 
-unfoldable pub modelQuestions : List ℤ → ℕ
-modelQuestions m =
-    ask (leb headSize (length m)) 5
-    then rangesQuestions m
-    then editionQuestion m
-    then ask (leb (modelSize m) (length m)) 5
-    then first (L# m) (locationQuestions m)
-    then first (E# m) (switchQuestions m)
-    then first (B# m) (forbiddenQuestion m)
-    then first (L# m) (cutQuestion m)
+unfoldable pub model_questions : List ℤ → ℕ
+model_questions m =
+    ask (leb head_size (length m)) 5
+    then ranges_questions m
+    then edition_question m
+    then ask (leb (model_size m) (length m)) 5
+    then first (L# m) (location_questions m)
+    then first (E# m) (switch_questions m)
+    then first (B# m) (forbidden_question m)
+    then first (L# m) (cut_question m)
 
 -- ---- the parts: the start box under start flag 1, and the present pieces
 
-unfoldable pub startPart : List ℤ → ℕ → Face
-startPart m l = cond (eqZ (startFlag m l) (pos 1)) (present (startBox m l)) absent
+unfoldable pub start_part : List ℤ → ℕ → Face
+start_part m l = cond (eq_z (start_flag m l) (pos 1)) (present (start_box m l)) absent
 
 unfoldable pub part_of : List ℤ → List ℤ → ℕ → ℕ → Face
-part_of m t l zero = startPart m l
+part_of m t l zero = start_part m l
 part_of m t l (suc q) = piece_of m t l q
 
 -- ---- the pass and touching, from these parts
 
-unfoldable pub wallFrom : List ℤ → List ℤ → ℕ → ℕ → ℕ → Face
-wallFrom m t l q p = toPiece m l q (onBox (part_of m t l p) (wallStepAt m l (pieceFace m l q)))
+unfoldable pub wall_from : List ℤ → List ℤ → ℕ → ℕ → ℕ → Face
+wall_from m t l q p = to_piece m l q (on_box (part_of m t l p) (wall_step_at m l (piece_face m l q)))
 
-unfoldable pub switchesJoined : List ℤ → List ℤ → ℕ → ℕ → ℕ → Face
-switchesJoined m t l q zero = joins (n# m) (suc (pieces m l)) (wallFrom m t l q) (piece_of m t l q)
-switchesJoined m t l q (suc e) = joins (n# m) (perFace m (source m e)) (switchOnto m t l q e) (switchesJoined m t l q e)
+unfoldable pub switches_joined : List ℤ → List ℤ → ℕ → ℕ → ℕ → Face
+switches_joined m t l q zero = joins (n# m) (suc (pieces m l)) (wall_from m t l q) (piece_of m t l q)
+switches_joined m t l q (suc e) = joins (n# m) (per_face m (source m e)) (switch_onto m t l q e) (switches_joined m t l q e)
 
 unfoldable pub pass : List ℤ → List ℤ → List ℤ
-pass m t = tableBy m (λ l q. switchesJoined m t l q (E# m))
+pass m t = table_by m (λ l q. switches_joined m t l q (E# m))
 
-unfoldable pub tableAfter : List ℤ → ℕ → List ℤ
-tableAfter m zero = tableBy m (λ l q. absent)
-tableAfter m (suc k) = pass m (tableAfter m k)
+unfoldable pub table_after : List ℤ → ℕ → List ℤ
+table_after m zero = table_by m (λ l q. absent)
+table_after m (suc k) = pass m (table_after m k)
 
 unfoldable pub touching : List ℤ → List ℤ → Bool
 touching m t =
-    anyBelow (L# m) (λ l. anyBelow (suc (pieces m l)) (λ p. anyBelow (B# m) (λ b. partTouches m l b (part_of m t l p))))
+    any_below (L# m) (λ l. any_below (suc (pieces m l)) (λ p. any_below (B# m) (λ b. part_touches m l b (part_of m t l p))))
 
 -- ---- the checker and the analysis
 
-unfoldable pub checkerQuestions : List ℤ → List ℤ → ℕ
-checkerQuestions m t =
-    modelQuestions m
-    then tableRoomQuestion m (length t)
-    then ask (tableOk m t) 32
-    then ask (equal (pass m t) (take (tableSize m) t)) 33
+unfoldable pub checker_questions : List ℤ → List ℤ → ℕ
+checker_questions m t =
+    model_questions m
+    then table_room_question m (length t)
+    then ask (table_ok m t) 32
+    then ask (equal (pass m t) (take (table_size m) t)) 33
     then ask (not (touching m t)) 34
 
 unfoldable pub search : List ℤ → ℕ → ℕ → Answer
 search m zero k =
-    let settled = cond (equal (tableAfter m (suc k)) (tableAfter m k)) (Safe k) (Unfinished k) in
-    cond (touching m (tableAfter m k)) (Unknown k) settled
+    let settled = cond (equal (table_after m (suc k)) (table_after m k)) (Safe k) (Unfinished k) in
+    cond (touching m (table_after m k)) (Unknown k) settled
 search m (suc left) k =
     let more = search m left (suc k) in
-    let settled = cond (equal (tableAfter m (suc k)) (tableAfter m k)) (Safe k) more in
-    cond (touching m (tableAfter m k)) (Unknown k) settled
+    let settled = cond (equal (table_after m (suc k)) (table_after m k)) (Safe k) more in
+    cond (touching m (table_after m k)) (Unknown k) settled
 
 unfoldable pub analysis : List ℤ → ℕ → Answer
 analysis m limit = search m limit 0
@@ -96,13 +96,13 @@ analysis m limit = search m limit 0
 
 -- of a model that passes so: its start parts are its start boxes, and so pass, tables, answers and verdicts are what they were
 pub record SameAnswers (m : List ℤ) : Type 0 where
-  pub start-parts : (l : ℕ) → l < L# m → T.startPart m l ≡ startPart m l
+  pub start_parts : (l : ℕ) → l < L# m → T.start_part m l ≡ start_part m l
   pub passes : (t : List ℤ) → T.pass m t ≡ pass m t
-  pub tables : (k : ℕ) → T.tableAfter m k ≡ tableAfter m k
+  pub tables : (k : ℕ) → T.table_after m k ≡ table_after m k
   pub answers : (limit : ℕ) → C.analysis m limit ≡ analysis m limit
-  pub verdicts : (t : List ℤ) → C.checkerQuestions m t ≡ checkerQuestions m t
+  pub verdicts : (t : List ℤ) → C.checker_questions m t ≡ checker_questions m t
 
 pub record AsBefore (m : List ℤ) : Type 0 where
   -- every number but 13 is given as it was; and what passed passes
-  pub numbers : (modelQuestions m ≡ 13 → ⊥) → Q.modelQuestions m ≡ modelQuestions m
-  pub passed : modelQuestions m ≡ 0 → SameAnswers m
+  pub numbers : (model_questions m ≡ 13 → ⊥) → Q.model_questions m ≡ model_questions m
+  pub passed : model_questions m ≡ 0 → SameAnswers m

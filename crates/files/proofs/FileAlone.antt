@@ -5,33 +5,33 @@ use Prim.Native.Nat.{ℕ, ◌+◌, ◌≤◌}
 use native.Mathlib.Omega.{arith}
 use lib.IntN.{ℤ}
 use lib.ListN.{length, drop, take-append-drop}
-use Rattle.integers.proofs.Buffers.{cat-ext}
-use Rattle.files.specs.Bytes.{wordsBytes}
+use Rattle.integers.proofs.Buffers.{cat_ext}
+use Rattle.files.specs.Bytes.{words_bytes}
 use Rattle.files.specs.Fields.{field}
-use Rattle.plant.specs.Model.{n#, L#, E#, B#, edition, locationSize, switchSize, forbiddenSize, locationAt, switchAt, forbiddenAt, modelSize}
+use Rattle.plant.specs.Model.{n#, L#, E#, B#, edition, location_size, switch_size, forbidden_size, location_at, switch_at, forbidden_at, model_size}
 use Rattle.plant.proofs.Whole.{Whole}
-use Rattle.plant.proofs.Positions.{location-within, switch-within, forbidden-within}
+use Rattle.plant.proofs.Positions.{location_within, switch_within, forbidden_within}
 use Rattle.plant.proofs.Beginning as same
-use Rattle.plant.proofs.Beginning.{alone, alone-whole}
-use Rattle.files.specs.ModelFile.{firstTag, headFieldSize, recordField, cutField, modelFile}
+use Rattle.plant.proofs.Beginning.{alone, alone_whole}
+use Rattle.files.specs.ModelFile.{first_tag, head_field_size, record_field, cut_field, model_file}
 
 module _ (a r : List ℤ) (w : Whole a) where
   abbrev m : List ℤ
   m = a ++ r
 
-  field-same : (tag at size : ℕ) → at + size ≤ length a → recordField tag m at size ≡ recordField tag a at size
-  field-same tag at size l = ap (λ (zs : List ℤ). field tag (wordsBytes zs)) (same.part_same a r w at size l)
+  field_same : (tag at size : ℕ) → at + size ≤ length a → record_field tag m at size ≡ record_field tag a at size
+  field_same tag at size l = ap (λ (zs : List ℤ). field tag (words_bytes zs)) (same.part_same a r w at size l)
 
-  file-same : modelFile m ≡ modelFile a
-  unfolding modelFile
-  file-same =
-      rw (same.n-same a r w, same.L-same a r w, same.E-same a r w, same.B-same a r w, same.edition-same a r w)
-      (ap₂ (λ (s t : List ℕ). s ++ t) (field-same (firstTag (edition a)) 0 headFieldSize (omega (arith, w.head.there)))
-      (ap₂ (λ (s t : List ℕ). s ++ t) (cat-ext (L# a) _ _ (λ l u. rw (same.location-same a r w l) (field-same 2 (locationAt a l) (locationSize (n# a)) (location-within a w l u))))
-      (ap₂ (λ (s t : List ℕ). s ++ t) (cat-ext (E# a) _ _ (λ e u. rw (same.switch-same a r w e) (field-same 3 (switchAt a e) (switchSize (n# a)) (switch-within a w e u))))
-      (ap₂ (λ (s t : List ℕ). s ++ t) (cat-ext (B# a) _ _ (λ b u. rw (same.forbidden-same a r w b) (field-same 4 (forbiddenAt a b) (forbiddenSize (n# a)) (forbidden-within a w b u))))
-      (cat-ext (L# a) _ _ (λ l u. ap₂ (cutField l) (same.cut-variable-same a r w l u) (same.cut-value-same a r w l u)))))))
+  file_same : model_file m ≡ model_file a
+  unfolding model_file
+  file_same =
+      rw (same.n_same a r w, same.L_same a r w, same.E_same a r w, same.B_same a r w, same.edition_same a r w)
+      (ap₂ (λ (s t : List ℕ). s ++ t) (field_same (first_tag (edition a)) 0 head_field_size (omega (arith, w.head.there)))
+      (ap₂ (λ (s t : List ℕ). s ++ t) (cat_ext (L# a) _ _ (λ l u. rw (same.location_same a r w l) (field_same 2 (location_at a l) (location_size (n# a)) (location_within a w l u))))
+      (ap₂ (λ (s t : List ℕ). s ++ t) (cat_ext (E# a) _ _ (λ e u. rw (same.switch_same a r w e) (field_same 3 (switch_at a e) (switch_size (n# a)) (switch_within a w e u))))
+      (ap₂ (λ (s t : List ℕ). s ++ t) (cat_ext (B# a) _ _ (λ b u. rw (same.forbidden_same a r w b) (field_same 4 (forbidden_at a b) (forbidden_size (n# a)) (forbidden_within a w b u))))
+      (cat_ext (L# a) _ _ (λ l u. ap₂ (cut_field l) (same.cut_variable_same a r w l u) (same.cut_value_same a r w l u)))))))
 
 module _ (m : List ℤ) (w : Whole m) where
-  pub file-alone : modelFile (alone m) ≡ modelFile m
-  file-alone = sym (file-same (alone m) (drop (modelSize m) m) (alone-whole m w)) ∙ ap modelFile (take-append-drop (modelSize m) m)
+  pub file_alone : model_file (alone m) ≡ model_file m
+  file_alone = sym (file_same (alone m) (drop (model_size m) m) (alone_whole m w)) ∙ ap model_file (take-append-drop (model_size m) m)

@@ -13,63 +13,63 @@ use lib.ListN.{length, get_or, take, drop, length-append, length-drop, take-appe
 use lib.Seq.{get_or_at, take-add, take_at, drop_at, get_or-take, get_or-drop, get_or-append-add}
 use Rattle.integers.specs.Words.{word, within, AreWords, AreBytes, onto}
 use Rattle.integers.specs.Counted.{cat}
-use Rattle.integers.proofs.Tests.{by-test}
+use Rattle.integers.proofs.Tests.{by_test}
 use Rattle.integers.proofs.Counted as counted
-use Rattle.integers.proofs.Counted.{within-one}
-use Rattle.integers.proofs.Buffers.{cat-ext, cat-at, cat-parts, length-cat, take-onto}
-use Rattle.files.specs.Bytes.{wordsAt, wordsBytes, part}
-use Rattle.files.specs.Fields.{fieldAt, field, fieldPlace, isField}
+use Rattle.integers.proofs.Counted.{within_one}
+use Rattle.integers.proofs.Buffers.{cat_ext, cat_at, cat_parts, length-cat, take-onto}
+use Rattle.files.specs.Bytes.{words_at, words_bytes, part}
+use Rattle.files.specs.Fields.{field_at, field, field_place, is_field}
 use Rattle.files.specs.declared.Field.{Field}
 use Rattle.files.specs.declared.Field.TheVariants.{Whole}
-use Rattle.files.proofs.Words.{length-bytes, length_part, length-words, all-bytes-back}
-use Rattle.files.proofs.Fields.{length-field, field_back, field-words-back, field-part, length_fields, fields_back, fields-words-back, fields-stand, due, whole_is}
+use Rattle.files.proofs.Words.{length_bytes, length_part, length_words, all_bytes_back}
+use Rattle.files.proofs.Fields.{length-field, field_back, field_words_back, field-part, length_fields, fields_back, fields_words_back, fields_stand, due, whole_is}
 use Rattle.plant.specs.Ask.{ask, ◌then◌}
-use Rattle.plant.specs.Model.{n#, L#, E#, B#, edition, locationAt, switchAt, forbiddenAt, cut_at, cutVariable, cutValue, modelSize}
-use Rattle.plant.specs.Questions.{rangesQuestions, editionQuestion, recordsQuestions, modelQuestions}
-use Rattle.plant.proofs.Asks.{ask-intro, ask-le, asked, then-both, then-intro, then-le, first-intro, first-le}
-use Rattle.plant.proofs.Numbers.{records-le, ranges-le}
-use Rattle.plant.proofs.Passed.{IsUncut, IsCut, Passed, passed, ranges-passed}
+use Rattle.plant.specs.Model.{n#, L#, E#, B#, edition, location_at, switch_at, forbidden_at, cut_at, cut_variable, cut_value, model_size}
+use Rattle.plant.specs.Questions.{ranges_questions, edition_question, records_questions, model_questions}
+use Rattle.plant.proofs.Asks.{ask_intro, ask_le, asked, then_both, then_intro, then_le, first_intro, first_le}
+use Rattle.plant.proofs.Numbers.{records_le, ranges_le}
+use Rattle.plant.proofs.Passed.{IsUncut, IsCut, Passed, passed, ranges_passed}
 use Rattle.plant.specs.declared.Count.TheVariants.{Done, Refused}
-use Rattle.plant.specs.Calls.{readReply, wordsRead, unlessRefused}
+use Rattle.plant.specs.Calls.{read_reply, words_read, unless_refused}
 use Rattle.plant.proofs.Reading.{past, done}
 use Rattle.plant.proofs.Whole as model
-use Rattle.plant.proofs.Positions.{head_first, location-within, switch-within, forbidden-within, cut-within}
-use Rattle.plant.proofs.Passing.{whole-passed}
-use Rattle.files.specs.ModelFile.{firstTag, editionOf, recordField, cutField, modelFile, hasTag, fieldQuestions, runQuestions, headWords, isHead, headQuestions, bufferQuestion, recordsFileQuestions, switchesFrom, forbiddensFrom, cutsFrom, cutPlace, cutFieldWords, leastLocation, cutWordsOk, cutFieldQuestions, endQuestions, cutsQuestions, bodyQuestions, runWords, recordWords, fileCut, cutWords, fileWords, readModelCall}
+use Rattle.plant.proofs.Positions.{head_first, location_within, switch_within, forbidden_within, cut-within}
+use Rattle.plant.proofs.Passing.{whole_passed}
+use Rattle.files.specs.ModelFile.{first_tag, edition_of, record_field, cut_field, model_file, has_tag, field_questions, run_questions, head_words, is_head, head_questions, buffer_question, records_file_questions, switches_from, forbiddens_from, cuts_from, cut_place, cut_field_words, least_location, cut_words_ok, cut_field_questions, end_questions, cuts_questions, body_questions, run_words, record_words, file_cut, cut_words, file_words, read_model_call}
 use Rattle.files.specs.ModelFilesExact.{IsModelFile, ModelFilesExact}
-use Rattle.plant.proofs.Beginning.{records-alone}
-use Rattle.files.proofs.RecordWords.{head-fits, location-fits, switch_fits, forbidden-fits, cut_fits}
+use Rattle.plant.proofs.Beginning.{records_alone}
+use Rattle.files.proofs.RecordWords.{head_fits, location_fits, switch_fits, forbidden_fits, cut_fits}
 use Rattle.files.proofs.Cuts.{length_cut}
-use Rattle.files.proofs.CutsBack.{cuts-stand, cuts_asked, cuts-read}
-use Rattle.files.proofs.FirstField.{FirstField, first_field, edition-back, edition-within, head-is, length-head, one_more}
-use Rattle.plant.proofs.Heads.{SameHead, same_size, same-ranges, same-edition, switches-at, forbiddens-at, cuts-at, words-end}
-use Rattle.files.proofs.ModelReading.{same_body, same-words, same-file, to-cuts, length-file, length_run, BodyPassed, body-passed}
+use Rattle.files.proofs.CutsBack.{cuts_stand, cuts_asked, cuts_read}
+use Rattle.files.proofs.FirstField.{FirstField, first_field, edition_back, edition-within, head_is, length_head, one_more}
+use Rattle.plant.proofs.Heads.{SameHead, same_size, same_ranges, same_edition, switches_at, forbiddens_at, cuts_at, words_end}
+use Rattle.files.proofs.ModelReading.{same_body, same_words, same_file, to_cuts, length_file, length_run, BodyPassed, body_passed}
 
 -- ---- lists in four parts
 
 module _ {A : Type 0} where
   -- the front of a list, in four parts
-  four-parts : (l : List A) (x a b c : ℕ) → take x l ++ (part l x a ++ (part l (x + a) b ++ part l (x + a + b) c)) ≡ take (x + a + b + c) l
-  four-parts l x a b c =
+  four_parts : (l : List A) (x a b c : ℕ) → take x l ++ (part l x a ++ (part l (x + a) b ++ part l (x + a + b) c)) ≡ take (x + a + b + c) l
+  four_parts l x a b c =
       ap (λ (r : List A). take x l ++ r) (sym (append_assoc (part l x a) (part l (x + a) b) (part l (x + a + b) c)))
       ∙ sym (append_assoc (take x l) (part l x a ++ part l (x + a) b) (part l (x + a + b) c))
       ∙ ap (λ (r : List A). r ++ part l (x + a + b) c) (sym (append_assoc (take x l) (part l x a) (part l (x + a) b)) ∙ ap (λ (r : List A). r ++ part l (x + a) b) (sym (take-add x a l)) ∙ sym (take-add (x + a) b l))
       ∙ sym (take-add (x + a + b) c l)
 
   -- and the rest
-  five-parts : (l : List A) (x a b c : ℕ) → take x l ++ (part l x a ++ (part l (x + a) b ++ (part l (x + a + b) c ++ drop (x + a + b + c) l))) ≡ l
-  five-parts l x a b c =
+  five_parts : (l : List A) (x a b c : ℕ) → take x l ++ (part l x a ++ (part l (x + a) b ++ (part l (x + a + b) c ++ drop (x + a + b + c) l))) ≡ l
+  five_parts l x a b c =
       ap (λ (r : List A). take x l ++ r)
       (ap (λ (r : List A). part l x a ++ r) (sym (append_assoc (part l (x + a) b) (part l (x + a + b) c) (drop (x + a + b + c) l)))
       ∙ sym (append_assoc (part l x a) (part l (x + a) b ++ part l (x + a + b) c) (drop (x + a + b + c) l)))
       ∙ sym (append_assoc (take x l) (part l x a ++ (part l (x + a) b ++ part l (x + a + b) c)) (drop (x + a + b + c) l))
-      ∙ ap (λ (r : List A). r ++ drop (x + a + b + c) l) (four-parts l x a b c)
+      ∙ ap (λ (r : List A). r ++ drop (x + a + b + c) l) (four_parts l x a b c)
       ∙ take-append-drop (x + a + b + c) l
 
   -- list i of lists of one length, after p
-  part-of-cat : (p : List A) (g : ℕ → List A) (q : List A) (k w at i : ℕ) → length p ≡ at → ((i : ℕ) → i < k → length (g i) ≡ w) → i < k → part (p ++ (cat k g ++ q)) (at + i * w) w ≡ g i
-  part-of-cat p g q k w at i e lens l =
-      let c = cat-at g k i l in
+  part_of_cat : (p : List A) (g : ℕ → List A) (q : List A) (k w at i : ℕ) → length p ≡ at → ((i : ℕ) → i < k → length (g i) ≡ w) → i < k → part (p ++ (cat k g ++ q)) (at + i * w) w ≡ g i
+  part_of_cat p g q k w at i e lens l =
+      let c = cat_at g k i l in
       let around : p ++ (cat k g ++ q) ≡ (p ++ cat i g) ++ (g i ++ (c.0 ++ q)) =
       ap (λ (x : List A). p ++ (x ++ q)) c.1
       ∙ ap (λ (x : List A). p ++ x) (append_assoc (cat i g) (g i ++ c.0) q ∙ ap (λ (x : List A). cat i g ++ x) (append_assoc (g i) c.0 q))
@@ -78,62 +78,62 @@ module _ {A : Type 0} where
       rw around (ap (take w) (drop_at (p ++ cat i g) (g i ++ (c.0 ++ q)) (at + i * w) before) ∙ take_at (g i) (c.0 ++ q) w (lens i l))
 
 -- two words of a list
-front-two : (s : List ℤ) → 2 ≤ length s → take 2 s ≡ word s 0 ∷ word s 1 ∷ []
-front-two [] h = absurd (omega arith)
-front-two (a ∷ []) h = absurd (omega arith)
-front-two (a ∷ b ∷ s) h = refl
+front_two : (s : List ℤ) → 2 ≤ length s → take 2 s ≡ word s 0 ∷ word s 1 ∷ []
+front_two [] h = absurd (omega arith)
+front_two (a ∷ []) h = absurd (omega arith)
+front_two (a ∷ b ∷ s) h = refl
 
-pub two-words : (s : List ℤ) (at : ℕ) → at + 2 ≤ length s → part s at 2 ≡ word s at ∷ word s (at + 1) ∷ []
-two-words s at h = front-two (drop at s) (omega (arith, length-drop at s)) ∙ ap₂ (λ (a b : ℤ). a ∷ b ∷ []) (get_or-drop at s 0 (pos 0) ∙ ap (word s) (omega arith)) (get_or-drop at s 1 (pos 0))
+pub two_words : (s : List ℤ) (at : ℕ) → at + 2 ≤ length s → part s at 2 ≡ word s at ∷ word s (at + 1) ∷ []
+two_words s at h = front_two (drop at s) (omega (arith, length-drop at s)) ∙ ap₂ (λ (a b : ℤ). a ∷ b ∷ []) (get_or-drop at s 0 (pos 0) ∙ ap (word s) (omega arith)) (get_or-drop at s 1 (pos 0))
 
 -- ---- a run of fields that is written is read back
 
-tag-yes : (f : Field) (tag start len next : ℕ) → f ≡ Whole tag start len next → T (hasTag f tag)
-tag-yes f tag start len next e = rw e (eqb_refl tag)
+tag_yes : (f : Field) (tag start len next : ℕ) → f ≡ Whole tag start len next → T (has_tag f tag)
+tag_yes f tag start len next e = rw e (eqb_refl tag)
 
-questions-yes : (f : Field) (tag start len next : ℕ) → f ≡ Whole tag start len next → fieldQuestions f tag len ≡ 0
-questions-yes f tag start len next e = then-intro (ask-intro (hasTag f tag) 6 (tag-yes f tag start len next e)) (ask-intro (isField f tag len) 7 (whole_is f tag start len next e))
+questions_yes : (f : Field) (tag start len next : ℕ) → f ≡ Whole tag start len next → field_questions f tag len ≡ 0
+questions_yes f tag start len next e = then_intro (ask_intro (has_tag f tag) 6 (tag_yes f tag start len next e)) (ask_intro (is_field f tag len) 7 (whole_is f tag start len next e))
 
-module _ (s p : List ℕ) (tag : ℕ) (zs : ℕ → List ℤ) (k w : ℕ) (q : List ℕ) (at : ℕ) (es : s ≡ p ++ (cat k (λ i. field tag (wordsBytes (zs i))) ++ q)) (ep : length p ≡ at) (ew : (i : ℕ) → i < k → length (zs i) ≡ w) where
-  run-yes : 4 * w < 65536 → runQuestions s at k tag w ≡ 0
-  unfolding runQuestions
-  run-yes h =
-      first-intro k (λ i. fieldQuestions (fieldAt s (fieldPlace at w i)) tag (4 * w)) (λ i l.
-      questions-yes (fieldAt s (fieldPlace at w i)) tag (fieldPlace at w i + 3) (4 * w) (fieldPlace at w i + 3 + 4 * w) (rw es (fields_back p tag zs k w q at ep ew i l h)))
+module _ (s p : List ℕ) (tag : ℕ) (zs : ℕ → List ℤ) (k w : ℕ) (q : List ℕ) (at : ℕ) (es : s ≡ p ++ (cat k (λ i. field tag (words_bytes (zs i))) ++ q)) (ep : length p ≡ at) (ew : (i : ℕ) → i < k → length (zs i) ≡ w) where
+  run_yes : 4 * w < 65536 → run_questions s at k tag w ≡ 0
+  unfolding run_questions
+  run_yes h =
+      first_intro k (λ i. field_questions (field_at s (field_place at w i)) tag (4 * w)) (λ i l.
+      questions_yes (field_at s (field_place at w i)) tag (field_place at w i + 3) (4 * w) (field_place at w i + 3 + 4 * w) (rw es (fields_back p tag zs k w q at ep ew i l h)))
 
-  run-words : ((i : ℕ) → i < k → AreWords (zs i)) → runWords s at k w ≡ cat k zs
-  unfolding runWords
-  run-words f = cat-ext k (λ i. wordsAt s (fieldPlace at w i + 3) w) zs (λ i l. rw es (fields-words-back p tag zs k w q at ep ew i l (f i l)))
+  run_words_lem : ((i : ℕ) → i < k → AreWords (zs i)) → run_words s at k w ≡ cat k zs
+  unfolding run_words
+  run_words_lem f = cat_ext k (λ i. words_at s (field_place at w i + 3) w) zs (λ i l. rw es (fields_words_back p tag zs k w q at ep ew i l (f i l)))
 
 -- ---- the file of a model's words is read
 
 module _ (m : List ℤ) where
-  abbrev locationWords : ℕ → List ℤ
-  locationWords l = part m (locationAt m l) (6 * n# m + 1)
+  abbrev location_words : ℕ → List ℤ
+  location_words l = part m (location_at m l) (6 * n# m + 1)
 
-  abbrev switchWords : ℕ → List ℤ
-  switchWords e = part m (switchAt m e) (6 + 4 * n# m)
+  abbrev switch_words : ℕ → List ℤ
+  switch_words e = part m (switch_at m e) (6 + 4 * n# m)
 
-  abbrev forbiddenWords : ℕ → List ℤ
-  forbiddenWords b = part m (forbiddenAt m b) (1 + 2 * n# m)
+  abbrev forbidden_words : ℕ → List ℤ
+  forbidden_words b = part m (forbidden_at m b) (1 + 2 * n# m)
 
-  abbrev pub headField : List ℕ
-  headField = field (firstTag (edition m)) (wordsBytes (part m 0 4))
+  abbrev pub head_field : List ℕ
+  head_field = field (first_tag (edition m)) (words_bytes (part m 0 4))
 
   abbrev pub locations : List ℕ
-  locations = cat (L# m) (λ l. field 2 (wordsBytes (locationWords l)))
+  locations = cat (L# m) (λ l. field 2 (words_bytes (location_words l)))
 
   abbrev pub switches : List ℕ
-  switches = cat (E# m) (λ e. field 3 (wordsBytes (switchWords e)))
+  switches = cat (E# m) (λ e. field 3 (words_bytes (switch_words e)))
 
   abbrev pub forbiddens : List ℕ
-  forbiddens = cat (B# m) (λ b. field 4 (wordsBytes (forbiddenWords b)))
+  forbiddens = cat (B# m) (λ b. field 4 (words_bytes (forbidden_words b)))
 
   abbrev pub cuts : List ℕ
-  cuts = cat (L# m) (λ l. cutField l (cutVariable m l) (cutValue m l))
+  cuts = cat (L# m) (λ l. cut_field l (cut_variable m l) (cut_value m l))
 
   abbrev s : List ℕ
-  s = headField ++ (locations ++ (switches ++ (forbiddens ++ cuts)))
+  s = head_field ++ (locations ++ (switches ++ (forbiddens ++ cuts)))
 
   module _ (w : model.Whole m) where
     -- lengths
@@ -141,344 +141,344 @@ module _ (m : List ℤ) where
     four : length (part m 0 4) ≡ 4
     four = length_part m 0 4 (omega (arith, w.head.there))
 
-    length-payload : length (wordsBytes (part m 0 4)) ≡ 16
-    length-payload = omega (arith, length-bytes (part m 0 4), four)
+    length_payload : length (words_bytes (part m 0 4)) ≡ 16
+    length_payload = omega (arith, length_bytes (part m 0 4), four)
 
-    pub length-head-field : length headField ≡ 19
-    length-head-field = omega (arith, length-field (firstTag (edition m)) (wordsBytes (part m 0 4)), length-payload)
+    pub length_head_field : length head_field ≡ 19
+    length_head_field = omega (arith, length-field (first_tag (edition m)) (words_bytes (part m 0 4)), length_payload)
 
-    length-location : (l : ℕ) → l < L# m → length (locationWords l) ≡ 6 * n# m + 1
-    length-location l u = length_part m (locationAt m l) (6 * n# m + 1) (location-within m w l u)
+    length_location : (l : ℕ) → l < L# m → length (location_words l) ≡ 6 * n# m + 1
+    length_location l u = length_part m (location_at m l) (6 * n# m + 1) (location_within m w l u)
 
-    length-switch : (e : ℕ) → e < E# m → length (switchWords e) ≡ 6 + 4 * n# m
-    length-switch e u = length_part m (switchAt m e) (6 + 4 * n# m) (switch-within m w e u)
+    length_switch : (e : ℕ) → e < E# m → length (switch_words e) ≡ 6 + 4 * n# m
+    length_switch e u = length_part m (switch_at m e) (6 + 4 * n# m) (switch_within m w e u)
 
-    length-forbidden : (b : ℕ) → b < B# m → length (forbiddenWords b) ≡ 1 + 2 * n# m
-    length-forbidden b u = length_part m (forbiddenAt m b) (1 + 2 * n# m) (forbidden-within m w b u)
+    length_forbidden : (b : ℕ) → b < B# m → length (forbidden_words b) ≡ 1 + 2 * n# m
+    length_forbidden b u = length_part m (forbidden_at m b) (1 + 2 * n# m) (forbidden_within m w b u)
 
     -- what stands before each run
 
-    pub before-switches : length (headField ++ locations) ≡ switchesFrom m
-    before-switches =
-        omega (arith, length-append headField locations, length-head-field, length_fields headField 2 locationWords (L# m) (6 * n# m + 1) (switches ++ (forbiddens ++ cuts)) 19 length-head-field length-location (L# m) (omega arith))
+    pub before_switches : length (head_field ++ locations) ≡ switches_from m
+    before_switches =
+        omega (arith, length-append head_field locations, length_head_field, length_fields head_field 2 location_words (L# m) (6 * n# m + 1) (switches ++ (forbiddens ++ cuts)) 19 length_head_field length_location (L# m) (omega arith))
 
-    pub before-forbiddens : length ((headField ++ locations) ++ switches) ≡ forbiddensFrom m
-    before-forbiddens =
-        omega (arith, length-append (headField ++ locations) switches, before-switches, length_fields (headField ++ locations) 3 switchWords (E# m) (6 + 4 * n# m) (forbiddens ++ cuts) (switchesFrom m) before-switches length-switch (E# m) (omega arith))
+    pub before_forbiddens : length ((head_field ++ locations) ++ switches) ≡ forbiddens_from m
+    before_forbiddens =
+        omega (arith, length-append (head_field ++ locations) switches, before_switches, length_fields (head_field ++ locations) 3 switch_words (E# m) (6 + 4 * n# m) (forbiddens ++ cuts) (switches_from m) before_switches length_switch (E# m) (omega arith))
 
-    pub before-cuts : length (((headField ++ locations) ++ switches) ++ forbiddens) ≡ cutsFrom m
-    before-cuts =
-        omega (arith, length-append ((headField ++ locations) ++ switches) forbiddens, before-forbiddens, length_fields ((headField ++ locations) ++ switches) 4 forbiddenWords (B# m) (1 + 2 * n# m) cuts (forbiddensFrom m) before-forbiddens length-forbidden (B# m) (omega arith))
+    pub before_cuts : length (((head_field ++ locations) ++ switches) ++ forbiddens) ≡ cuts_from m
+    before_cuts =
+        omega (arith, length-append ((head_field ++ locations) ++ switches) forbiddens, before_forbiddens, length_fields ((head_field ++ locations) ++ switches) 4 forbidden_words (B# m) (1 + 2 * n# m) cuts (forbiddens_from m) before_forbiddens length_forbidden (B# m) (omega arith))
 
-    around-switches : s ≡ (headField ++ locations) ++ (switches ++ (forbiddens ++ cuts))
-    around-switches = sym (append_assoc headField locations (switches ++ (forbiddens ++ cuts)))
+    around_switches : s ≡ (head_field ++ locations) ++ (switches ++ (forbiddens ++ cuts))
+    around_switches = sym (append_assoc head_field locations (switches ++ (forbiddens ++ cuts)))
 
-    around-forbiddens : s ≡ ((headField ++ locations) ++ switches) ++ (forbiddens ++ cuts)
-    around-forbiddens = around-switches ∙ sym (append_assoc (headField ++ locations) switches (forbiddens ++ cuts))
+    around_forbiddens : s ≡ ((head_field ++ locations) ++ switches) ++ (forbiddens ++ cuts)
+    around_forbiddens = around_switches ∙ sym (append_assoc (head_field ++ locations) switches (forbiddens ++ cuts))
 
-    pub around-cuts : s ≡ (((headField ++ locations) ++ switches) ++ forbiddens) ++ cuts
-    around-cuts = around-forbiddens ∙ sym (append_assoc ((headField ++ locations) ++ switches) forbiddens cuts)
+    pub around_cuts : s ≡ (((head_field ++ locations) ++ switches) ++ forbiddens) ++ cuts
+    around_cuts = around_forbiddens ∙ sym (append_assoc ((head_field ++ locations) ++ switches) forbiddens cuts)
 
     module _ (ok : Passed m) where
       -- the value of a location that is not cut
 
-      no_value : (l : ℕ) → l < L# m → cutVariable m l ≡ negsuc 0 → cutValue m l ≡ pos 0
+      no_value : (l : ℕ) → l < L# m → cut_variable m l ≡ negsuc 0 → cut_value m l ≡ pos 0
       no_value l u e = ⊎_elim (λ (c : IsUncut m l). c.no_value) (λ (c : IsCut m l). absurd (subst (λ (z : ℤ). T (non_neg z)) e c.not_negative)) (ok.of_cut l u).words
 
       -- the questions of the fields
 
-      body-yes : bodyQuestions s m ≡ 0
-      unfolding bodyQuestions
-      body-yes =
-          let small : n# m ≤ 6 = ok.n-small in
-          then-intro (run-yes s headField 2 locationWords (L# m) (6 * n# m + 1) (switches ++ (forbiddens ++ cuts)) 19 refl length-head-field length-location (omega arith))
-          (then-intro (run-yes s (headField ++ locations) 3 switchWords (E# m) (6 + 4 * n# m) (forbiddens ++ cuts) (switchesFrom m) around-switches before-switches length-switch (omega arith))
-          (then-intro (run-yes s ((headField ++ locations) ++ switches) 4 forbiddenWords (B# m) (1 + 2 * n# m) cuts (forbiddensFrom m) around-forbiddens before-forbiddens length-forbidden (omega arith))
-          (rw around-cuts (cuts_asked (((headField ++ locations) ++ switches) ++ forbiddens) (cutVariable m) (cutValue m) (cutsFrom m) (L# m) before-cuts (cut_fits m ok) no_value))))
+      body_yes : body_questions s m ≡ 0
+      unfolding body_questions
+      body_yes =
+          let small : n# m ≤ 6 = ok.n_small in
+          then_intro (run_yes s head_field 2 location_words (L# m) (6 * n# m + 1) (switches ++ (forbiddens ++ cuts)) 19 refl length_head_field length_location (omega arith))
+          (then_intro (run_yes s (head_field ++ locations) 3 switch_words (E# m) (6 + 4 * n# m) (forbiddens ++ cuts) (switches_from m) around_switches before_switches length_switch (omega arith))
+          (then_intro (run_yes s ((head_field ++ locations) ++ switches) 4 forbidden_words (B# m) (1 + 2 * n# m) cuts (forbiddens_from m) around_forbiddens before_forbiddens length_forbidden (omega arith))
+          (rw around_cuts (cuts_asked (((head_field ++ locations) ++ switches) ++ forbiddens) (cut_variable m) (cut_value m) (cuts_from m) (L# m) before_cuts (cut_fits m ok) no_value))))
 
-      head-yes : T (isHead (fieldAt s 0))
-      head-yes = head-is (fieldAt s 0) (edition m) (whole_is (fieldAt s 0) (firstTag (edition m)) 3 16 19 (field_back [] (firstTag (edition m)) (wordsBytes (part m 0 4)) (locations ++ (switches ++ (forbiddens ++ cuts))) 0 16 refl length-payload (omega arith)))
+      head_yes : T (is_head (field_at s 0))
+      head_yes = head_is (field_at s 0) (edition m) (whole_is (field_at s 0) (first_tag (edition m)) 3 16 19 (field_back [] (first_tag (edition m)) (words_bytes (part m 0 4)) (locations ++ (switches ++ (forbiddens ++ cuts))) 0 16 refl length_payload (omega arith)))
 
       -- the words
 
-      first_byte : get_or s 0 0 ≡ firstTag (edition m)
+      first_byte : get_or s 0 0 ≡ first_tag (edition m)
       unfolding field
       first_byte = refl
 
-      head-words : headWords s ≡ take 5 m
-      unfolding headWords
-      head-words =
+      head_words_lem : head_words s ≡ take 5 m
+      unfolding head_words
+      head_words_lem =
           ap₂ (λ (x : List ℤ) (z : ℤ). x ++ (z ∷ []))
-          (field-words-back [] (firstTag (edition m)) (part m 0 4) (locations ++ (switches ++ (forbiddens ++ cuts))) 0 4 refl four (head-fits m ok))
-          (ap editionOf first_byte ∙ edition-back (edition m) ok.edition-is)
+          (field_words_back [] (first_tag (edition m)) (part m 0 4) (locations ++ (switches ++ (forbiddens ++ cuts))) 0 4 refl four (head_fits m ok))
+          (ap edition_of first_byte ∙ edition_back (edition m) ok.edition_is)
           ∙ sym (one_more 4 m (omega (arith, w.head.there)))
 
-      same : SameHead (headWords s) m
-      same j l = rw head-words (get_or-take 5 m j (pos 0) l)
+      same : SameHead (head_words s) m
+      same j l = rw head_words_lem (get_or-take 5 m j (pos 0) l)
 
-      location-parts : cat (L# m) locationWords ≡ part m 5 (L# m * (6 * n# m + 1))
-      unfolding locationAt
-      location-parts = cat-parts m 5 (6 * n# m + 1) (L# m)
+      location_parts : cat (L# m) location_words ≡ part m 5 (L# m * (6 * n# m + 1))
+      unfolding location_at
+      location_parts = cat_parts m 5 (6 * n# m + 1) (L# m)
 
-      switch-parts : cat (E# m) switchWords ≡ part m (5 + L# m * (6 * n# m + 1)) (E# m * (6 + 4 * n# m))
-      unfolding switchAt locationAt
-      switch-parts = cat-parts m (5 + L# m * (6 * n# m + 1)) (6 + 4 * n# m) (E# m)
+      switch_parts : cat (E# m) switch_words ≡ part m (5 + L# m * (6 * n# m + 1)) (E# m * (6 + 4 * n# m))
+      unfolding switch_at location_at
+      switch_parts = cat_parts m (5 + L# m * (6 * n# m + 1)) (6 + 4 * n# m) (E# m)
 
-      forbidden-parts : cat (B# m) forbiddenWords ≡ part m (5 + L# m * (6 * n# m + 1) + E# m * (6 + 4 * n# m)) (B# m * (1 + 2 * n# m))
-      unfolding forbiddenAt switchAt locationAt
-      forbidden-parts = cat-parts m (5 + L# m * (6 * n# m + 1) + E# m * (6 + 4 * n# m)) (1 + 2 * n# m) (B# m)
+      forbidden_parts : cat (B# m) forbidden_words ≡ part m (5 + L# m * (6 * n# m + 1) + E# m * (6 + 4 * n# m)) (B# m * (1 + 2 * n# m))
+      unfolding forbidden_at switch_at location_at
+      forbidden_parts = cat_parts m (5 + L# m * (6 * n# m + 1) + E# m * (6 + 4 * n# m)) (1 + 2 * n# m) (B# m)
 
-      runs : runWords s 19 (L# m) (6 * n# m + 1) ++ (runWords s (switchesFrom m) (E# m) (6 + 4 * n# m) ++ runWords s (forbiddensFrom m) (B# m) (1 + 2 * n# m))
-          ≡ cat (L# m) locationWords ++ (cat (E# m) switchWords ++ cat (B# m) forbiddenWords)
+      runs : run_words s 19 (L# m) (6 * n# m + 1) ++ (run_words s (switches_from m) (E# m) (6 + 4 * n# m) ++ run_words s (forbiddens_from m) (B# m) (1 + 2 * n# m))
+          ≡ cat (L# m) location_words ++ (cat (E# m) switch_words ++ cat (B# m) forbidden_words)
       runs =
-          ap₂ (λ (x y : List ℤ). x ++ y) (run-words s headField 2 locationWords (L# m) (6 * n# m + 1) (switches ++ (forbiddens ++ cuts)) 19 refl length-head-field length-location (location-fits m ok))
-          (ap₂ (λ (x y : List ℤ). x ++ y) (run-words s (headField ++ locations) 3 switchWords (E# m) (6 + 4 * n# m) (forbiddens ++ cuts) (switchesFrom m) around-switches before-switches length-switch (switch_fits m ok))
-          (run-words s ((headField ++ locations) ++ switches) 4 forbiddenWords (B# m) (1 + 2 * n# m) cuts (forbiddensFrom m) around-forbiddens before-forbiddens length-forbidden (forbidden-fits m ok)))
+          ap₂ (λ (x y : List ℤ). x ++ y) (run_words_lem s head_field 2 location_words (L# m) (6 * n# m + 1) (switches ++ (forbiddens ++ cuts)) 19 refl length_head_field length_location (location_fits m ok))
+          (ap₂ (λ (x y : List ℤ). x ++ y) (run_words_lem s (head_field ++ locations) 3 switch_words (E# m) (6 + 4 * n# m) (forbiddens ++ cuts) (switches_from m) around_switches before_switches length_switch (switch_fits m ok))
+          (run_words_lem s ((head_field ++ locations) ++ switches) 4 forbidden_words (B# m) (1 + 2 * n# m) cuts (forbiddens_from m) around_forbiddens before_forbiddens length_forbidden (forbidden_fits m ok)))
 
-      cut_parts : cutWords s (cutsFrom m) (L# m) ≡ part m (5 + L# m * (6 * n# m + 1) + E# m * (6 + 4 * n# m) + B# m * (1 + 2 * n# m)) (L# m * 2)
-      unfolding cutWords cutVariable cutValue cut_at forbiddenAt switchAt locationAt
+      cut_parts : cut_words s (cuts_from m) (L# m) ≡ part m (5 + L# m * (6 * n# m + 1) + E# m * (6 + 4 * n# m) + B# m * (1 + 2 * n# m)) (L# m * 2)
+      unfolding cut_words cut_variable cut_value cut_at forbidden_at switch_at location_at
       cut_parts =
-          cat-ext (L# m) (fileCut s (cutsFrom m) (L# m)) (λ l. part m (cut_at m l) 2)
-          (λ l u. subst (λ (x : List ℕ). fileCut x (cutsFrom m) (L# m) l ≡ cutVariable m l ∷ cutValue m l ∷ []) (sym around-cuts)
-          (cuts-read (((headField ++ locations) ++ switches) ++ forbiddens) (cutVariable m) (cutValue m) (cutsFrom m) (L# m) before-cuts (cut_fits m ok) no_value l u)
-          ∙ sym (two-words m (cut_at m l) (cut-within m w l u)))
-          ∙ cat-parts m (5 + L# m * (6 * n# m + 1) + E# m * (6 + 4 * n# m) + B# m * (1 + 2 * n# m)) 2 (L# m)
+          cat_ext (L# m) (file_cut s (cuts_from m) (L# m)) (λ l. part m (cut_at m l) 2)
+          (λ l u. subst (λ (x : List ℕ). file_cut x (cuts_from m) (L# m) l ≡ cut_variable m l ∷ cut_value m l ∷ []) (sym around_cuts)
+          (cuts_read (((head_field ++ locations) ++ switches) ++ forbiddens) (cut_variable m) (cut_value m) (cuts_from m) (L# m) before_cuts (cut_fits m ok) no_value l u)
+          ∙ sym (two_words m (cut_at m l) (cut-within m w l u)))
+          ∙ cat_parts m (5 + L# m * (6 * n# m + 1) + E# m * (6 + 4 * n# m) + B# m * (1 + 2 * n# m)) 2 (L# m)
 
-      size_is : 5 + L# m * (6 * n# m + 1) + E# m * (6 + 4 * n# m) + B# m * (1 + 2 * n# m) + L# m * 2 ≡ modelSize m
-      size_is = omega (arith, switches-at m, forbiddens-at m, cuts-at m, words-end m)
+      size_is : 5 + L# m * (6 * n# m + 1) + E# m * (6 + 4 * n# m) + B# m * (1 + 2 * n# m) + L# m * 2 ≡ model_size m
+      size_is = omega (arith, switches_at m, forbiddens_at m, cuts_at m, words_end m)
 
-      words_are : fileWords s (headWords s) ≡ take (modelSize m) m
+      words_are : file_words s (head_words s) ≡ take (model_size m) m
       words_are =
-          same-words (headWords s) m same s
+          same_words (head_words s) m same s
           ∙ ap₂ (λ (x y : List ℤ). x ++ y)
-          (ap₂ (λ (x y : List ℤ). x ++ y) head-words (runs ∙ ap₂ (λ (x y : List ℤ). x ++ y) location-parts (ap₂ (λ (x y : List ℤ). x ++ y) switch-parts forbidden-parts))
-          ∙ four-parts m 5 (L# m * (6 * n# m + 1)) (E# m * (6 + 4 * n# m)) (B# m * (1 + 2 * n# m)))
+          (ap₂ (λ (x y : List ℤ). x ++ y) head_words_lem (runs ∙ ap₂ (λ (x y : List ℤ). x ++ y) location_parts (ap₂ (λ (x y : List ℤ). x ++ y) switch_parts forbidden_parts))
+          ∙ four_parts m 5 (L# m * (6 * n# m + 1)) (E# m * (6 + 4 * n# m)) (B# m * (1 + 2 * n# m)))
           cut_parts
           ∙ sym (take-add (5 + L# m * (6 * n# m + 1) + E# m * (6 + 4 * n# m) + B# m * (1 + 2 * n# m)) (L# m * 2) m)
           ∙ ap (λ (k : ℕ). take k m) size_is
 
-      reads : (words : List ℤ) → rangesQuestions m ≡ 0 → recordsQuestions m ≡ 0 → modelSize m ≤ length words
-          → record { count = Done (modelSize m); words = onto (take (modelSize m) m) words } ≡ readModelCall s words
-      unfolding readModelCall headQuestions recordsFileQuestions
+      reads : (words : List ℤ) → ranges_questions m ≡ 0 → records_questions m ≡ 0 → model_size m ≤ length words
+          → record { count = Done (model_size m); words = onto (take (model_size m) m) words } ≡ read_model_call s words
+      unfolding read_model_call head_questions records_file_questions
       reads words ranges records room =
-          let size : modelSize (headWords s) ≡ modelSize m = same_size (headWords s) m same in
+          let size : model_size (head_words s) ≡ model_size m = same_size (head_words s) m same in
           past _
-          (then-intro (then-intro (ask-intro (isHead (fieldAt s 0)) 1 head-yes) (same-ranges (headWords s) m same ∙ ranges))
-          (ask-intro (leb (modelSize (headWords s)) (length words)) 5 (le→leb (modelSize (headWords s)) (length words) (omega (arith, size)))))
-          (past _ (then-intro (same_body (headWords s) m same s ∙ body-yes) (ap recordsQuestions words_are ∙ records-alone m w ∙ records))
+          (then_intro (then_intro (ask_intro (is_head (field_at s 0)) 1 head_yes) (same_ranges (head_words s) m same ∙ ranges))
+          (ask_intro (leb (model_size (head_words s)) (length words)) 5 (le→leb (model_size (head_words s)) (length words) (omega (arith, size)))))
+          (past _ (then_intro (same_body (head_words s) m same s ∙ body_yes) (ap records_questions words_are ∙ records_alone m w ∙ records))
           (rw (size, words_are) refl))
 
 -- ---- no refusal is 100
 
 asks : (b : Bool) (k : ℕ) → k ≤ 46 → ask b k ≤ 46
-asks b k h = omega (arith, ask-le b k)
+asks b k h = omega (arith, ask_le b k)
 
 module _ (s : List ℕ) where
-  run-le : (from count tag w : ℕ) → runQuestions s from count tag w ≤ 46
-  unfolding runQuestions
-  run-le from count tag w =
-      first-le count (λ i. fieldQuestions (fieldAt s (fieldPlace from w i)) tag (4 * w)) 46 (λ i.
-      let f : Field = fieldAt s (fieldPlace from w i) in
-      then-le _ _ 46 (asks (hasTag f tag) 6 (omega arith)) (asks (isField f tag (4 * w)) 7 (omega arith)))
+  run_le : (from count tag w : ℕ) → run_questions s from count tag w ≤ 46
+  unfolding run_questions
+  run_le from count tag w =
+      first_le count (λ i. field_questions (field_at s (field_place from w i)) tag (4 * w)) 46 (λ i.
+      let f : Field = field_at s (field_place from w i) in
+      then_le _ _ 46 (asks (has_tag f tag) 6 (omega arith)) (asks (is_field f tag (4 * w)) 7 (omega arith)))
 
-  cuts-le : (from L : ℕ) → cutsQuestions s from L ≤ 46
-  unfolding cutsQuestions endQuestions cutFieldQuestions
-  cuts-le from L =
-      first-le (suc L) (endQuestions s from L) 46 (λ i.
-      let at : ℕ = cutPlace from i in
-      let least : ℕ = leastLocation s from i in
-      by-test (λ (q : ℕ). q ≤ 46) (leb (length s) at) (λ _. omega arith)
-      (λ _. then-le _ _ 46 (asks (eqb (get_or s at 0) 8) 8 (omega arith))
-      (then-le _ _ 46 (asks (isField (fieldAt s at) 8 12) 46 (omega arith)) (asks (cutWordsOk (cutFieldWords s at) least L) 46 (omega arith)))))
+  cuts_le : (from L : ℕ) → cuts_questions s from L ≤ 46
+  unfolding cuts_questions end_questions cut_field_questions
+  cuts_le from L =
+      first_le (suc L) (end_questions s from L) 46 (λ i.
+      let at : ℕ = cut_place from i in
+      let least : ℕ = least_location s from i in
+      by_test (λ (q : ℕ). q ≤ 46) (leb (length s) at) (λ _. omega arith)
+      (λ _. then_le _ _ 46 (asks (eqb (get_or s at 0) 8) 8 (omega arith))
+      (then_le _ _ 46 (asks (is_field (field_at s at) 8 12) 46 (omega arith)) (asks (cut_words_ok (cut_field_words s at) least L) 46 (omega arith)))))
 
-  pub head-le : headQuestions s ≤ 46
-  unfolding headQuestions
-  head-le = then-le _ _ 46 (asks (isHead (fieldAt s 0)) 1 (omega arith)) (ranges-le (headWords s))
+  pub head_le : head_questions s ≤ 46
+  unfolding head_questions
+  head_le = then_le _ _ 46 (asks (is_head (field_at s 0)) 1 (omega arith)) (ranges_le (head_words s))
 
-  body-le : (h : List ℤ) → bodyQuestions s h ≤ 46
-  unfolding bodyQuestions
-  body-le h =
-      then-le _ _ 46 (run-le 19 (L# h) 2 (6 * n# h + 1))
-      (then-le _ _ 46 (run-le (switchesFrom h) (E# h) 3 (6 + 4 * n# h))
-      (then-le _ _ 46 (run-le (forbiddensFrom h) (B# h) 4 (1 + 2 * n# h))
-      (cuts-le (cutsFrom h) (L# h))))
+  body_le : (h : List ℤ) → body_questions s h ≤ 46
+  unfolding body_questions
+  body_le h =
+      then_le _ _ 46 (run_le 19 (L# h) 2 (6 * n# h + 1))
+      (then_le _ _ 46 (run_le (switches_from h) (E# h) 3 (6 + 4 * n# h))
+      (then_le _ _ 46 (run_le (forbiddens_from h) (B# h) 4 (1 + 2 * n# h))
+      (cuts_le (cuts_from h) (L# h))))
 
-  pub records-file-le : (h : List ℤ) → recordsFileQuestions s h ≤ 46
-  unfolding recordsFileQuestions
-  records-file-le h = then-le _ _ 46 (body-le h) (records-le (fileWords s h))
+  pub records_file_le : (h : List ℤ) → records_file_questions s h ≤ 46
+  unfolding records_file_questions
+  records_file_le h = then_le _ _ 46 (body_le h) (records_le (file_words s h))
 
 -- ---- bytes that are read are the file of the words that they give
 
 -- the file of the words a, by the head words b
-file-by : (a b : List ℤ) → SameHead a b → modelFile a
-    ≡ recordField (firstTag (edition b)) a 0 4
-    ++ (cat (L# b) (λ i. recordField 2 a (5 + i * (6 * n# b + 1)) (6 * n# b + 1))
-    ++ (cat (E# b) (λ i. recordField 3 a (5 + L# b * (6 * n# b + 1) + i * (6 + 4 * n# b)) (6 + 4 * n# b))
-    ++ (cat (B# b) (λ i. recordField 4 a (5 + L# b * (6 * n# b + 1) + E# b * (6 + 4 * n# b) + i * (1 + 2 * n# b)) (1 + 2 * n# b))
-    ++ cat (L# b) (λ i. cutField i (word a (5 + L# b * (6 * n# b + 1) + E# b * (6 + 4 * n# b) + B# b * (1 + 2 * n# b) + i * 2)) (word a (5 + L# b * (6 * n# b + 1) + E# b * (6 + 4 * n# b) + B# b * (1 + 2 * n# b) + i * 2 + 1))))))
-unfolding modelFile locationAt switchAt forbiddenAt cutVariable cutValue cut_at
-file-by a b e = rw (e 0 (omega arith), e 1 (omega arith), e 2 (omega arith), e 3 (omega arith), e 4 (omega arith)) refl
+file_by : (a b : List ℤ) → SameHead a b → model_file a
+    ≡ record_field (first_tag (edition b)) a 0 4
+    ++ (cat (L# b) (λ i. record_field 2 a (5 + i * (6 * n# b + 1)) (6 * n# b + 1))
+    ++ (cat (E# b) (λ i. record_field 3 a (5 + L# b * (6 * n# b + 1) + i * (6 + 4 * n# b)) (6 + 4 * n# b))
+    ++ (cat (B# b) (λ i. record_field 4 a (5 + L# b * (6 * n# b + 1) + E# b * (6 + 4 * n# b) + i * (1 + 2 * n# b)) (1 + 2 * n# b))
+    ++ cat (L# b) (λ i. cut_field i (word a (5 + L# b * (6 * n# b + 1) + E# b * (6 + 4 * n# b) + B# b * (1 + 2 * n# b) + i * 2)) (word a (5 + L# b * (6 * n# b + 1) + E# b * (6 + 4 * n# b) + B# b * (1 + 2 * n# b) + i * 2 + 1))))))
+unfolding model_file location_at switch_at forbidden_at cut_variable cut_value cut_at
+file_by a b e = rw (e 0 (omega arith), e 1 (omega arith), e 2 (omega arith), e 3 (omega arith), e 4 (omega arith)) refl
 
 -- the fields of a run are the file's part that is read
-run-stands : (s : List ℕ) (b : AreBytes s) (a p : List ℤ) (q : List ℤ) (from count tag w at : ℕ) → a ≡ p ++ (runWords s from count w ++ q) → length p ≡ at
-    → ((i : ℕ) → i < count → T (isField (fieldAt s (fieldPlace from w i)) tag (4 * w))) → cat count (λ i. recordField tag a (at + i * w) w) ≡ part s from (count * (3 + 4 * w))
-unfolding runWords
-run-stands s b a p q from count tag w at ea ep whole =
-    cat-ext count (λ i. recordField tag a (at + i * w) w) (λ i. field tag (wordsBytes (wordsAt s (fieldPlace from w i + 3) w)))
-    (λ i l. ap (λ (x : List ℤ). field tag (wordsBytes x)) (ap (λ (x : List ℤ). part x (at + i * w) w) ea ∙ part-of-cat p (λ i. wordsAt s (fieldPlace from w i + 3) w) q count w at i ep (λ j u. length-words s (fieldPlace from w j + 3) w) l))
-    ∙ sym (fields-stand s b from tag w count (λ i l. (due s (fieldPlace from w i) tag (4 * w) (whole i l)).field_is))
+run_stands : (s : List ℕ) (b : AreBytes s) (a p : List ℤ) (q : List ℤ) (from count tag w at : ℕ) → a ≡ p ++ (run_words s from count w ++ q) → length p ≡ at
+    → ((i : ℕ) → i < count → T (is_field (field_at s (field_place from w i)) tag (4 * w))) → cat count (λ i. record_field tag a (at + i * w) w) ≡ part s from (count * (3 + 4 * w))
+unfolding run_words
+run_stands s b a p q from count tag w at ea ep whole =
+    cat_ext count (λ i. record_field tag a (at + i * w) w) (λ i. field tag (words_bytes (words_at s (field_place from w i + 3) w)))
+    (λ i l. ap (λ (x : List ℤ). field tag (words_bytes x)) (ap (λ (x : List ℤ). part x (at + i * w) w) ea ∙ part_of_cat p (λ i. words_at s (field_place from w i + 3) w) q count w at i ep (λ j u. length_words s (field_place from w j + 3) w) l))
+    ∙ sym (fields_stand s b from tag w count (λ i l. (due s (field_place from w i) tag (4 * w) (whole i l)).field_is))
 
 -- the words of a file pass the questions of words
 module _ (s : List ℕ) where
-  same_read : SameHead (fileWords s (headWords s)) (headWords s)
-  same_read = same-file s (headWords s) (length-head s)
+  same_read : SameHead (file_words s (head_words s)) (head_words s)
+  same_read = same_file s (head_words s) (length_head s)
 
-  length-read : length (fileWords s (headWords s)) ≡ modelSize (headWords s)
-  length-read = length-file s (headWords s) (length-head s)
+  length_read : length (file_words s (head_words s)) ≡ model_size (head_words s)
+  length_read = length_file s (head_words s) (length_head s)
 
-  read-size : modelSize (fileWords s (headWords s)) ≡ modelSize (headWords s)
-  read-size = same_size (fileWords s (headWords s)) (headWords s) same_read
+  read_size : model_size (file_words s (head_words s)) ≡ model_size (head_words s)
+  read_size = same_size (file_words s (head_words s)) (head_words s) same_read
 
-  edition-read : edition (headWords s) ≡ editionOf (get_or s 0 0)
-  unfolding headWords
-  edition-read = get_or_at (wordsAt s 3 4) (editionOf (get_or s 0 0)) [] (pos 0) 4 (length-words s 3 4)
+  edition_read : edition (head_words s) ≡ edition_of (get_or s 0 0)
+  unfolding head_words
+  edition_read = get_or_at (words_at s 3 4) (edition_of (get_or s 0 0)) [] (pos 0) 4 (length_words s 3 4)
 
-  edition-yes : editionQuestion (headWords s) ≡ 0
-  unfolding editionQuestion
-  edition-yes = rw edition-read (ask-intro (within (pos 1) (pos 2) (editionOf (get_or s 0 0))) 43 (edition-within (get_or s 0 0)))
+  edition_yes : edition_question (head_words s) ≡ 0
+  unfolding edition_question
+  edition_yes = rw edition_read (ask_intro (within (pos 1) (pos 2) (edition_of (get_or s 0 0))) 43 (edition-within (get_or s 0 0)))
 
-  pub read-passes : rangesQuestions (headWords s) ≡ 0 → recordsQuestions (fileWords s (headWords s)) ≡ 0 → modelQuestions (fileWords s (headWords s)) ≡ 0
-  unfolding modelQuestions
-  read-passes ranges records =
-      let a : List ℤ = fileWords s (headWords s) in
-      then-intro (ask-intro (leb 5 (length a)) 5 (le→leb 5 (length a) (omega (arith, length-read, head_first (headWords s)))))
-      (then-intro (same-ranges a (headWords s) same_read ∙ ranges)
-      (then-intro (same-edition a (headWords s) same_read ∙ edition-yes)
-      (then-intro (ask-intro (leb (modelSize a) (length a)) 5 (le→leb (modelSize a) (length a) (omega (arith, length-read, read-size)))) records)))
+  pub read_passes : ranges_questions (head_words s) ≡ 0 → records_questions (file_words s (head_words s)) ≡ 0 → model_questions (file_words s (head_words s)) ≡ 0
+  unfolding model_questions
+  read_passes ranges records =
+      let a : List ℤ = file_words s (head_words s) in
+      then_intro (ask_intro (leb 5 (length a)) 5 (le→leb 5 (length a) (omega (arith, length_read, head_first (head_words s)))))
+      (then_intro (same_ranges a (head_words s) same_read ∙ ranges)
+      (then_intro (same_edition a (head_words s) same_read ∙ edition_yes)
+      (then_intro (ask_intro (leb (model_size a) (length a)) 5 (le→leb (model_size a) (length a) (omega (arith, length_read, read_size)))) records)))
 
-module _ (s : List ℕ) (b : AreBytes s) (first : FirstField s) (some : 0 < L# (headWords s)) (y : BodyPassed s (headWords s)) where
+module _ (s : List ℕ) (b : AreBytes s) (first : FirstField s) (some : 0 < L# (head_words s)) (y : BodyPassed s (head_words s)) where
   abbrev h : List ℤ
-  h = headWords s
+  h = head_words s
 
   abbrev a : List ℤ
-  a = fileWords s h
+  a = file_words s h
 
-  abbrev locationRun : List ℤ
-  locationRun = runWords s 19 (L# h) (6 * n# h + 1)
+  abbrev location_run : List ℤ
+  location_run = run_words s 19 (L# h) (6 * n# h + 1)
 
-  abbrev switchRun : List ℤ
-  switchRun = runWords s (switchesFrom h) (E# h) (6 + 4 * n# h)
+  abbrev switch_run : List ℤ
+  switch_run = run_words s (switches_from h) (E# h) (6 + 4 * n# h)
 
-  abbrev forbiddenRun : List ℤ
-  forbiddenRun = runWords s (forbiddensFrom h) (B# h) (1 + 2 * n# h)
+  abbrev forbidden_run : List ℤ
+  forbidden_run = run_words s (forbiddens_from h) (B# h) (1 + 2 * n# h)
 
-  abbrev cutRun : List ℤ
-  cutRun = cutWords s (cutsFrom h) (L# h)
+  abbrev cut_run : List ℤ
+  cut_run = cut_words s (cuts_from h) (L# h)
 
-  around-locations : a ≡ h ++ (locationRun ++ (switchRun ++ (forbiddenRun ++ cutRun)))
-  unfolding fileWords recordWords
-  around-locations =
-      append_assoc h (locationRun ++ (switchRun ++ forbiddenRun)) cutRun
-      ∙ ap (λ (x : List ℤ). h ++ x) (append_assoc locationRun (switchRun ++ forbiddenRun) cutRun ∙ ap (λ (x : List ℤ). locationRun ++ x) (append_assoc switchRun forbiddenRun cutRun))
+  around_locations : a ≡ h ++ (location_run ++ (switch_run ++ (forbidden_run ++ cut_run)))
+  unfolding file_words record_words
+  around_locations =
+      append_assoc h (location_run ++ (switch_run ++ forbidden_run)) cut_run
+      ∙ ap (λ (x : List ℤ). h ++ x) (append_assoc location_run (switch_run ++ forbidden_run) cut_run ∙ ap (λ (x : List ℤ). location_run ++ x) (append_assoc switch_run forbidden_run cut_run))
 
-  around-switch-run : a ≡ (h ++ locationRun) ++ (switchRun ++ (forbiddenRun ++ cutRun))
-  around-switch-run = around-locations ∙ sym (append_assoc h locationRun (switchRun ++ (forbiddenRun ++ cutRun)))
+  around_switch_run : a ≡ (h ++ location_run) ++ (switch_run ++ (forbidden_run ++ cut_run))
+  around_switch_run = around_locations ∙ sym (append_assoc h location_run (switch_run ++ (forbidden_run ++ cut_run)))
 
-  around-forbidden-run : a ≡ ((h ++ locationRun) ++ switchRun) ++ (forbiddenRun ++ cutRun)
-  around-forbidden-run = around-switch-run ∙ sym (append_assoc (h ++ locationRun) switchRun (forbiddenRun ++ cutRun))
+  around_forbidden_run : a ≡ ((h ++ location_run) ++ switch_run) ++ (forbidden_run ++ cut_run)
+  around_forbidden_run = around_switch_run ∙ sym (append_assoc (h ++ location_run) switch_run (forbidden_run ++ cut_run))
 
-  length_two : length (h ++ locationRun) ≡ 5 + L# h * (6 * n# h + 1)
-  length_two = omega (arith, length-append h locationRun, length-head s, length_run s 19 (L# h) (6 * n# h + 1))
+  length_two : length (h ++ location_run) ≡ 5 + L# h * (6 * n# h + 1)
+  length_two = omega (arith, length-append h location_run, length_head s, length_run s 19 (L# h) (6 * n# h + 1))
 
-  length_three : length ((h ++ locationRun) ++ switchRun) ≡ 5 + L# h * (6 * n# h + 1) + E# h * (6 + 4 * n# h)
-  length_three = omega (arith, length-append (h ++ locationRun) switchRun, length_two, length_run s (switchesFrom h) (E# h) (6 + 4 * n# h))
+  length_three : length ((h ++ location_run) ++ switch_run) ≡ 5 + L# h * (6 * n# h + 1) + E# h * (6 + 4 * n# h)
+  length_three = omega (arith, length-append (h ++ location_run) switch_run, length_two, length_run s (switches_from h) (E# h) (6 + 4 * n# h))
 
-  head-part : part a 0 4 ≡ wordsAt s 3 4
-  unfolding headWords
-  head-part =
-      let rest : List ℤ = locationRun ++ (switchRun ++ (forbiddenRun ++ cutRun)) in
-      let fifth : List ℤ = editionOf (get_or s 0 0) ∷ [] in
-      ap (λ (x : List ℤ). part x 0 4) (around-locations ∙ append_assoc (wordsAt s 3 4) fifth rest) ∙ take_at (wordsAt s 3 4) (fifth ++ rest) 4 (length-words s 3 4)
+  head_part : part a 0 4 ≡ words_at s 3 4
+  unfolding head_words
+  head_part =
+      let rest : List ℤ = location_run ++ (switch_run ++ (forbidden_run ++ cut_run)) in
+      let fifth : List ℤ = edition_of (get_or s 0 0) ∷ [] in
+      ap (λ (x : List ℤ). part x 0 4) (around_locations ∙ append_assoc (words_at s 3 4) fifth rest) ∙ take_at (words_at s 3 4) (fifth ++ rest) 4 (length_words s 3 4)
 
-  head-stands : recordField (firstTag (edition h)) a 0 4 ≡ take 19 s
-  head-stands =
-      ap₂ (λ (tag : ℕ) (x : List ℤ). field tag (wordsBytes x)) (ap firstTag (edition-read s) ∙ first.is-tag) head-part
-      ∙ ap (field first.tag) (all-bytes-back s 3 4 b first.is-due.there)
-      ∙ sym (field-part s 0 first.tag 3 16 19 b first.is-due.field_is)
+  head_stands : record_field (first_tag (edition h)) a 0 4 ≡ take 19 s
+  head_stands =
+      ap₂ (λ (tag : ℕ) (x : List ℤ). field tag (words_bytes x)) (ap first_tag (edition_read s) ∙ first.is_tag) head_part
+      ∙ ap (field first.tag) (all_bytes_back s 3 4 b first.is_due.there)
+      ∙ sym (field-part s 0 first.tag 3 16 19 b first.is_due.field_is)
 
   -- word j of the cut of location l
-  cut_word : (at l j : ℕ) → length (recordWords s h) ≡ at → l < L# h → j < 2 → word a (at + (l * 2 + j)) ≡ word (fileCut s (cutsFrom h) (L# h) l) j
-  unfolding fileWords cutWords
+  cut_word : (at l j : ℕ) → length (record_words s h) ≡ at → l < L# h → j < 2 → word a (at + (l * 2 + j)) ≡ word (file_cut s (cuts_from h) (L# h) l) j
+  unfolding file_words cut_words
   cut_word at l j e u v =
-      rw (← e) (get_or-append-add (recordWords s h) cutRun (l * 2 + j) (pos 0) ∙ counted.cat-at (L# h) 2 (fileCut s (cutsFrom h) (L# h)) (λ i _. length_cut s (cutsFrom h) (L# h) i) l j u v)
+      rw (← e) (get_or-append-add (record_words s h) cut_run (l * 2 + j) (pos 0) ∙ counted.cat_at (L# h) 2 (file_cut s (cuts_from h) (L# h)) (λ i _. length_cut s (cuts_from h) (L# h) i) l j u v)
 
   -- the fields of the cuts are the rest of the file
-  cuts-again : (at : ℕ) → length (recordWords s h) ≡ at → cat (L# h) (λ l. cutField l (word a (at + l * 2)) (word a (at + l * 2 + 1))) ≡ drop (cutsFrom h) s
-  cuts-again at e =
-      cat-ext (L# h) (λ l. cutField l (word a (at + l * 2)) (word a (at + l * 2 + 1))) (λ l. cutField l (word (fileCut s (cutsFrom h) (L# h) l) 0) (word (fileCut s (cutsFrom h) (L# h) l) 1))
+  cuts_again : (at : ℕ) → length (record_words s h) ≡ at → cat (L# h) (λ l. cut_field l (word a (at + l * 2)) (word a (at + l * 2 + 1))) ≡ drop (cuts_from h) s
+  cuts_again at e =
+      cat_ext (L# h) (λ l. cut_field l (word a (at + l * 2)) (word a (at + l * 2 + 1))) (λ l. cut_field l (word (file_cut s (cuts_from h) (L# h) l) 0) (word (file_cut s (cuts_from h) (L# h) l) 1))
       (λ l u.
       let p : at + l * 2 ≡ at + (l * 2 + 0) = omega arith in
       let q : at + l * 2 + 1 ≡ at + (l * 2 + 1) = omega arith in
-      ap₂ (λ (v x : ℤ). cutField l v x) (ap (word a) p ∙ cut_word at l 0 e u (omega arith)) (ap (word a) q ∙ cut_word at l 1 e u (omega arith)))
-      ∙ cuts-stand s b (cutsFrom h) (L# h) some y.cuts-pass
+      ap₂ (λ (v x : ℤ). cut_field l v x) (ap (word a) p ∙ cut_word at l 0 e u (omega arith)) (ap (word a) q ∙ cut_word at l 1 e u (omega arith)))
+      ∙ cuts_stand s b (cuts_from h) (L# h) some y.cuts_pass
 
-  is-file : s ≡ modelFile a
-  is-file =
-      sym (file-by a h (same-file s h (length-head s))
-      ∙ ap₂ (λ (x y : List ℕ). x ++ y) head-stands
-      (ap₂ (λ (x y : List ℕ). x ++ y) (run-stands s b a h (switchRun ++ (forbiddenRun ++ cutRun)) 19 (L# h) 2 (6 * n# h + 1) 5 around-locations (length-head s) y.locations-whole)
-      (ap₂ (λ (x y : List ℕ). x ++ y) (run-stands s b a (h ++ locationRun) (forbiddenRun ++ cutRun) (switchesFrom h) (E# h) 3 (6 + 4 * n# h) (5 + L# h * (6 * n# h + 1)) around-switch-run length_two y.switches-whole)
-      (ap₂ (λ (x y : List ℕ). x ++ y) (run-stands s b a ((h ++ locationRun) ++ switchRun) cutRun (forbiddensFrom h) (B# h) 4 (1 + 2 * n# h) (5 + L# h * (6 * n# h + 1) + E# h * (6 + 4 * n# h)) around-forbidden-run length_three y.forbiddens-whole)
-      (cuts-again (5 + L# h * (6 * n# h + 1) + E# h * (6 + 4 * n# h) + B# h * (1 + 2 * n# h)) (to-cuts s h (length-head s) ∙ omega (arith, switches-at h, forbiddens-at h, cuts-at h))))))
-      ∙ five-parts s 19 (L# h * (3 + 4 * (6 * n# h + 1))) (E# h * (3 + 4 * (6 + 4 * n# h))) (B# h * (3 + 4 * (1 + 2 * n# h))))
+  is_file : s ≡ model_file a
+  is_file =
+      sym (file_by a h (same_file s h (length_head s))
+      ∙ ap₂ (λ (x y : List ℕ). x ++ y) head_stands
+      (ap₂ (λ (x y : List ℕ). x ++ y) (run_stands s b a h (switch_run ++ (forbidden_run ++ cut_run)) 19 (L# h) 2 (6 * n# h + 1) 5 around_locations (length_head s) y.locations_whole)
+      (ap₂ (λ (x y : List ℕ). x ++ y) (run_stands s b a (h ++ location_run) (forbidden_run ++ cut_run) (switches_from h) (E# h) 3 (6 + 4 * n# h) (5 + L# h * (6 * n# h + 1)) around_switch_run length_two y.switches_whole)
+      (ap₂ (λ (x y : List ℕ). x ++ y) (run_stands s b a ((h ++ location_run) ++ switch_run) cut_run (forbiddens_from h) (B# h) 4 (1 + 2 * n# h) (5 + L# h * (6 * n# h + 1) + E# h * (6 + 4 * n# h)) around_forbidden_run length_three y.forbiddens_whole)
+      (cuts_again (5 + L# h * (6 * n# h + 1) + E# h * (6 + 4 * n# h) + B# h * (1 + 2 * n# h)) (to_cuts s h (length_head s) ∙ omega (arith, switches_at h, forbiddens_at h, cuts_at h))))))
+      ∙ five_parts s 19 (L# h * (3 + 4 * (6 * n# h + 1))) (E# h * (3 + 4 * (6 + 4 * n# h))) (B# h * (3 + 4 * (1 + 2 * n# h))))
 
-  read-file : rangesQuestions h ≡ 0 → recordsQuestions a ≡ 0 → IsModelFile s a
-  read-file ranges records = record { is-file = is-file; passes = read-passes s ranges records; no_more = length-read s ∙ sym (read-size s) }
+  read_file : ranges_questions h ≡ 0 → records_questions a ≡ 0 → IsModelFile s a
+  read_file ranges records = record { is_file = is_file; passes = read_passes s ranges records; no_more = length_read s ∙ sym (read_size s) }
 
-head_passed : (s : List ℕ) → headQuestions s ≡ 0 → FirstField s × (rangesQuestions (headWords s) ≡ 0)
-unfolding headQuestions
+head_passed : (s : List ℕ) → head_questions s ≡ 0 → FirstField s × (ranges_questions (head_words s) ≡ 0)
+unfolding head_questions
 head_passed s e =
-    let x : T (isHead (fieldAt s 0)) × (rangesQuestions (headWords s) ≡ 0) = asked (isHead (fieldAt s 0)) 1 (rangesQuestions (headWords s)) (omega arith) e in
+    let x : T (is_head (field_at s 0)) × (ranges_questions (head_words s) ≡ 0) = asked (is_head (field_at s 0)) 1 (ranges_questions (head_words s)) (omega arith) e in
     (first_field s x.0, x.1)
 
 -- ---- the theorem
 
-pub file-read : (m words : List ℤ) → modelQuestions m ≡ 0 → modelSize m ≤ length words
-    → record { count = Done (modelSize m); words = onto (take (modelSize m) m) words } ≡ readModelCall (modelFile m) words
-unfolding modelFile modelQuestions
-file-read m words e room =
+pub file_read : (m words : List ℤ) → model_questions m ≡ 0 → model_size m ≤ length words
+    → record { count = Done (model_size m); words = onto (take (model_size m) m) words } ≡ read_model_call (model_file m) words
+unfolding model_file model_questions
+file_read m words e room =
     let x : _ × _ = asked (leb 5 (length m)) 5 _ (omega arith) e in
-    let y : (rangesQuestions m ≡ 0) × _ = then-both (rangesQuestions m) _ x.1 in
-    let k : (editionQuestion m ≡ 0) × _ = then-both (editionQuestion m) _ y.1 in
-    let z : _ × (recordsQuestions m ≡ 0) = asked (leb (modelSize m) (length m)) 5 (recordsQuestions m) (omega arith) k.1 in
+    let y : (ranges_questions m ≡ 0) × _ = then_both (ranges_questions m) _ x.1 in
+    let k : (edition_question m ≡ 0) × _ = then_both (edition_question m) _ y.1 in
+    let z : _ × (records_questions m ≡ 0) = asked (leb (model_size m) (length m)) 5 (records_questions m) (omega arith) k.1 in
     let ok : Passed m = passed m e in
-    reads m (whole-passed m ok) ok words y.0 z.1 room
+    reads m (whole_passed m ok) ok words y.0 z.1 room
 
-read-is-file : (s : List ℕ) (words : List ℤ) → AreBytes s → (readReply (readModelCall s words)).code ≡ 100 → IsModelFile s (wordsRead (readModelCall s words))
-unfolding readModelCall recordsFileQuestions
-read-is-file s words b e =
-    let h : List ℤ = headWords s in
-    let x = done (headQuestions s then bufferQuestion h (length words)) _ _ (omega (arith, then-le _ _ 46 (head-le s) (asks (leb (modelSize h) (length words)) 5 (omega arith)))) e in
-    let y = done (recordsFileQuestions s h) _ _ (omega (arith, records-file-le s h)) (rw x.1 at e) in
-    let z : (bodyQuestions s h ≡ 0) × (recordsQuestions (fileWords s h) ≡ 0) = then-both (bodyQuestions s h) (recordsQuestions (fileWords s h)) y.0 in
-    let k = head_passed s (then-both (headQuestions s) _ x.0).0 in
-    rw (x.1 ∙ y.1, take-onto (fileWords s h) words (modelSize h) (length-file s h (length-head s)))
-    (read-file s b k.0 (within-one (word h 1) 64 (ranges-passed h k.1).L-within) (body-passed s h z.0) k.1 z.1)
+read_is_file : (s : List ℕ) (words : List ℤ) → AreBytes s → (read_reply (read_model_call s words)).code ≡ 100 → IsModelFile s (words_read (read_model_call s words))
+unfolding read_model_call records_file_questions
+read_is_file s words b e =
+    let h : List ℤ = head_words s in
+    let x = done (head_questions s then buffer_question h (length words)) _ _ (omega (arith, then_le _ _ 46 (head_le s) (asks (leb (model_size h) (length words)) 5 (omega arith)))) e in
+    let y = done (records_file_questions s h) _ _ (omega (arith, records_file_le s h)) (rw x.1 at e) in
+    let z : (body_questions s h ≡ 0) × (records_questions (file_words s h) ≡ 0) = then_both (body_questions s h) (records_questions (file_words s h)) y.0 in
+    let k = head_passed s (then_both (head_questions s) _ x.0).0 in
+    rw (x.1 ∙ y.1, take-onto (file_words s h) words (model_size h) (length_file s h (length_head s)))
+    (read_file s b k.0 (within_one (word h 1) 64 (ranges_passed h k.1).L_within) (body_passed s h z.0) k.1 z.1)
 
 -- what a refusal leaves
-refused-by : (s : List ℕ) (words : List ℤ) (q : ℕ) → (headQuestions s then bufferQuestion (headWords s) (length words)) ≡ suc q → readModelCall s words ≡ record { count = Refused (suc q); words = words }
-unfolding readModelCall unlessRefused
-refused-by s words q e = rw e refl
+refused_by : (s : List ℕ) (words : List ℤ) (q : ℕ) → (head_questions s then buffer_question (head_words s) (length words)) ≡ suc q → read_model_call s words ≡ record { count = Refused (suc q); words = words }
+unfolding read_model_call unless_refused
+refused_by s words q e = rw e refl
 
-zeroed-by : (s : List ℕ) (words : List ℤ) (q : ℕ) → (headQuestions s then bufferQuestion (headWords s) (length words)) ≡ 0
-    → recordsFileQuestions s (headWords s) ≡ suc q → readModelCall s words ≡ record { count = Refused (suc q); words = replicate (length words) (pos 0) }
-unfolding readModelCall unlessRefused
-zeroed-by s words q e f = rw (e, f) refl
+zeroed_by : (s : List ℕ) (words : List ℤ) (q : ℕ) → (head_questions s then buffer_question (head_words s) (length words)) ≡ 0
+    → records_file_questions s (head_words s) ≡ suc q → read_model_call s words ≡ record { count = Refused (suc q); words = replicate (length words) (pos 0) }
+unfolding read_model_call unless_refused
+zeroed_by s words q e f = rw (e, f) refl
 
-pub model-files-exact : ModelFilesExact
-model-files-exact = record {
-  refused-by = refused-by;
-  zeroed-by = zeroed-by;
-  file-reads = λ m words e room. sym (file-read m words e room);
-  read-is-file = read-is-file;
+pub model_files_exact : ModelFilesExact
+model_files_exact = record {
+  refused_by = refused_by;
+  zeroed_by = zeroed_by;
+  file_reads = λ m words e room. sym (file_read m words e room);
+  read_is_file = read_is_file;
 }

@@ -7,66 +7,66 @@ use lib.Dec.{leb}
 use lib.IntN.{ℤ}
 use lib.ListN.{length}
 use Rattle.plant.specs.Ask.{ask, ◌then◌}
-use Rattle.plant.specs.Questions.{modelQuestions}
-use Rattle.plant.specs.Tables.{tableOk}
-use Rattle.plant.specs.Calls.{unlessRefused, writeBy, bytesQuestion}
+use Rattle.plant.specs.Questions.{model_questions}
+use Rattle.plant.specs.Tables.{table_ok}
+use Rattle.plant.specs.Calls.{unless_refused, write_by, bytes_question}
 use Rattle.plant.proofs.Asks.{or_left, then_same}
-use Rattle.plant.proofs.Reading.{unless-same}
+use Rattle.plant.proofs.Reading.{unless_same}
 use Rattle.plant.proofs.Writing.{write_same}
 use Rattle.plant.proofs.Passed.{passed}
 use Rattle.plant.proofs.Beginning.{alone}
-use Rattle.plant.proofs.Front.{front, room-front, piece-front, ok-front}
-use Rattle.plant.proofs.Alike.{Alike, same_size, same-longest, piece-same, same_ok}
+use Rattle.plant.proofs.Front.{front, room_front, piece_front, ok_front}
+use Rattle.plant.proofs.Alike.{Alike, same_size, same_longest, piece_same, same_ok}
 use Rattle.plant.proofs.SameModel.{itself}
-use Rattle.plant.proofs.WordsBehind.{passed-alone, alike-alone, after-questions, room-alone}
-use Rattle.files.specs.TableFile.{tableFile, roomQuestions, readFaces, readTableCall, writeQuestions, writeTableCall}
-use Rattle.files.proofs.TableAsked.{room-yes}
-use Rattle.files.proofs.AlikeFiles.{same-file-table, same-file-questions, same-file}
+use Rattle.plant.proofs.WordsBehind.{passed_alone, alike_alone, after_questions, room_alone}
+use Rattle.files.specs.TableFile.{table_file, room_questions, read_faces, read_table_call, write_questions, write_table_call}
+use Rattle.files.proofs.TableAsked.{room_yes}
+use Rattle.files.proofs.AlikeFiles.{same_file_table, same_file_questions, same_file}
 
 module _ (m : List ℤ) where
-  room-questions-alone : (k : ℕ) → roomQuestions (alone m) k ≡ roomQuestions m k
-  unfolding roomQuestions
-  room-questions-alone k = after-questions m _ _ (λ asks. room-alone m asks k)
+  room_questions_alone : (k : ℕ) → room_questions (alone m) k ≡ room_questions m k
+  unfolding room_questions
+  room_questions_alone k = after_questions m _ _ (λ asks. room_alone m asks k)
 
   -- ---- reading
 
-  faces-alone : modelQuestions m ≡ 0 → (s : List ℕ) (table : List ℤ) → readFaces (alone m) s table ≡ readFaces m s table
-  faces-alone asks s table =
-      let like : Alike (alone m) m = alike-alone m asks in
-      rw (same-file-questions (alone m) m like s (passed-alone m asks), same_size (alone m) m like, same-file-table (alone m) m like s) refl
+  faces_alone : model_questions m ≡ 0 → (s : List ℕ) (table : List ℤ) → read_faces (alone m) s table ≡ read_faces m s table
+  faces_alone asks s table =
+      let like : Alike (alone m) m = alike_alone m asks in
+      rw (same_file_questions (alone m) m like s (passed_alone m asks), same_size (alone m) m like, same_file_table (alone m) m like s) refl
 
-  pub read-alone : (s : List ℕ) (table : List ℤ) → readTableCall (alone m) s table ≡ readTableCall m s table
-  unfolding readTableCall
-  read-alone s table =
-      ap (λ (q : ℕ). unlessRefused q table (readFaces (alone m) s table)) (room-questions-alone (length table))
-      ∙ unless-same (roomQuestions m (length table)) table _ _ (λ e. faces-alone (room-yes m (length table) e).0 s table)
+  pub read_alone : (s : List ℕ) (table : List ℤ) → read_table_call (alone m) s table ≡ read_table_call m s table
+  unfolding read_table_call
+  read_alone s table =
+      ap (λ (q : ℕ). unless_refused q table (read_faces (alone m) s table)) (room_questions_alone (length table))
+      ∙ unless_same (room_questions m (length table)) table _ _ (λ e. faces_alone (room_yes m (length table) e).0 s table)
 
   -- ---- writing, of a list of words t and of the table alone
 
   module _ (t : List ℤ) where
-    file-alone : modelQuestions m ≡ 0 → tableFile (alone m) (front m t) ≡ tableFile m t
-    file-alone asks =
-        let like : Alike (alone m) m = alike-alone m asks in
-        same-file (alone m) m like (front m t) (front m t) (λ l q u v. piece-same (alone m) m like (front m t) l q u)
-        ∙ same-file m m (itself m).alike (front m t) t (piece-front m (passed m asks) t)
+    file_alone : model_questions m ≡ 0 → table_file (alone m) (front m t) ≡ table_file m t
+    file_alone asks =
+        let like : Alike (alone m) m = alike_alone m asks in
+        same_file (alone m) m like (front m t) (front m t) (λ l q u v. piece_same (alone m) m like (front m t) l q u)
+        ∙ same_file m m (itself m).alike (front m t) t (piece_front m (passed m asks) t)
 
-    rooms-alone : roomQuestions (alone m) (length (front m t)) ≡ roomQuestions m (length t)
-    unfolding roomQuestions
-    rooms-alone = room-questions-alone (length (front m t)) ∙ ap (λ (q : ℕ). modelQuestions m then q) (room-front m t)
+    rooms_alone : room_questions (alone m) (length (front m t)) ≡ room_questions m (length t)
+    unfolding room_questions
+    rooms_alone = room_questions_alone (length (front m t)) ∙ ap (λ (q : ℕ). model_questions m then q) (room_front m t)
 
-    write-questions-alone : (room : ℕ) → writeQuestions (alone m) (front m t) room ≡ writeQuestions m t room
-    unfolding writeQuestions
-    write-questions-alone room =
-        ap (λ (q : ℕ). q then (ask (tableOk (alone m) (front m t)) 32 then bytesQuestion (alone m) room)) rooms-alone
-        ∙ then_same (roomQuestions m (length t)) _ _ (λ e. after (room-yes m (length t) e).0)
+    write_questions_alone : (room : ℕ) → write_questions (alone m) (front m t) room ≡ write_questions m t room
+    unfolding write_questions
+    write_questions_alone room =
+        ap (λ (q : ℕ). q then (ask (table_ok (alone m) (front m t)) 32 then bytes_question (alone m) room)) rooms_alone
+        ∙ then_same (room_questions m (length t)) _ _ (λ e. after (room_yes m (length t) e).0)
       where
-        after : modelQuestions m ≡ 0 → (ask (tableOk (alone m) (front m t)) 32 then bytesQuestion (alone m) room) ≡ (ask (tableOk m t) 32 then bytesQuestion m room)
+        after : model_questions m ≡ 0 → (ask (table_ok (alone m) (front m t)) 32 then bytes_question (alone m) room) ≡ (ask (table_ok m t) 32 then bytes_question m room)
         after asks =
-            let like : Alike (alone m) m = alike-alone m asks in
-            ap₂ (λ (b : Bool) (size : ℕ). ask b 32 then ask (leb size room) 39) (same_ok (alone m) m like (front m t) ∙ ok-front m (passed m asks) t) (same-longest (alone m) m like)
+            let like : Alike (alone m) m = alike_alone m asks in
+            ap₂ (λ (b : Bool) (size : ℕ). ask b 32 then ask (leb size room) 39) (same_ok (alone m) m like (front m t) ∙ ok_front m (passed m asks) t) (same_longest (alone m) m like)
 
-    pub write_alone : (buffer : List ℕ) → writeTableCall (alone m) (front m t) buffer ≡ writeTableCall m t buffer
-    unfolding writeTableCall writeQuestions
+    pub write_alone : (buffer : List ℕ) → write_table_call (alone m) (front m t) buffer ≡ write_table_call m t buffer
+    unfolding write_table_call write_questions
     write_alone buffer =
-        ap (λ (q : ℕ). writeBy q (tableFile (alone m) (front m t)) buffer) (write-questions-alone (length buffer))
-        ∙ write_same (writeQuestions m t (length buffer)) _ _ buffer (λ e. file-alone (room-yes m (length t) (or_left (roomQuestions m (length t)) _ e)).0)
+        ap (λ (q : ℕ). write_by q (table_file (alone m) (front m t)) buffer) (write_questions_alone (length buffer))
+        ∙ write_same (write_questions m t (length buffer)) _ _ buffer (λ e. file_alone (room_yes m (length t) (or_left (room_questions m (length t)) _ e)).0)

@@ -18,27 +18,27 @@ unfoldable pub bits_at : List ℕ → ℕ → ℕ
 bits_at s at = bits_of (get_or s at 0) (get_or s (at + 1) 0) (get_or s (at + 2) 0) (get_or s (at + 3) 0)
 
 -- the word whose bytes begin at a position; as many words from a position on
-unfoldable pub wordAt : List ℕ → ℕ → ℤ
-wordAt s at = to_z w32 (bits_at s at)
+unfoldable pub word_at : List ℕ → ℕ → ℤ
+word_at s at = to_z w32 (bits_at s at)
 
-abbrev pub oneWordAt : List ℕ → ℕ → ℕ → List ℤ
-oneWordAt s at i = wordAt s (at + word_size * i) ∷ []
+abbrev pub one_word_at : List ℕ → ℕ → ℕ → List ℤ
+one_word_at s at i = word_at s (at + word_size * i) ∷ []
 
-unfoldable pub wordsAt : (s : List ℕ) (at count : ℕ) → List ℤ
-wordsAt s at count = cat count (oneWordAt s at)
+unfoldable pub words_at : (s : List ℕ) (at count : ℕ) → List ℤ
+words_at s at count = cat count (one_word_at s at)
 
 -- ---- from words to bytes
 
 -- the four bytes of 32 bits
-abbrev pub bitsBytes : ℕ → List ℕ
-bitsBytes u = (u / 16777216) ∷ (u / 65536 % 256) ∷ (u / 256 % 256) ∷ (u % 256) ∷ []
+abbrev pub bits_bytes : ℕ → List ℕ
+bits_bytes u = (u / 16777216) ∷ (u / 65536 % 256) ∷ (u / 256 % 256) ∷ (u % 256) ∷ []
 
 unfoldable pub word_bytes : ℤ → List ℕ
-word_bytes z = bitsBytes (of_z w32 z)
+word_bytes z = bits_bytes (of_z w32 z)
 
-unfoldable pub wordsBytes : List ℤ → List ℕ
-wordsBytes [] = []
-wordsBytes (z ∷ zs) = word_bytes z ++ wordsBytes zs
+unfoldable pub words_bytes : List ℤ → List ℕ
+words_bytes [] = []
+words_bytes (z ∷ zs) = word_bytes z ++ words_bytes zs
 
 -- count elements of a list, from a place on
 abbrev pub part : {A : Type 0} → List A → (from count : ℕ) → List A

@@ -3,31 +3,31 @@
 use mathlib.Core.Path.{◌≡◌}
 use mathlib.Core.List.{List}
 use Prim.Native.Nat.{ℕ, ◌<◌}
-use Rattle.files.specs.TableFile.{fileTable}
-use Rattle.interface.specs.Hosts.{modelOf, modelFileQuestions, hostCheckCall}
-use Rattle.interface.specs.HostDemand.{code, answerFile}
-use Rattle.interface.proofs.Reading.{model-asked}
-use Rattle.interface.proofs.Demand.{file-accepts, file-accepted-safe, host-demand}
+use Rattle.files.specs.TableFile.{file_table}
+use Rattle.interface.specs.Hosts.{model_of, model_file_questions, host_check_call}
+use Rattle.interface.specs.HostDemand.{code, answer_file}
+use Rattle.interface.proofs.Reading.{model_asked}
+use Rattle.interface.proofs.Demand.{file_accepts, file_accepted_safe, host_demand}
 use Rattle.finer.specs.Finer.{Finer, divided}
-use Rattle.finer.specs.CutFilesStaySafe.{dividedFile, FinerFilesStaySafe}
-use Rattle.finer.proofs.CutStaysSafe.{finer-stays-safe}
+use Rattle.finer.specs.CutFilesStaySafe.{divided_file, FinerFilesStaySafe}
+use Rattle.finer.proofs.CutStaysSafe.{finer_stays_safe}
 
-module _ (first second : List ℕ) (file₁ : modelFileQuestions first ≡ 0) (file₂ : modelFileQuestions second ≡ 0) (into : Finer (modelOf second) (modelOf first)) where
-  divided-accepted : (t : List ℕ) → hostCheckCall first t ≡ 100 → hostCheckCall second (dividedFile second first t) ≡ 100
-  unfolding dividedFile
-  divided-accepted t h = host-demand.table-accepted second (divided (modelOf second) (modelOf first) (fileTable (modelOf first) t)) file₂
-      ((finer-stays-safe (modelOf first) (modelOf second) (model-asked first file₁) (model-asked second file₂) into).divided-accepted (fileTable (modelOf first) t) (file-accepts first t h))
+module _ (first second : List ℕ) (file₁ : model_file_questions first ≡ 0) (file₂ : model_file_questions second ≡ 0) (into : Finer (model_of second) (model_of first)) where
+  divided_accepted : (t : List ℕ) → host_check_call first t ≡ 100 → host_check_call second (divided_file second first t) ≡ 100
+  unfolding divided_file
+  divided_accepted t h = host_demand.table_accepted second (divided (model_of second) (model_of first) (file_table (model_of first) t)) file₂
+      ((finer_stays_safe (model_of first) (model_of second) (model_asked first file₁) (model_asked second file₂) into).divided_accepted (file_table (model_of first) t) (file_accepts first t h))
 
-  table-accepted : (file : List ℕ) (limit : ℕ) → limit < 4294967296 → code first file limit ≡ 100 → hostCheckCall second (dividedFile second first (answerFile first file limit)) ≡ 100
-  table-accepted file limit small safe = divided-accepted (answerFile first file limit) ((host-demand.decides first file limit small).safe-accepted safe)
+  table_accepted : (file : List ℕ) (limit : ℕ) → limit < 4294967296 → code first file limit ≡ 100 → host_check_call second (divided_file second first (answer_file first file limit)) ≡ 100
+  table_accepted file limit small safe = divided_accepted (answer_file first file limit) ((host_demand.decides first file limit small).safe_accepted safe)
 
-pub finer-files-stay-safe : FinerFilesStaySafe
-finer-files-stay-safe first second file₁ file₂ into = record {
-  divided-accepted = divided-accepted first second file₁ file₂ into;
-  no-run-meets = λ t h. host-demand.no-run-meets second (dividedFile second first t) (divided-accepted first second file₁ file₂ into t h);
-  stays-safe = λ file limit small safe file' limit' small' u room.
-      file-accepted-safe second file' limit' small' file₂ room u (dividedFile second first (answerFile first file limit)) (table-accepted first second file₁ file₂ into file limit small safe);
-  never-unknown = λ file limit small safe file' limit' small' h.
-      (host-demand.decides second file' limit' small').unknown-refused h (dividedFile second first (answerFile first file limit)) (table-accepted first second file₁ file₂ into file limit small safe);
-  table-accepted = table-accepted first second file₁ file₂ into;
+pub finer_files_stay_safe : FinerFilesStaySafe
+finer_files_stay_safe first second file₁ file₂ into = record {
+  divided_accepted = divided_accepted first second file₁ file₂ into;
+  no_run_meets = λ t h. host_demand.no_run_meets second (divided_file second first t) (divided_accepted first second file₁ file₂ into t h);
+  stays_safe = λ file limit small safe file' limit' small' u room.
+      file_accepted_safe second file' limit' small' file₂ room u (divided_file second first (answer_file first file limit)) (table_accepted first second file₁ file₂ into file limit small safe);
+  never_unknown = λ file limit small safe file' limit' small' h.
+      (host_demand.decides second file' limit' small').unknown_refused h (divided_file second first (answer_file first file limit)) (table_accepted first second file₁ file₂ into file limit small safe);
+  table_accepted = table_accepted first second file₁ file₂ into;
 }

@@ -8,67 +8,67 @@ use native.Mathlib.Omega.{arith}
 use borrow.Author.Tests.{eq-eqb}
 use lib.Dec.{T, T_not, eqb, eqb→eq}
 use lib.IntN.{ℤ}
-use Rattle.integers.specs.Counted.{sumBelow}
-use Rattle.integers.proofs.Tests.{by-test, true-is}
-use Rattle.integers.proofs.Counted.{Some, any_some, any-intro, sum-le}
-use Rattle.plant.specs.Model.{n#, L#, invariant, Cut, uncut, cutBy, cut_of}
-use Rattle.plant.specs.Pieces.{piecesPerFace, perFace, anyCut, pieces}
-use Rattle.plant.specs.Tables.{faceSize, piecesBefore, pieceCount, tableSize, pieceFieldLength, longestTableFile, locationCeiling, ceilingOf}
-use Rattle.plant.proofs.Pieces.{per-face-most, per-face-least}
+use Rattle.integers.specs.Counted.{sum_below}
+use Rattle.integers.proofs.Tests.{by_test, true_is}
+use Rattle.integers.proofs.Counted.{Some, any_some, any_intro, sum_le}
+use Rattle.plant.specs.Model.{n#, L#, invariant, Cut, uncut, cut_by, cut_of}
+use Rattle.plant.specs.Pieces.{pieces_per_face, per_face, any_cut, pieces}
+use Rattle.plant.specs.Tables.{face_size, pieces_before, piece_count, table_size, piece_field_length, longest_table_file, location_ceiling, ceiling_of}
+use Rattle.plant.proofs.Pieces.{per_face_most, per_face_least}
 use Rattle.finer.specs.Finer.{Finer}
-use Rattle.finer.proofs.Divided.{same-n, same-L, same-invariant}
+use Rattle.finer.proofs.Divided.{same_n, same_L, same_invariant}
 
 -- what a cut adds to a location's ceiling
-ceiling-more : (n : ℕ) (inv : List ℤ) (c : Cut) → locationCeiling n inv uncut ≤ locationCeiling n inv c
-unfolding locationCeiling
-ceiling-more n inv uncut = omega arith
-ceiling-more n inv (cutBy v x) = omega arith
+ceiling_more : (n : ℕ) (inv : List ℤ) (c : Cut) → location_ceiling n inv uncut ≤ location_ceiling n inv c
+unfolding location_ceiling
+ceiling_more n inv uncut = omega arith
+ceiling_more n inv (cut_by v x) = omega arith
 
-ceiling-kept : (n : ℕ) (inv : List ℤ) (c c' : Cut) → (c' ≡ uncut) ⊎ (c ≡ c') → locationCeiling n inv c' ≤ locationCeiling n inv c
-ceiling-kept n inv c c' (inl e) = subst (λ (x : Cut). locationCeiling n inv x ≤ locationCeiling n inv c) (sym e) (ceiling-more n inv c)
-ceiling-kept n inv c c' (inr e) = subst (λ (x : Cut). locationCeiling n inv c' ≤ locationCeiling n inv x) (sym e) (omega arith)
+ceiling_kept : (n : ℕ) (inv : List ℤ) (c c' : Cut) → (c' ≡ uncut) ⊎ (c ≡ c') → location_ceiling n inv c' ≤ location_ceiling n inv c
+ceiling_kept n inv c c' (inl e) = subst (λ (x : Cut). location_ceiling n inv x ≤ location_ceiling n inv c) (sym e) (ceiling_more n inv c)
+ceiling_kept n inv c c' (inr e) = subst (λ (x : Cut). location_ceiling n inv c' ≤ location_ceiling n inv x) (sym e) (omega arith)
 
 module _ (second first : List ℤ) (into : Finer second first) where
   -- a sum over the locations
-  sums : (f g : ℕ → ℕ) → ((l : ℕ) → l < L# first → f l ≤ g l) → sumBelow (L# first) f ≤ sumBelow (L# second) g
-  sums f g h = subst (λ (k : ℕ). sumBelow (L# first) f ≤ sumBelow k g) (sym (same-L second first into)) (sum-le (L# first) f g h)
+  sums : (f g : ℕ → ℕ) → ((l : ℕ) → l < L# first → f l ≤ g l) → sum_below (L# first) f ≤ sum_below (L# second) g
+  sums f g h = subst (λ (k : ℕ). sum_below (L# first) f ≤ sum_below k g) (sym (same_L second first into)) (sum_le (L# first) f g h)
 
-  more-per-face : (l : ℕ) → l < L# first → perFace first l ≤ perFace second l
-  unfolding perFace piecesPerFace
-  more-per-face l u = ⊎_elim (λ e. omega (arith, ap piecesPerFace e, per-face-least second l)) (λ e. omega (arith, ap piecesPerFace e)) (into.cuts l u)
+  more_per_face : (l : ℕ) → l < L# first → per_face first l ≤ per_face second l
+  unfolding per_face pieces_per_face
+  more_per_face l u = ⊎_elim (λ e. omega (arith, ap pieces_per_face e, per_face_least second l)) (λ e. omega (arith, ap pieces_per_face e)) (into.cuts l u)
 
-  more-pieces : (l : ℕ) → l < L# first → pieces first l ≤ pieces second l
+  more_pieces : (l : ℕ) → l < L# first → pieces first l ≤ pieces second l
   unfolding pieces
-  more-pieces l u = subst (λ (n : ℕ). 2 * n# first * perFace first l ≤ 2 * n * perFace second l) (sym (same-n second first into)) (mul-le-mul_left (2 * n# first) (more-per-face l u))
+  more_pieces l u = subst (λ (n : ℕ). 2 * n# first * per_face first l ≤ 2 * n * per_face second l) (sym (same_n second first into)) (mul-le-mul_left (2 * n# first) (more_per_face l u))
 
-  more-count : pieceCount first ≤ pieceCount second
-  unfolding pieceCount piecesBefore
-  more-count = sums (pieces first) (pieces second) more-pieces
+  more_count : piece_count first ≤ piece_count second
+  unfolding piece_count pieces_before
+  more_count = sums (pieces first) (pieces second) more_pieces
 
-  pub words-grow : tableSize first ≤ tableSize second
-  unfolding tableSize
-  words-grow = subst (λ (n : ℕ). tableSize first ≤ pieceCount second * faceSize n) (sym (same-n second first into)) (mul-le-mul_right (faceSize (n# first)) more-count)
+  pub words_grow : table_size first ≤ table_size second
+  unfolding table_size
+  words_grow = subst (λ (n : ℕ). table_size first ≤ piece_count second * face_size n) (sym (same_n second first into)) (mul-le-mul_right (face_size (n# first)) more_count)
 
-  pub ceiling-grows : ceilingOf first ≤ ceilingOf second
-  unfolding ceilingOf
-  ceiling-grows = sums (λ l. locationCeiling (n# first) (invariant first l) (cut_of first l)) (λ l. locationCeiling (n# second) (invariant second l) (cut_of second l))
-      (λ l u. rw (same-n second first into, same-invariant second first into l u) (ceiling-kept (n# first) (invariant first l) (cut_of second l) (cut_of first l) (into.cuts l u)))
+  pub ceiling_grows : ceiling_of first ≤ ceiling_of second
+  unfolding ceiling_of
+  ceiling_grows = sums (λ l. location_ceiling (n# first) (invariant first l) (cut_of first l)) (λ l. location_ceiling (n# second) (invariant second l) (cut_of second l))
+      (λ l u. rw (same_n second first into, same_invariant second first into l u) (ceiling_kept (n# first) (invariant first l) (cut_of second l) (cut_of first l) (into.cuts l u)))
 
   -- a location that the first cuts is cut in the second, so its fields are no shorter
-  still-two : (l : ℕ) → l < L# first → T (eqb (perFace first l) 2) → T (eqb (perFace second l) 2)
-  still-two l u h = true-is (eq-eqb (perFace second l) 2 (omega (arith, eqb→eq (perFace first l) 2 h, more-per-face l u, per-face-most second l)))
+  still_two : (l : ℕ) → l < L# first → T (eqb (per_face first l) 2) → T (eqb (per_face second l) 2)
+  still_two l u h = true_is (eq-eqb (per_face second l) 2 (omega (arith, eqb→eq (per_face first l) 2 h, more_per_face l u, per_face_most second l)))
 
-  still-cut : T (anyCut first) → T (anyCut second)
-  unfolding anyCut
-  still-cut h =
-      let x : Some _ _ = any_some (L# first) (λ l. eqb (perFace first l) 2) h in
-      any-intro (L# second) (λ l. eqb (perFace second l) 2) x.index (subst (λ (k : ℕ). x.index < k) (sym (same-L second first into)) x.is_below) (still-two x.index x.is_below x.holds)
+  still_cut : T (any_cut first) → T (any_cut second)
+  unfolding any_cut
+  still_cut h =
+      let x : Some _ _ = any_some (L# first) (λ l. eqb (per_face first l) 2) h in
+      any_intro (L# second) (λ l. eqb (per_face second l) 2) x.index (subst (λ (k : ℕ). x.index < k) (sym (same_L second first into)) x.is_below) (still_two x.index x.is_below x.holds)
 
-  longer : pieceFieldLength first ≤ pieceFieldLength second
-  longer = by-test (λ (k : ℕ). k ≤ pieceFieldLength second) (anyCut first)
-      (λ h. by-test (λ (k : ℕ). 15 + 8 * n# first ≤ k) (anyCut second) (λ _. omega (arith, same-n second first into)) (λ u. absurd (T_not (anyCut second) u (still-cut h))))
-      (λ _. by-test (λ (k : ℕ). 11 + 8 * n# first ≤ k) (anyCut second) (λ _. omega (arith, same-n second first into)) (λ _. omega (arith, same-n second first into)))
+  longer : piece_field_length first ≤ piece_field_length second
+  longer = by_test (λ (k : ℕ). k ≤ piece_field_length second) (any_cut first)
+      (λ h. by_test (λ (k : ℕ). 15 + 8 * n# first ≤ k) (any_cut second) (λ _. omega (arith, same_n second first into)) (λ u. absurd (T_not (any_cut second) u (still_cut h))))
+      (λ _. by_test (λ (k : ℕ). 11 + 8 * n# first ≤ k) (any_cut second) (λ _. omega (arith, same_n second first into)) (λ _. omega (arith, same_n second first into)))
 
-  pub bytes-grow : longestTableFile first ≤ longestTableFile second
-  unfolding longestTableFile
-  bytes-grow = omega (arith, mul-le-mul more-count longer)
+  pub bytes_grow : longest_table_file first ≤ longest_table_file second
+  unfolding longest_table_file
+  bytes_grow = omega (arith, mul-le-mul more_count longer)

@@ -2,12 +2,12 @@
 // number is 100 (done, safe, accepted), 101 (unknown), 102 (unfinished) or a refusal's; the value, of which a quote has three, is 0
 // on a refusal.
 ghost use Rattle.std.specs.Prelude.{◌≡◌};
-ghost use Rattle.plant.specs.Calls.{Reply, answerReply, verdictReply, ceilingReply, countReply, ceilingCall, checkCall, analyseCall};
-ghost use Rattle.orders.specs.Desks.{deskCall};
-ghost use Rattle.files.specs.ModelFile.{readModelCall, writeModelCall};
-ghost use Rattle.files.specs.TableFile.{readTableCall, writeTableCall};
-ghost use Rattle.orders.specs.Quotes.{QuoteReply, quoteReply, quoteCall};
-ghost use Rattle.interface.specs.ForC.{readForC, analysedForC, writtenForC, servedForC};
+ghost use Rattle.plant.specs.Calls.{Reply, answer_reply, verdict_reply, ceiling_reply, count_reply, ceiling_call, check_call, analyse_call};
+ghost use Rattle.orders.specs.Desks.{desk_call};
+ghost use Rattle.files.specs.ModelFile.{read_model_call, write_model_call};
+ghost use Rattle.files.specs.TableFile.{read_table_call, write_table_call};
+ghost use Rattle.orders.specs.Quotes.{QuoteReply, quote_reply, quote_call};
+ghost use Rattle.interface.specs.ForC.{read_for_c, analysed_for_c, written_for_c, served_for_c};
 
 use orders::{Desk, Figures, Quote};
 use plant::{Answer, Ceiling, Count, Verdict};
@@ -21,7 +21,7 @@ fn reply(number: u32, holds: u64, value: &mut u64) -> u32
 }
 
 fn answer_reply(answer: Answer, value: &mut u64) -> u32
-    ensures { record { code = result; value = value.new } ≡ answerReply answer }
+    ensures { record { code = result; value = value.new } ≡ answer_reply answer }
 {
     match answer {
         Answer::Safe(k) => reply(100, k as u64, value),
@@ -32,7 +32,7 @@ fn answer_reply(answer: Answer, value: &mut u64) -> u32
 }
 
 fn count_reply(count: Count, value: &mut u64) -> u32
-    ensures { record { code = result; value = value.new } ≡ countReply count }
+    ensures { record { code = result; value = value.new } ≡ count_reply count }
 {
     match count {
         Count::Done(k) => reply(100, k as u64, value),
@@ -43,7 +43,7 @@ fn count_reply(count: Count, value: &mut u64) -> u32
 // Reads a model file; the value is how many words the model has.
 #[unsafe(no_mangle)]
 pub extern "C" fn qii_read_model(file: &[u8], words: &mut [i32], value: &mut u64) -> u32
-    ensures { record { reply = record { code = result; value = value.new }; words = words.new } ≡ readForC (readModelCall file.now words.old) }
+    ensures { record { reply = record { code = result; value = value.new }; words = words.new } ≡ read_for_c (read_model_call file.now words.old) }
 {
     let count = model_files::read_model(file, words);
     count_reply(count, value)
@@ -52,7 +52,7 @@ pub extern "C" fn qii_read_model(file: &[u8], words: &mut [i32], value: &mut u64
 // Writes a model's file; the value is how many bytes it has.
 #[unsafe(no_mangle)]
 pub extern "C" fn qii_write_model(model: &[i32], file: &mut [u8], value: &mut u64) -> u32
-    ensures { record { reply = record { code = result; value = value.new }; file = file.new } ≡ writtenForC (writeModelCall model.now file.old) }
+    ensures { record { reply = record { code = result; value = value.new }; file = file.new } ≡ written_for_c (write_model_call model.now file.old) }
 {
     let count = model_files::write_model(model, file);
     count_reply(count, value)
@@ -61,7 +61,7 @@ pub extern "C" fn qii_write_model(model: &[i32], file: &mut [u8], value: &mut u6
 // How many passes settle every answer.
 #[unsafe(no_mangle)]
 pub extern "C" fn qii_ceiling(model: &[i32], value: &mut u64) -> u32
-    ensures { record { code = result; value = value.new } ≡ ceilingReply (ceilingCall model.now) }
+    ensures { record { code = result; value = value.new } ≡ ceiling_reply (ceiling_call model.now) }
 {
     let ceiling = analysis::ceiling(model);
     match ceiling {
@@ -94,7 +94,7 @@ pub extern "C" fn qii_quote(
     bytes: &mut u64,
     ceiling: &mut u64,
 ) -> u32
-    ensures { record { code = result; words = words.new; bytes = bytes.new; ceiling = ceiling.new } ≡ quoteReply (quoteCall model.now) }
+    ensures { record { code = result; words = words.new; bytes = bytes.new; ceiling = ceiling.new } ≡ quote_reply (quote_call model.now) }
 {
     let quote = quote::quote(model);
     match quote {
@@ -113,7 +113,7 @@ pub extern "C" fn qii_quote(
 // Whether a table shows that a model is safe.
 #[unsafe(no_mangle)]
 pub extern "C" fn qii_check<'a>(model: &'a [i32], table: &'a [i32]) -> u32
-    ensures { result ≡ (verdictReply (checkCall model.now table.now)).code }
+    ensures { result ≡ (verdict_reply (check_call model.now table.now)).code }
 {
     let verdict = analysis::check(model, table);
     match verdict {
@@ -131,7 +131,7 @@ pub extern "C" fn qii_analyse(
     work: &mut [i32],
     value: &mut u64,
 ) -> u32
-    ensures { record { reply = record { code = result; value = value.new }; table = table.new; work = work.new } ≡ analysedForC (analyseCall model.now limit table.old work.old) }
+    ensures { record { reply = record { code = result; value = value.new }; table = table.new; work = work.new } ≡ analysed_for_c (analyse_call model.now limit table.old work.old) }
 {
     let answer = analysis::analyse(model, limit, table, work);
     answer_reply(answer, value)
@@ -145,7 +145,7 @@ pub extern "C" fn qii_read_table(
     table: &mut [i32],
     value: &mut u64,
 ) -> u32
-    ensures { record { reply = record { code = result; value = value.new }; words = table.new } ≡ readForC (readTableCall model.now file.now table.old) }
+    ensures { record { reply = record { code = result; value = value.new }; words = table.new } ≡ read_for_c (read_table_call model.now file.now table.old) }
 {
     let count = table_files::read_table(model, file, table);
     count_reply(count, value)
@@ -159,7 +159,7 @@ pub extern "C" fn qii_write_table(
     file: &mut [u8],
     value: &mut u64,
 ) -> u32
-    ensures { record { reply = record { code = result; value = value.new }; file = file.new } ≡ writtenForC (writeTableCall model.now table.now file.old) }
+    ensures { record { reply = record { code = result; value = value.new }; file = file.new } ≡ written_for_c (write_table_call model.now table.now file.old) }
 {
     let count = table_files::write_table(model, table, file);
     count_reply(count, value)
@@ -176,7 +176,7 @@ pub extern "C" fn qii_desk(
     work: &mut [i32],
     value: &mut u64,
 ) -> u32
-    ensures { record { desk = record { jobs = jobs.exit.now; passes = passes.new }; analysed = record { reply = record { code = result; value = value.new }; table = table.new; work = work.new } } ≡ servedForC (deskCall (record { jobs = jobs.entry.now; passes = passes.old }) model.now limit table.old work.old) }
+    ensures { record { desk = record { jobs = jobs.exit.now; passes = passes.new }; analysed = record { reply = record { code = result; value = value.new }; table = table.new; work = work.new } } ≡ served_for_c (desk_call (record { jobs = jobs.entry.now; passes = passes.old }) model.now limit table.old work.old) }
 {
     let desk = Desk {
         jobs: *jobs,

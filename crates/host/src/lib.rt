@@ -1,10 +1,10 @@
 // The host's calls, for C (document 01, "Desk and host"). Nothing is kept between calls: each holds its words on the stack.
 ghost use Rattle.std.specs.Prelude.{◌≡◌, ◌≤◌, length};
-ghost use Rattle.plant.specs.Questions.{modelQuestions};
-ghost use Rattle.plant.specs.Tables.{tableSize, longestTableFile};
+ghost use Rattle.plant.specs.Questions.{model_questions};
+ghost use Rattle.plant.specs.Tables.{table_size, longest_table_file};
 ghost use Rattle.plant.specs.Calls as C;
-ghost use Rattle.plant.specs.Calls.{answerReply, checkBy, bytesQuestion};
-ghost use Rattle.interface.specs.Hosts.{packed, decided, decideBy, decideCall, certificateFileQuestions, hostCheckCall};
+ghost use Rattle.plant.specs.Calls.{answer_reply, check_by, bytes_question};
+ghost use Rattle.interface.specs.Hosts.{packed, decided, decide_by, decide_call, certificate_file_questions, host_check_call};
 
 use plant::{Answer, Count};
 
@@ -25,7 +25,7 @@ fn pack(code: u32, k: u32) -> u64
 }
 
 fn pack_answer(answer: Answer) -> u64
-    ensures { result ≡ packed (answerReply answer) }
+    ensures { result ≡ packed (answer_reply answer) }
 {
     match answer {
         Answer::Safe(k) => pack(100, k),
@@ -43,7 +43,7 @@ fn answer_with(
     table: &mut [i32],
     work: &mut [i32],
 ) -> u64
-    requires { (modelQuestions model.now ≡ 0) × (longestTableFile model.now ≤ length file.old) × (tableSize model.now ≤ length table.old) × (tableSize model.now ≤ length work.old) }
+    requires { (model_questions model.now ≡ 0) × (longest_table_file model.now ≤ length file.old) × (table_size model.now ≤ length table.old) × (table_size model.now ≤ length work.old) }
     ensures { record { number = result; file = file.new } ≡ decided model.now (C.analysis model.now limit) file.old }
 {
     let answer = analysis::analyse_passed(model, limit, table, work);
@@ -54,7 +54,7 @@ fn answer_with(
 
 // The same with words held. They are cleared at each call: fewer for a smaller table.
 fn answer_file(model: &[i32], file: &mut [u8], limit: u32) -> u64
-    requires { (modelQuestions model.now ≡ 0) × (longestTableFile model.now ≤ length file.old) }
+    requires { (model_questions model.now ≡ 0) × (longest_table_file model.now ≤ length file.old) }
     ensures { record { number = result; file = file.new } ≡ decided model.now (C.analysis model.now limit) file.old }
 {
     let size = tables::table_size(model);
@@ -75,8 +75,8 @@ fn answer_file(model: &[i32], file: &mut [u8], limit: u32) -> u64
 
 // The words of a model that passes its questions: 39, then the answer.
 fn decide_words(model: &[i32], file: &mut [u8], limit: u32) -> u64
-    requires { modelQuestions model.now ≡ 0 }
-    ensures { record { number = result; file = file.new } ≡ decideBy (bytesQuestion model.now (length file.old)) model.now file.old limit }
+    requires { model_questions model.now ≡ 0 }
+    ensures { record { number = result; file = file.new } ≡ decide_by (bytes_question model.now (length file.old)) model.now file.old limit }
 {
     let q = table_files::bytes_question(model, file.len());
     if q != 0 {
@@ -87,7 +87,7 @@ fn decide_words(model: &[i32], file: &mut [u8], limit: u32) -> u64
 
 // Decides a model file with as many words held for the model as any has.
 fn decide_most(model: &[u8], table: &mut [u8], limit: u32) -> u64
-    ensures { record { number = result; file = table.new } ≡ decideCall model.now table.old limit }
+    ensures { record { number = result; file = table.new } ≡ decide_call model.now table.old limit }
 {
     let mut words = [0i32; records::MOST_WORDS];
     let read = model_files::read_model(model, &mut words);
@@ -101,7 +101,7 @@ fn decide_most(model: &[u8], table: &mut [u8], limit: u32) -> u64
 // plus the number of passes. Few words are held for the model at first: 5 says that they are not enough.
 #[unsafe(no_mangle)]
 pub extern "C" fn decide(model: &[u8], table: &mut [u8], limit: u32) -> u64
-    ensures { record { number = result; file = table.new } ≡ decideCall model.now table.old limit }
+    ensures { record { number = result; file = table.new } ≡ decide_call model.now table.old limit }
 {
     let mut words = [0i32; records::FEW_WORDS];
     let read = model_files::read_model(model, &mut words);
@@ -120,8 +120,8 @@ pub extern "C" fn decide(model: &[u8], table: &mut [u8], limit: u32) -> u64
 
 // Reads a table file (35 to 38, 32) into words lent for it, and asks 33 and 34 of the table: 100, or a refusal's number.
 fn check_with<'a>(model: &'a [i32], file: &'a [u8], table: &mut [i32]) -> u64
-    requires { (modelQuestions model.now ≡ 0) × (tableSize model.now ≤ length table.old) }
-    ensures { result ≡ (checkBy (certificateFileQuestions model.now file.now)).code }
+    requires { (model_questions model.now ≡ 0) × (table_size model.now ≤ length table.old) }
+    ensures { result ≡ (check_by (certificate_file_questions model.now file.now)).code }
 {
     let read = table_files::read_faces(model, file, table);
     match read {
@@ -132,8 +132,8 @@ fn check_with<'a>(model: &'a [i32], file: &'a [u8], table: &mut [i32]) -> u64
 
 // The same with words held: fewer for a smaller table.
 fn check_words<'a>(model: &'a [i32], file: &'a [u8]) -> u64
-    requires { modelQuestions model.now ≡ 0 }
-    ensures { result ≡ (checkBy (certificateFileQuestions model.now file.now)).code }
+    requires { model_questions model.now ≡ 0 }
+    ensures { result ≡ (check_by (certificate_file_questions model.now file.now)).code }
 {
     let size = tables::table_size(model);
     if size <= tables::FEWEST_WORDS {
@@ -150,14 +150,14 @@ fn check_words<'a>(model: &'a [i32], file: &'a [u8]) -> u64
 
 // 100 if all questions are yes, else the number of the first that is not.
 fn verdict_code(q: u32) -> u64
-    ensures { result ≡ (checkBy q).code }
+    ensures { result ≡ (check_by q).code }
 {
     if q == 0 { 100 } else { q as u64 }
 }
 
 // Checks a table file with as many words held for the model as any has.
 fn check_most(model: &[u8], table: &[u8]) -> u64
-    ensures { result ≡ hostCheckCall model.now table.now }
+    ensures { result ≡ host_check_call model.now table.now }
 {
     let mut words = [0i32; records::MOST_WORDS];
     let read = model_files::read_model(model, &mut words);
@@ -171,7 +171,7 @@ fn check_most(model: &[u8], table: &[u8]) -> u64
 // first: 5 says that they are not enough.
 #[unsafe(no_mangle)]
 pub extern "C" fn check(model: &[u8], table: &[u8]) -> u64
-    ensures { result ≡ hostCheckCall model.now table.now }
+    ensures { result ≡ host_check_call model.now table.now }
 {
     let mut words = [0i32; records::FEW_WORDS];
     let read = model_files::read_model(model, &mut words);

@@ -3,9 +3,9 @@
 -- unfinished 102, else the refusal's own number with the value 0. (The ceiling, the quote and the checker are lent nothing to
 -- change: their replies say all.)
 use Rattle.std.specs.Prelude.{◌≡◌, List, [], ◌∷◌, ℕ, ℤ}
-use Rattle.plant.specs.Calls.{Reply, Analysed, replyOf, ReadOutcome, readReply, WriteOutcome, writeReply}
+use Rattle.plant.specs.Calls.{Reply, Analysed, reply_of, ReadOutcome, read_reply, WriteOutcome, write_reply}
 use Rattle.orders.specs.declared.Desk.{Desk}
-use Rattle.orders.specs.Desks.{freshDesk, Holds, Served, Call, serve, answersOf, passesOf}
+use Rattle.orders.specs.Desks.{fresh_desk, Holds, Served, Call, serve, answers_of, passes_of}
 
 -- ---- reading a model file, reading a table file
 
@@ -14,8 +14,8 @@ pub record ReadForC : Type 0 where
   pub reply : Reply
   pub words : List ℤ
 
-abbrev pub readForC : ReadOutcome → ReadForC
-readForC o = record { reply = readReply o; words = o.words }
+abbrev pub read_for_c : ReadOutcome → ReadForC
+read_for_c o = record { reply = read_reply o; words = o.words }
 
 -- ---- the analysis
 
@@ -25,8 +25,8 @@ pub record AnalysedForC : Type 0 where
   pub table : List ℤ
   pub work : List ℤ
 
-abbrev pub analysedForC : Analysed → AnalysedForC
-analysedForC a = record { reply = replyOf a; table = a.table; work = a.work }
+abbrev pub analysed_for_c : Analysed → AnalysedForC
+analysed_for_c a = record { reply = reply_of a; table = a.table; work = a.work }
 
 -- ---- writing a model file, writing a table file
 
@@ -35,8 +35,8 @@ pub record WrittenForC : Type 0 where
   pub reply : Reply
   pub file : List ℕ
 
-abbrev pub writtenForC : WriteOutcome → WrittenForC
-writtenForC o = record { reply = writeReply o; file = o.file }
+abbrev pub written_for_c : WriteOutcome → WrittenForC
+written_for_c o = record { reply = write_reply o; file = o.file }
 
 -- ---- the desk
 
@@ -45,27 +45,27 @@ pub record ServedForC : Type 0 where
   pub desk : Desk
   pub analysed : AnalysedForC
 
-abbrev pub servedForC : Served → ServedForC
-servedForC s = record { desk = s.desk; analysed = analysedForC s.analysed }
+abbrev pub served_for_c : Served → ServedForC
+served_for_c s = record { desk = s.desk; analysed = analysed_for_c s.analysed }
 
 -- ---- a list of qii_desk calls, with any models, limits and buffers
 
-abbrev pub deskForC : Desk → Call → ServedForC
-deskForC d c = servedForC (serve d c)
+abbrev pub desk_for_c : Desk → Call → ServedForC
+desk_for_c d c = served_for_c (serve d c)
 
 -- both counters after all of them
-unfoldable pub countersAfter : Desk → List Call → Desk
-countersAfter d [] = d
-countersAfter d (c ∷ cs) = countersAfter (deskForC d c).desk cs
+unfoldable pub counters_after : Desk → List Call → Desk
+counters_after d [] = d
+counters_after d (c ∷ cs) = counters_after (desk_for_c d c).desk cs
 
 -- the number and the value of each, in order
-unfoldable pub repliesForC : Desk → List Call → List Reply
-repliesForC d [] = []
-repliesForC d (c ∷ cs) = (deskForC d c).analysed.reply ∷ repliesForC (deskForC d c).desk cs
+unfoldable pub replies_for_c : Desk → List Call → List Reply
+replies_for_c d [] = []
+replies_for_c d (c ∷ cs) = (desk_for_c d c).analysed.reply ∷ replies_for_c (desk_for_c d c).desk cs
 
 -- for every list of calls from counters 0: passes is the sum of the values of the calls whose number is 100 or more, jobs is how
 -- many these are, and no counter has run over
 pub record DeskCountsForC (cs : List Call) : Type 0 where
-  pub passes-sum : (countersAfter freshDesk cs).passes ≡ passesOf (repliesForC freshDesk cs)
-  pub jobs-number : (countersAfter freshDesk cs).jobs ≡ answersOf (repliesForC freshDesk cs)
-  pub holds : Holds (countersAfter freshDesk cs)
+  pub passes_sum : (counters_after fresh_desk cs).passes ≡ passes_of (replies_for_c fresh_desk cs)
+  pub jobs_number : (counters_after fresh_desk cs).jobs ≡ answers_of (replies_for_c fresh_desk cs)
+  pub holds : Holds (counters_after fresh_desk cs)

@@ -2,8 +2,8 @@
 // (document 01, "Plant P and other cases"). Decide gives both, the table as a file. That file's fields are the lines, so which
 // pieces are present, how many and in which order is proved where the file is written.
 ghost use Rattle.std.specs.Prelude.{◌≡◌, ℕ, ◌+◌, ◌≤◌, ◌<◌, length};
-ghost use Rattle.files.specs.Fields.{payloadLength, fieldLength};
-ghost use Rattle.interface.specs.Hosts.{packed, decideCall};
+ghost use Rattle.files.specs.Fields.{payload_length, field_length};
+ghost use Rattle.interface.specs.Hosts.{packed, decide_call};
 
 use libc::{STDIN_FILENO, STDOUT_FILENO};
 
@@ -11,7 +11,7 @@ use libc::{STDIN_FILENO, STDOUT_FILENO};
 
 // The answer under limit 1,000 as decide's number, and the file of its table.
 fn listed(model: &[u8], table: &mut [u8]) -> u64
-    ensures { record { number = result; file = table.new } ≡ decideCall model.now table.old 1000 }
+    ensures { record { number = result; file = table.new } ≡ decide_call model.now table.old 1000 }
 {
     host::decide(model, table, 1000)
 }
@@ -59,7 +59,7 @@ fn print_end(last: bool) {
 
 // A line of as many words, from a position of the file on.
 fn print_line(file: &[u8], from: usize, count: usize)
-    requires { from + payloadLength count ≤ length file.now }
+    requires { from + payload_length count ≤ length file.now }
 {
     let mut i: usize = 0;
     while i < count {
@@ -95,7 +95,7 @@ fn print_pieces(file: &[u8], count: u64) {
 
 // How many pieces a table's file has, which its first field says, as the end of line one; then their lines.
 fn print_table(file: &[u8])
-    requires { fieldLength 1 ≤ length file.now }
+    requires { field_length 1 ≤ length file.now }
 {
     print_line(file, wire::HEADER_SIZE, COUNT_SIZE);
     let pieces = integers::magnitude(wire::word_at(file, wire::HEADER_SIZE) as i64);
@@ -112,7 +112,7 @@ fn print_answer(code: u64) {
 }
 
 fn print_listing(number: u64, table: &[u8])
-    requires { fieldLength 1 ≤ length table.now }
+    requires { field_length 1 ≤ length table.now }
 {
     let code = code(number);
     if code < 100 {

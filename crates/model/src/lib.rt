@@ -40,7 +40,7 @@ fn range_ok(lo: i64, hi: i64, least: i64, most: i64) -> bool
 // Ordered, and in -most..most.
 pub fn box_ok(b: &[i32], n: usize, most: u32) -> bool
     requires { 2 * n ≤ length b.now }
-    ensures { result ≡ Q.boxOk n most b.now }
+    ensures { result ≡ Q.box_ok n most b.now }
 {
     let mut ok = true;
     let mut i: usize = 0;
@@ -56,7 +56,7 @@ pub fn box_ok(b: &[i32], n: usize, most: u32) -> bool
 // Ordered, and inside the box c.
 pub fn inside_ok(b: &[i32], c: &[i32], n: usize) -> bool
     requires { (2 * n ≤ length b.now) × (2 * n ≤ length c.now) }
-    ensures { result ≡ Q.insideOk n b.now c.now }
+    ensures { result ≡ Q.inside_ok n b.now c.now }
 {
     let mut ok = true;
     let mut i: usize = 0;
@@ -74,7 +74,7 @@ pub fn inside_ok(b: &[i32], c: &[i32], n: usize) -> bool
 // The first k words are zeros.
 pub fn zeros_ok(s: &[i32], k: usize) -> bool
     requires { k ≤ length s.now }
-    ensures { result ≡ Q.zerosOk k s.now }
+    ensures { result ≡ Q.zeros_ok k s.now }
 {
     let mut ok = true;
     let mut i: usize = 0;
@@ -90,7 +90,7 @@ pub fn zeros_ok(s: &[i32], k: usize) -> bool
 // Start flag 0 and box zeros, or start flag 1 and box ordered, in range: it may stick out of the invariant.
 fn start_ok(model: &[i32], l: usize) -> bool
     requires { Whole model.now × (l < M.L# model.now) }
-    ensures { result ≡ Q.startOk model.now l }
+    ensures { result ≡ Q.start_ok model.now l }
 {
     let n = records::variables(model);
     let flag = records::start_flag(model, l);
@@ -101,7 +101,7 @@ fn start_ok(model: &[i32], l: usize) -> bool
 
 fn location_questions(model: &[i32], l: usize) -> u32
     requires { Whole model.now × (l < M.L# model.now) }
-    ensures { result ≡ Q.locationQuestions model.now l }
+    ensures { result ≡ Q.location_questions model.now l }
 {
     let n = records::variables(model);
     let q11 = ask(box_ok(records::invariant(model, l), n, LEVEL_LIMIT), 11);
@@ -115,7 +115,7 @@ fn location_questions(model: &[i32], l: usize) -> u32
 // A word that is a number below k.
 fn below_ok(s: &[i32], at: usize, k: usize) -> bool
     requires { (at < length s.now) × (1 ≤ k) × (k ≤ 1000) }
-    ensures { result ≡ Q.belowOk s.now at k }
+    ensures { result ≡ Q.below_ok s.now at k }
 {
     integers::within(integers::word(s, at), 0, (k - 1) as i64)
 }
@@ -123,7 +123,7 @@ fn below_ok(s: &[i32], at: usize, k: usize) -> bool
 // Locations, d and sides exist, mask 0 to 2^n - 1.
 fn places_ok(model: &[i32], e: usize) -> bool
     requires { Whole model.now × (e < M.E# model.now) }
-    ensures { result ≡ Q.placesOk model.now e }
+    ensures { result ≡ Q.places_ok model.now e }
 {
     let n = records::variables(model);
     let l = records::locations(model);
@@ -140,7 +140,7 @@ fn places_ok(model: &[i32], e: usize) -> bool
 // Guard and reset box ordered, in range.
 fn boxes_ok(model: &[i32], e: usize) -> bool
     requires { Whole model.now × (e < M.E# model.now) }
-    ensures { result ≡ Q.boxesOk model.now e }
+    ensures { result ≡ Q.boxes_ok model.now e }
 {
     let n = records::variables(model);
     let guarded = box_ok(records::guard(model, e), n, LEVEL_LIMIT);
@@ -150,7 +150,7 @@ fn boxes_ok(model: &[i32], e: usize) -> bool
 // The reset range of variable i single, if it is masked.
 fn single_at(model: &[i32], e: usize, i: usize) -> bool
     requires { Numbered model.now e × (i < M.n# model.now) }
-    ensures { result ≡ Q.singleAt model.now e i }
+    ensures { result ≡ Q.single_at model.now e i }
 {
     let b = records::reset(model, e);
     let single = integers::same(b[2 * i], b[2 * i + 1]);
@@ -160,7 +160,7 @@ fn single_at(model: &[i32], e: usize, i: usize) -> bool
 // All masked reset ranges single.
 fn all_single(model: &[i32], e: usize) -> bool
     requires { Numbered model.now e }
-    ensures { result ≡ all_below (M.n# model.now) (Q.singleAt model.now e) }
+    ensures { result ≡ all_below (M.n# model.now) (Q.single_at model.now e) }
 {
     let n = records::variables(model);
     let mut ok = true;
@@ -175,7 +175,7 @@ fn all_single(model: &[i32], e: usize) -> bool
 // Masked reset ranges single; edition 2 looks at d alone.
 fn single_ok(model: &[i32], e: usize) -> bool
     requires { Placed model.now e }
-    ensures { result ≡ Q.singleOk model.now e }
+    ensures { result ≡ Q.single_ok model.now e }
 {
     if integers::same(records::edition(model), 2) {
         single_at(model, e, records::wall_variable(model, e))
@@ -187,7 +187,7 @@ fn single_ok(model: &[i32], e: usize) -> bool
 // Guard of d equal to the source wall.
 fn guard_ok(model: &[i32], e: usize) -> bool
     requires { Placed model.now e }
-    ensures { result ≡ Q.guardOk model.now e }
+    ensures { result ≡ Q.guard_ok model.now e }
 {
     let d = records::wall_variable(model, e);
     let b = records::guard(model, e);
@@ -198,7 +198,7 @@ fn guard_ok(model: &[i32], e: usize) -> bool
 // The level of d after the switch: its reset value, or the source wall if d is unmasked.
 fn level_after(model: &[i32], e: usize) -> i32
     requires { Placed model.now e }
-    ensures { result ≡ Q.levelAfter model.now e }
+    ensures { result ≡ Q.level_after model.now e }
 {
     let d = records::wall_variable(model, e);
     if records::masked(records::reset_mask(model, e), d) {
@@ -211,14 +211,14 @@ fn level_after(model: &[i32], e: usize) -> i32
 // Target wall equal to it.
 fn lands_ok(model: &[i32], e: usize) -> bool
     requires { Placed model.now e }
-    ensures { result ≡ Q.landsOk model.now e }
+    ensures { result ≡ Q.lands_ok model.now e }
 {
     integers::same(records::target_wall(model, e), level_after(model, e))
 }
 
 fn switch_questions(model: &[i32], e: usize) -> u32
     requires { Whole model.now × (e < M.E# model.now) }
-    ensures { result ≡ Q.switchQuestions model.now e }
+    ensures { result ≡ Q.switch_questions model.now e }
 {
     if !places_ok(model, e) {
         return 14;
@@ -235,7 +235,7 @@ fn switch_questions(model: &[i32], e: usize) -> u32
 // Location exists, box ordered, in range?
 fn forbidden_question(model: &[i32], b: usize) -> u32
     requires { Whole model.now × (b < M.B# model.now) }
-    ensures { result ≡ Q.forbiddenQuestion model.now b }
+    ensures { result ≡ Q.forbidden_question model.now b }
 {
     let n = records::variables(model);
     let exists = below_ok(
@@ -254,7 +254,7 @@ fn forbidden_question(model: &[i32], b: usize) -> u32
 // Strictly between the low and the high of variable i of a box.
 fn strictly_inside(b: &[i32], i: usize, x: i32) -> bool
     requires { 2 * i + 1 < length b.now }
-    ensures { result ≡ Q.strictlyInside b.now i x }
+    ensures { result ≡ Q.strictly_inside b.now i x }
 {
     (b[2 * i] < x) & (x < b[2 * i + 1])
 }
@@ -262,7 +262,7 @@ fn strictly_inside(b: &[i32], i: usize, x: i32) -> bool
 // One of the variables, and a value strictly inside the invariant.
 fn cut_inside(model: &[i32], l: usize) -> bool
     requires { Whole model.now × (l < M.L# model.now) }
-    ensures { result ≡ (Q.belowOk model.now (M.cut_at model.now l) (M.n# model.now) && Q.strictlyInside (M.invariant model.now l) (nat_abs (M.cutVariable model.now l)) (M.cutValue model.now l)) }
+    ensures { result ≡ (Q.below_ok model.now (M.cut_at model.now l) (M.n# model.now) && Q.strictly_inside (M.invariant model.now l) (nat_abs (M.cut_variable model.now l)) (M.cut_value model.now l)) }
 {
     if !below_ok(model, records::cut_at(model, l), records::variables(model)) {
         return false;
@@ -275,7 +275,7 @@ fn cut_inside(model: &[i32], l: usize) -> bool
 // -1 and 0, or such a variable and value?
 fn cut_question(model: &[i32], l: usize) -> u32
     requires { Whole model.now × (l < M.L# model.now) }
-    ensures { result ≡ Q.cutQuestion model.now l }
+    ensures { result ≡ Q.cut_question model.now l }
 {
     let no_variable = integers::same(records::cut_variable(model, l), -1);
     let no_value = integers::same(records::cut_value(model, l), 0);
@@ -286,8 +286,8 @@ fn cut_question(model: &[i32], l: usize) -> u32
 
 // n, L, E and B allowed?
 pub fn ranges_questions(model: &[i32]) -> u32
-    requires { M.headSize ≤ length model.now }
-    ensures { result ≡ Q.rangesQuestions model.now }
+    requires { M.head_size ≤ length model.now }
+    ensures { result ≡ Q.ranges_questions model.now }
 {
     let n = integers::word(model, 0);
     let locations = integers::word(model, 1);
@@ -305,14 +305,14 @@ pub fn ranges_questions(model: &[i32]) -> u32
 // The edition 1 or 2?
 fn edition_question(model: &[i32]) -> u32
     requires { Head model.now }
-    ensures { result ≡ Q.editionQuestion model.now }
+    ensures { result ≡ Q.edition_question model.now }
 {
     ask(integers::within(records::edition(model) as i64, 1, 2), 43)
 }
 
 fn locations_questions(model: &[i32]) -> u32
     requires { Whole model.now }
-    ensures { result ≡ S.first (M.L# model.now) (Q.locationQuestions model.now) }
+    ensures { result ≡ S.first (M.L# model.now) (Q.location_questions model.now) }
 {
     let count = records::locations(model);
     let mut l: usize = 0;
@@ -328,7 +328,7 @@ fn locations_questions(model: &[i32]) -> u32
 
 fn switches_questions(model: &[i32]) -> u32
     requires { Whole model.now }
-    ensures { result ≡ S.first (M.E# model.now) (Q.switchQuestions model.now) }
+    ensures { result ≡ S.first (M.E# model.now) (Q.switch_questions model.now) }
 {
     let count = records::switches(model);
     let mut e: usize = 0;
@@ -344,7 +344,7 @@ fn switches_questions(model: &[i32]) -> u32
 
 fn forbidden_questions(model: &[i32]) -> u32
     requires { Whole model.now }
-    ensures { result ≡ S.first (M.B# model.now) (Q.forbiddenQuestion model.now) }
+    ensures { result ≡ S.first (M.B# model.now) (Q.forbidden_question model.now) }
 {
     let count = records::forbidden_boxes(model);
     let mut b: usize = 0;
@@ -360,7 +360,7 @@ fn forbidden_questions(model: &[i32]) -> u32
 
 fn cuts_questions(model: &[i32]) -> u32
     requires { Whole model.now }
-    ensures { result ≡ S.first (M.L# model.now) (Q.cutQuestion model.now) }
+    ensures { result ≡ S.first (M.L# model.now) (Q.cut_question model.now) }
 {
     let count = records::locations(model);
     let mut l: usize = 0;
@@ -377,7 +377,7 @@ fn cuts_questions(model: &[i32]) -> u32
 // The questions of each record in turn, 11 to 19, then of each cut, 46.
 pub fn records_questions(model: &[i32]) -> u32
     requires { Whole model.now }
-    ensures { result ≡ Q.recordsQuestions model.now }
+    ensures { result ≡ Q.records_questions model.now }
 {
     let location = locations_questions(model);
     let switch = switches_questions(model);
@@ -388,7 +388,7 @@ pub fn records_questions(model: &[i32]) -> u32
 
 // The questions of a model's words, 2 to 5, 43, 11 to 19 and 46: 0 if all are yes, else the number of the first that is not.
 pub fn questions(model: &[i32]) -> u32
-    ensures { result ≡ Q.modelQuestions model.now }
+    ensures { result ≡ Q.model_questions model.now }
 {
     if model.len() < records::HEAD_SIZE {
         return 5;

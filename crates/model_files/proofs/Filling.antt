@@ -4,22 +4,22 @@ use Prim.Native.Nat.{ℕ, ◌≤◌}
 use native.Mathlib.Omega.{arith}
 use lib.IntN.{ℤ}
 use lib.ListN.{length}
-use Rattle.plant.specs.Model.{n#, L#, E#, B#, locationSize, switchSize, forbiddenSize, locationAt, switchAt, forbiddenAt, cut_at, modelSize}
+use Rattle.plant.specs.Model.{n#, L#, E#, B#, location_size, switch_size, forbidden_size, location_at, switch_at, forbidden_at, cut_at, model_size}
 use Rattle.plant.proofs.Whole as model
-use Rattle.plant.proofs.Heads.{locations-at, switches-at, forbiddens-at, cuts-at, words-end}
-use Rattle.files.specs.ModelFile.{locationsFrom, switchesFrom, forbiddensFrom, cutsFrom}
+use Rattle.plant.proofs.Heads.{locations_at, switches_at, forbiddens_at, cuts_at, words_end}
+use Rattle.files.specs.ModelFile.{locations_from, switches_from, forbiddens_from, cuts_from}
 use Rattle.files.proofs.ModelReading.{BodyPassed}
 use Rattle.model_files.specs.Room.{RunReady, CutsReady}
 
-module _ (s : List ℕ) (h : List ℤ) (ok : model.Head h) (y : BodyPassed s h) (words : List ℤ) (room : modelSize h ≤ length words) where
-  pub locations-ready : RunReady s locationsFrom (L# h) (locationSize (n# h)) words (locationAt h 0)
-  locations-ready = record { tag = 2; whole = y.locations-whole; room = omega (arith, locations-at h, switches-at h, forbiddens-at h, cuts-at h, words-end h); w-small = omega (arith, ok.n-small) }
+module _ (s : List ℕ) (h : List ℤ) (ok : model.Head h) (y : BodyPassed s h) (words : List ℤ) (room : model_size h ≤ length words) where
+  pub locations_ready : RunReady s locations_from (L# h) (location_size (n# h)) words (location_at h 0)
+  locations_ready = record { tag = 2; whole = y.locations_whole; room = omega (arith, locations_at h, switches_at h, forbiddens_at h, cuts_at h, words_end h); w_small = omega (arith, ok.n_small) }
 
-  pub switches-ready : RunReady s (switchesFrom h) (E# h) (switchSize (n# h)) words (switchAt h 0)
-  switches-ready = record { tag = 3; whole = y.switches-whole; room = omega (arith, forbiddens-at h, cuts-at h, words-end h); w-small = omega (arith, ok.n-small) }
+  pub switches_ready : RunReady s (switches_from h) (E# h) (switch_size (n# h)) words (switch_at h 0)
+  switches_ready = record { tag = 3; whole = y.switches_whole; room = omega (arith, forbiddens_at h, cuts_at h, words_end h); w_small = omega (arith, ok.n_small) }
 
-  pub forbiddens-ready : RunReady s (forbiddensFrom h) (B# h) (forbiddenSize (n# h)) words (forbiddenAt h 0)
-  forbiddens-ready = record { tag = 4; whole = y.forbiddens-whole; room = omega (arith, cuts-at h, words-end h); w-small = omega (arith, ok.n-small) }
+  pub forbiddens_ready : RunReady s (forbiddens_from h) (B# h) (forbidden_size (n# h)) words (forbidden_at h 0)
+  forbiddens_ready = record { tag = 4; whole = y.forbiddens_whole; room = omega (arith, cuts_at h, words_end h); w_small = omega (arith, ok.n_small) }
 
-  pub cuts-ready : CutsReady s (cutsFrom h) (L# h) words (cut_at h 0)
-  cuts-ready = record { some = ok.L-positive; passes = y.cuts-pass; room = omega (arith, words-end h); few = ok.L-small }
+  pub cuts_ready : CutsReady s (cuts_from h) (L# h) words (cut_at h 0)
+  cuts_ready = record { some = ok.L_positive; passes = y.cuts_pass; room = omega (arith, words_end h); few = ok.L_small }

@@ -3,62 +3,62 @@ use Rattle.std.specs.Prelude.{◌≡◌, List, ℕ, ◌+◌, ◌*◌, ◌<◌, �
 use Rattle.std.specs.Int.Signed.{non_neg}
 use Rattle.integers.specs.Words.{word}
 use Rattle.integers.specs.Counted.{cat}
-use Rattle.files.specs.Fields.{payloadLength, fieldLength, fieldPlace, fieldAt, isField}
-use Rattle.plant.specs.Model.{L#, cutSize, modelSize}
+use Rattle.files.specs.Fields.{payload_length, field_length, field_place, field_at, is_field}
+use Rattle.plant.specs.Model.{L#, cut_size, model_size}
 use Rattle.plant.proofs.Whole.{Head, Whole}
-use Rattle.files.specs.ModelFile.{recordField, modelFile, cutFieldSize, headWords, isHead, cutFieldWords, cutsQuestions}
-use Rattle.files.proofs.ModelLength.{cutFieldOf}
+use Rattle.files.specs.ModelFile.{record_field, model_file, cut_field_size, head_words, is_head, cut_field_words, cuts_questions}
+use Rattle.files.proofs.ModelLength.{cut_field_of}
 
 -- ---- reading
 
 -- count fields of one tag stand whole from a position on, each with a payload of w words, and there is room for these words
 pub record RunReady (s : List ℕ) (from count w : ℕ) (words : List ℤ) (to : ℕ) : Type 0 where
   pub tag : ℕ
-  pub whole : (i : ℕ) → i < count → T (isField (fieldAt s (fieldPlace from w i)) tag (payloadLength w))
+  pub whole : (i : ℕ) → i < count → T (is_field (field_at s (field_place from w i)) tag (payload_length w))
   pub room : to + count * w ≤ length words
-  pub w-small : w ≤ 37
+  pub w_small : w ≤ 37
 
 -- a cut's field stands whole at a position, and its location is no negative number
 pub record CutThere (s : List ℕ) (at : ℕ) : Type 0 where
-  pub there : at + fieldLength cutFieldSize ≤ length s
-  pub natural : T (non_neg (word (cutFieldWords s at) 0))
+  pub there : at + field_length cut_field_size ≤ length s
+  pub natural : T (non_neg (word (cut_field_words s at) 0))
 
 -- the cuts' fields of a file stand from a position on, for a model of L locations, and there is room for the words of all cuts
 pub record CutsReady (s : List ℕ) (from L : ℕ) (words : List ℤ) (to : ℕ) : Type 0 where
   pub some : 1 ≤ L
   pub few : L ≤ 64
-  pub passes : cutsQuestions s from L ≡ 0
-  pub room : to + L * cutSize ≤ length words
+  pub passes : cuts_questions s from L ≡ 0
+  pub room : to + L * cut_size ≤ length words
 
 -- the head words of a file whose questions 1 to 5 are yes
 pub record HeadRead (s : List ℕ) (h words : List ℤ) : Type 0 where
-  pub first_field : T (isHead (fieldAt s 0))
-  pub is_read : h ≡ headWords s
+  pub first_field : T (is_head (field_at s 0))
+  pub is_read : h ≡ head_words s
   pub head : Head h
-  pub room : modelSize h ≤ length words
+  pub room : model_size h ≤ length words
 
 -- ---- writing
 
 -- of records of w words each, which stand one after the other from a place of the model on: the field of record i; of count records
 abbrev pub field_of : (tag : ℕ) (m : List ℤ) (from w i : ℕ) → List ℕ
-field_of tag m from w i = recordField tag m (from + i * w) w
+field_of tag m from w i = record_field tag m (from + i * w) w
 
-abbrev pub recordFields : (tag : ℕ) (m : List ℤ) (from count w : ℕ) → List ℕ
-recordFields tag m from count w = cat count (field_of tag m from w)
+abbrev pub record_fields : (tag : ℕ) (m : List ℤ) (from count w : ℕ) → List ℕ
+record_fields tag m from count w = cat count (field_of tag m from w)
 
 -- the records stand there, and there is room for their fields
 pub record RunRoom (m : List ℤ) (from count w : ℕ) (file : List ℕ) (to : ℕ) : Type 0 where
   pub there : from + count * w ≤ length m
-  pub room : to + count * fieldLength w ≤ length file
-  pub w-small : w ≤ 37
+  pub room : to + count * field_length w ≤ length file
+  pub w_small : w ≤ 37
 
 -- a location's cut, and room for a field of it
 pub record CutRoom (m : List ℤ) (l : ℕ) (file : List ℕ) (to : ℕ) : Type 0 where
   pub whole : Whole m
   pub location : l < L# m
-  pub room : to + length (cutFieldOf m l) ≤ length file
+  pub room : to + length (cut_field_of m l) ≤ length file
 
 -- a whole model, and room for its file
 pub record FileRoom (m : List ℤ) (file : List ℕ) : Type 0 where
   pub whole : Whole m
-  pub room : length (modelFile m) ≤ length file
+  pub room : length (model_file m) ≤ length file

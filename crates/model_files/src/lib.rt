@@ -2,12 +2,12 @@
 // write_model.
 ghost use Rattle.std.specs.Prelude.{◌≡◌, true, cond, [], ◌∷◌, ◌++◌, ◌+◌, ◌≤◌, ◌<◌, T, pos, negsuc, length, take};
 ghost use Rattle.integers.specs.Words.{word, num, onto};
-ghost use Rattle.files.specs.Fields.{fieldLength, fieldAt};
+ghost use Rattle.files.specs.Fields.{field_length, field_at};
 ghost use Rattle.plant.specs.Ask.{◌then◌};
-ghost use Rattle.plant.specs.Model.{headSize, cutSize};
-ghost use Rattle.plant.specs.Questions.{rangesQuestions};
+ghost use Rattle.plant.specs.Model.{head_size, cut_size};
+ghost use Rattle.plant.specs.Questions.{ranges_questions};
 ghost use Rattle.plant.proofs.Whole.{Head};
-ghost use Rattle.files.specs.ModelFile.{editionOf, cutFieldSize, headWords, isHead, hasTag, fieldQuestions, runQuestions, bufferQuestion, locationsFrom, switchesFrom, forbiddensFrom, cutsFrom, cutFieldWords, cutWordsOk, cutFieldQuestions, cutsQuestions, bodyQuestions, runWords, recordWords, namesLocation, cutWords, fileWords, readRecords, readModelCall};
+ghost use Rattle.files.specs.ModelFile.{edition_of, cut_field_size, head_words, is_head, has_tag, field_questions, run_questions, buffer_question, locations_from, switches_from, forbiddens_from, cuts_from, cut_field_words, cut_words_ok, cut_field_questions, cuts_questions, body_questions, run_words, record_words, names_location, cut_words, file_words, read_records, read_model_call};
 ghost use Rattle.model_files.specs.Room.{RunReady, CutThere, CutsReady, HeadRead};
 
 use plant::Count;
@@ -25,7 +25,7 @@ const CUT_FIELD_SIZE: usize = 3;
 
 // Whole, of tag 1 or 9, with n, L, E and B.
 fn is_head(f: files::Field) -> bool
-    ensures { result ≡ isHead f }
+    ensures { result ≡ is_head f }
 {
     let len = wire::payload_length(HEAD_FIELD_SIZE);
     wire::is_field(f, 1, len) | wire::is_field(f, 9, len)
@@ -33,15 +33,15 @@ fn is_head(f: files::Field) -> bool
 
 // The edition that the first tag gives.
 fn edition_of(tag: u8) -> i32
-    ensures { result ≡ editionOf tag }
+    ensures { result ≡ edition_of tag }
 {
     if tag == 9 { 2 } else { 1 }
 }
 
 // Copies n, L, E and B to the front of the words, and the edition behind them.
 fn read_head(file: &[u8], words: &mut [i32])
-    requires { T (isHead (fieldAt file.now 0)) × (headSize ≤ length words.old) }
-    ensures { words.new ≡ onto (headWords file.now) words.old }
+    requires { T (is_head (field_at file.now 0)) × (head_size ≤ length words.old) }
+    ensures { words.new ≡ onto (head_words file.now) words.old }
 {
     wire::copy_words(file, wire::HEADER_SIZE, HEAD_FIELD_SIZE, words, 0);
     words[HEAD_FIELD_SIZE] = edition_of(file[0]);
@@ -51,7 +51,7 @@ fn read_head(file: &[u8], words: &mut [i32])
 
 // Three bytes left and the due tag.
 fn has_tag(f: files::Field, tag: u8) -> bool
-    ensures { result ≡ hasTag f tag }
+    ensures { result ≡ has_tag f tag }
 {
     match f {
         files::Field::Whole { tag: t, .. } => t == tag,
@@ -61,7 +61,7 @@ fn has_tag(f: files::Field, tag: u8) -> bool
 }
 
 fn field_questions(f: files::Field, tag: u8, len: usize) -> u32
-    ensures { result ≡ fieldQuestions f tag len }
+    ensures { result ≡ field_questions f tag len }
 {
     model::or_else(
         model::ask(has_tag(f, tag), 6),
@@ -72,7 +72,7 @@ fn field_questions(f: files::Field, tag: u8, len: usize) -> u32
 // Of `count` fields, each with a payload of w words, from a position on.
 fn run_questions(file: &[u8], from: usize, count: usize, tag: u8, w: usize) -> u32
     requires { w ≤ 37 }
-    ensures { result ≡ runQuestions file.now from count tag w }
+    ensures { result ≡ run_questions file.now from count tag w }
 {
     let len = wire::payload_length(w);
     let mut at = from;
@@ -94,8 +94,8 @@ fn run_questions(file: &[u8], from: usize, count: usize, tag: u8, w: usize) -> u
 
 // n, L, E and B allowed, and the words of such a model not more than there is room for?
 fn sizes_questions(head: &[i32], room: usize) -> u32
-    requires { headSize ≤ length head.now }
-    ensures { result ≡ (rangesQuestions head.now then bufferQuestion head.now room) }
+    requires { head_size ≤ length head.now }
+    ensures { result ≡ (ranges_questions head.now then buffer_question head.now room) }
 {
     let q = model::ranges_questions(head);
     if q != 0 {
@@ -107,14 +107,14 @@ fn sizes_questions(head: &[i32], room: usize) -> u32
 // ---- where the fields begin
 
 fn locations_from() -> usize
-    ensures { result ≡ locationsFrom }
+    ensures { result ≡ locations_from }
 {
     wire::field_place(0, HEAD_FIELD_SIZE, 1)
 }
 
 fn switches_from(head: &[i32]) -> usize
     requires { Head head.now }
-    ensures { result ≡ switchesFrom head.now }
+    ensures { result ≡ switches_from head.now }
 {
     wire::field_place(
         locations_from(),
@@ -125,7 +125,7 @@ fn switches_from(head: &[i32]) -> usize
 
 fn forbiddens_from(head: &[i32]) -> usize
     requires { Head head.now }
-    ensures { result ≡ forbiddensFrom head.now }
+    ensures { result ≡ forbiddens_from head.now }
 {
     wire::field_place(
         switches_from(head),
@@ -136,7 +136,7 @@ fn forbiddens_from(head: &[i32]) -> usize
 
 fn cuts_from(head: &[i32]) -> usize
     requires { Head head.now }
-    ensures { result ≡ cutsFrom head.now }
+    ensures { result ≡ cuts_from head.now }
 {
     wire::field_place(
         forbiddens_from(head),
@@ -150,15 +150,15 @@ fn cuts_from(head: &[i32]) -> usize
 // The location that the field at a position names.
 fn cut_location(file: &[u8], at: usize) -> usize
     requires { CutThere file.now at }
-    ensures { result ≡ num (cutFieldWords file.now at) 0 }
+    ensures { result ≡ num (cut_field_words file.now at) 0 }
 {
     integers::natural(wire::word_at(file, at + wire::HEADER_SIZE))
 }
 
 // A location from the least to the last of the model, and a variable that is not -1.
 fn cut_words_ok(file: &[u8], at: usize, least: usize, count: usize) -> bool
-    requires { (at + fieldLength cutFieldSize ≤ length file.now) × (least ≤ 64) × (1 ≤ count) × (count ≤ 64) }
-    ensures { result ≡ cutWordsOk (cutFieldWords file.now at) least count }
+    requires { (at + field_length cut_field_size ≤ length file.now) × (least ≤ 64) × (1 ≤ count) × (count ≤ 64) }
+    ensures { result ≡ cut_words_ok (cut_field_words file.now at) least count }
 {
     let start = at + wire::HEADER_SIZE;
     let location = wire::word_at(file, start) as i64;
@@ -170,7 +170,7 @@ fn cut_words_ok(file: &[u8], at: usize, least: usize, count: usize) -> bool
 // Of the bytes at a position: the tag of a cut's field? 8. The field whole, its words as they may be? 46
 fn cut_questions(file: &[u8], at: usize, least: usize, count: usize) -> u32
     requires { (at < length file.now) × (least ≤ 64) × (1 ≤ count) × (count ≤ 64) }
-    ensures { result ≡ cutFieldQuestions file.now at least count }
+    ensures { result ≡ cut_field_questions file.now at least count }
 {
     if file[at] != 8 {
         return 8;
@@ -185,7 +185,7 @@ fn cut_questions(file: &[u8], at: usize, least: usize, count: usize) -> u32
 // Of each cut's field in turn, from a position to the end of the file, in a model of `count` locations.
 fn cuts_questions(file: &[u8], from: usize, count: usize) -> u32
     requires { (1 ≤ count) × (count ≤ 64) }
-    ensures { result ≡ cutsQuestions file.now from count }
+    ensures { result ≡ cuts_questions file.now from count }
 {
     let mut least: usize = 0;
     let mut at = from;
@@ -203,7 +203,7 @@ fn cuts_questions(file: &[u8], from: usize, count: usize) -> u32
 // Each record's field in turn, then the cuts' fields and the end of the file.
 fn body_questions(file: &[u8], head: &[i32]) -> u32
     requires { Head head.now }
-    ensures { result ≡ bodyQuestions file.now head.now }
+    ensures { result ≡ body_questions file.now head.now }
 {
     let n = records::variables(head);
     let locations = run_questions(
@@ -239,7 +239,7 @@ fn body_questions(file: &[u8], head: &[i32]) -> u32
 // Copies the payloads of `count` fields of w words each, from a position on, to a place of the words.
 fn copy_run(file: &[u8], from: usize, count: usize, w: usize, words: &mut [i32], to: usize)
     requires { RunReady file.now from count w words.old to }
-    ensures { words.new ≡ onto (take to words.old ++ runWords file.now from count w) words.old }
+    ensures { words.new ≡ onto (take to words.old ++ run_words file.now from count w) words.old }
 {
     let mut at = from;
     let mut place = to;
@@ -258,8 +258,8 @@ fn copy_run(file: &[u8], from: usize, count: usize, w: usize, words: &mut [i32],
 
 // Copies the words of the head and the records of a file that passes its questions.
 fn fill_records(file: &[u8], head: &[i32], words: &mut [i32])
-    requires { HeadRead file.now head.now words.old × (bodyQuestions file.now head.now ≡ 0) }
-    ensures { words.new ≡ onto (recordWords file.now head.now) words.old }
+    requires { HeadRead file.now head.now words.old × (body_questions file.now head.now ≡ 0) }
+    ensures { words.new ≡ onto (record_words file.now head.now) words.old }
 {
     let n = records::variables(head);
     read_head(file, words);
@@ -294,7 +294,7 @@ fn fill_records(file: &[u8], head: &[i32], words: &mut [i32])
 // The field at a position is there, and names location l.
 fn names_location(file: &[u8], at: usize, l: usize) -> bool
     requires { at < length file.now → CutThere file.now at }
-    ensures { result ≡ namesLocation file.now at l }
+    ensures { result ≡ names_location file.now at l }
 {
     if file.len() <= at {
         return false;
@@ -304,8 +304,8 @@ fn names_location(file: &[u8], at: usize, l: usize) -> bool
 
 // Copies variable and value of the field at a position to a place of the words, if it names the location; else -1 and 0.
 fn fill_cut(file: &[u8], at: usize, named: bool, words: &mut [i32], to: usize)
-    requires { (named ≡ true → at + fieldLength cutFieldSize ≤ length file.now) × (to + cutSize ≤ length words.old) }
-    ensures { words.new ≡ onto (take to words.old ++ cond named (word (cutFieldWords file.now at) 1 ∷ word (cutFieldWords file.now at) 2 ∷ []) (negsuc 0 ∷ pos 0 ∷ [])) words.old }
+    requires { (named ≡ true → at + field_length cut_field_size ≤ length file.now) × (to + cut_size ≤ length words.old) }
+    ensures { words.new ≡ onto (take to words.old ++ cond named (word (cut_field_words file.now at) 1 ∷ word (cut_field_words file.now at) 2 ∷ []) (negsuc 0 ∷ pos 0 ∷ [])) words.old }
 {
     if named {
         let from = at + wire::HEADER_SIZE + wire::WORD_SIZE;
@@ -318,8 +318,8 @@ fn fill_cut(file: &[u8], at: usize, named: bool, words: &mut [i32], to: usize)
 
 // Where the next field begins: after this one, if it names the location.
 fn after_cut(at: usize, named: bool) -> usize
-    requires { named ≡ true → at + fieldLength cutFieldSize < 18446744073709551616 }
-    ensures { result ≡ cond named (at + fieldLength cutFieldSize) at }
+    requires { named ≡ true → at + field_length cut_field_size < 18446744073709551616 }
+    ensures { result ≡ cond named (at + field_length cut_field_size) at }
 {
     if named {
         at + wire::field_length(CUT_FIELD_SIZE)
@@ -331,7 +331,7 @@ fn after_cut(at: usize, named: bool) -> usize
 // Copies the words of the cuts of `count` locations to a place of the words. Fields and locations ascend side by side.
 fn fill_cuts(file: &[u8], from: usize, count: usize, words: &mut [i32], to: usize)
     requires { CutsReady file.now from count words.old to }
-    ensures { words.new ≡ onto (take to words.old ++ cutWords file.now from count) words.old }
+    ensures { words.new ≡ onto (take to words.old ++ cut_words file.now from count) words.old }
 {
     let mut at = from;
     let mut place = to;
@@ -347,8 +347,8 @@ fn fill_cuts(file: &[u8], from: usize, count: usize, words: &mut [i32], to: usiz
 
 // Copies all words of a file that passes its questions.
 fn fill(file: &[u8], head: &[i32], words: &mut [i32])
-    requires { HeadRead file.now head.now words.old × (bodyQuestions file.now head.now ≡ 0) }
-    ensures { words.new ≡ onto (fileWords file.now head.now) words.old }
+    requires { HeadRead file.now head.now words.old × (body_questions file.now head.now ≡ 0) }
+    ensures { words.new ≡ onto (file_words file.now head.now) words.old }
 {
     fill_records(file, head, words);
     let count = records::locations(head);
@@ -361,7 +361,7 @@ fn fill(file: &[u8], head: &[i32], words: &mut [i32])
 // Reads the records of a file whose head is accepted.
 fn read_records(file: &[u8], head: &[i32], words: &mut [i32]) -> Count
     requires { HeadRead file.now head.now words.old }
-    ensures { record { count = result; words = words.new } ≡ readRecords file.now head.now words.old }
+    ensures { record { count = result; words = words.new } ≡ read_records file.now head.now words.old }
 {
     let q = body_questions(file, head);
     if q != 0 {
@@ -380,7 +380,7 @@ fn read_records(file: &[u8], head: &[i32], words: &mut [i32]) -> Count
 
 // Reads a model file into the words: how many they are, or a refusal's number.
 pub fn read_model(file: &[u8], words: &mut [i32]) -> Count
-    ensures { record { count = result; words = words.new } ≡ readModelCall file.now words.old }
+    ensures { record { count = result; words = words.new } ≡ read_model_call file.now words.old }
 {
     let q1 = model::ask(is_head(wire::next_field(file, 0)), 1);
     if q1 != 0 {

@@ -1,12 +1,12 @@
 // Writing a model's file (document 02, T-01).
 ghost use Rattle.std.specs.Prelude.{◌≡◌, cond, ◌++◌, ◌+◌, ◌≤◌, negsuc, length, take};
-ghost use Rattle.integers.specs.Words.{eqZ, onto};
-ghost use Rattle.files.specs.Fields.{fieldLength};
+ghost use Rattle.integers.specs.Words.{eq_z, onto};
+ghost use Rattle.files.specs.Fields.{field_length};
 ghost use Rattle.plant.proofs.Whole.{Whole};
-ghost use Rattle.files.specs.ModelFile.{firstTag, cutFieldSize, recordField, modelFile, cutsFrom, writeModelQuestions, writeModelCall};
-ghost use Rattle.files.specs.UncutModelFile.{recordsFile};
-ghost use Rattle.model_files.specs.Room.{recordFields, RunRoom, CutRoom, FileRoom};
-ghost use Rattle.files.proofs.ModelLength.{cutFieldOf, cutFields};
+ghost use Rattle.files.specs.ModelFile.{first_tag, cut_field_size, record_field, model_file, cuts_from, write_model_questions, write_model_call};
+ghost use Rattle.files.specs.UncutModelFile.{records_file};
+ghost use Rattle.model_files.specs.Room.{record_fields, RunRoom, CutRoom, FileRoom};
+ghost use Rattle.files.proofs.ModelLength.{cut_field_of, cut_fields};
 
 use crate::{
     CUT_FIELD_SIZE, HEAD_FIELD_SIZE, cuts_from, forbiddens_from, locations_from, switches_from,
@@ -17,7 +17,7 @@ use plant::Count;
 
 // The field of a location's cut, by the cut's variable: none where it is uncut.
 fn cut_length(variable: i32) -> usize
-    ensures { result ≡ cond (eqZ variable (negsuc 0)) 0 (fieldLength cutFieldSize) }
+    ensures { result ≡ cond (eq_z variable (negsuc 0)) 0 (field_length cut_field_size) }
 {
     if integers::same(variable, -1) {
         0
@@ -29,7 +29,7 @@ fn cut_length(variable: i32) -> usize
 // The fields of all cuts.
 fn cuts_length(model: &[i32]) -> usize
     requires { Whole model.now }
-    ensures { result ≡ length (cutFields model.now) }
+    ensures { result ≡ length (cut_fields model.now) }
 {
     let locations = records::locations(model);
     let mut bytes: usize = 0;
@@ -44,7 +44,7 @@ fn cuts_length(model: &[i32]) -> usize
 // The whole file.
 fn file_length(model: &[i32]) -> usize
     requires { Whole model.now }
-    ensures { result ≡ length (modelFile model.now) }
+    ensures { result ≡ length (model_file model.now) }
 {
     let cuts_at = cuts_from(model);
     cuts_at + cuts_length(model)
@@ -52,7 +52,7 @@ fn file_length(model: &[i32]) -> usize
 
 // The model's questions; then: byte buffer long enough for the file? 40
 fn write_questions(model: &[i32], room: usize) -> u32
-    ensures { result ≡ writeModelQuestions model.now room }
+    ensures { result ≡ write_model_questions model.now room }
 {
     let q = model::questions(model);
     if q != 0 {
@@ -66,15 +66,15 @@ fn write_questions(model: &[i32], room: usize) -> u32
 
 // The tag that the edition gives.
 fn first_tag(edition: i32) -> u8
-    ensures { result ≡ firstTag edition }
+    ensures { result ≡ first_tag edition }
 {
     if integers::same(edition, 2) { 9 } else { 1 }
 }
 
 // Writes the field of a record of w words, from a place of the model on.
 fn put_record(model: &[i32], tag: u8, from: usize, w: usize, file: &mut [u8], to: usize)
-    requires { (from + w ≤ length model.now) × (to + fieldLength w ≤ length file.old) × (w ≤ 37) }
-    ensures { file.new ≡ onto (take to file.old ++ recordField tag model.now from w) file.old }
+    requires { (from + w ≤ length model.now) × (to + field_length w ≤ length file.old) × (w ≤ 37) }
+    ensures { file.new ≡ onto (take to file.old ++ record_field tag model.now from w) file.old }
 {
     wire::put_header(file, to, tag, wire::payload_length(w));
     wire::put_words(model, from, w, file, to + wire::HEADER_SIZE)
@@ -83,7 +83,7 @@ fn put_record(model: &[i32], tag: u8, from: usize, w: usize, file: &mut [u8], to
 // Writes the fields of `count` records of w words each, which stand one after the other from a place of the model on.
 fn put_run(model: &[i32], tag: u8, from: usize, count: usize, w: usize, file: &mut [u8], to: usize)
     requires { RunRoom model.now from count w file.old to }
-    ensures { file.new ≡ onto (take to file.old ++ recordFields tag model.now from count w) file.old }
+    ensures { file.new ≡ onto (take to file.old ++ record_fields tag model.now from count w) file.old }
 {
     let len = wire::field_length(w);
     let mut place = from;
@@ -100,7 +100,7 @@ fn put_run(model: &[i32], tag: u8, from: usize, count: usize, w: usize, file: &m
 // Writes the first field, then those of the locations, the switches and the forbidden boxes.
 fn put_records(model: &[i32], file: &mut [u8])
     requires { FileRoom model.now file.old }
-    ensures { file.new ≡ onto (recordsFile model.now) file.old }
+    ensures { file.new ≡ onto (records_file model.now) file.old }
 {
     let n = records::variables(model);
     let tag = first_tag(records::edition(model));
@@ -139,8 +139,8 @@ fn put_records(model: &[i32], file: &mut [u8])
 // Writes the field of location l's cut, if it is cut: where the next field goes.
 fn put_cut(model: &[i32], l: usize, file: &mut [u8], to: usize) -> usize
     requires { CutRoom model.now l file.old to }
-    ensures bytes { file.new ≡ onto (take to file.old ++ cutFieldOf model.now l) file.old }
-    ensures next { result ≡ to + length (cutFieldOf model.now l) }
+    ensures bytes { file.new ≡ onto (take to file.old ++ cut_field_of model.now l) file.old }
+    ensures next { result ≡ to + length (cut_field_of model.now l) }
 {
     let at = records::cut_at(model, l);
     if integers::same(model[at], -1) {
@@ -156,8 +156,8 @@ fn put_cut(model: &[i32], l: usize, file: &mut [u8], to: usize) -> usize
 // Writes the fields of the cuts behind those of the records, by location: where they end.
 fn put_cuts(model: &[i32], file: &mut [u8]) -> usize
     requires { FileRoom model.now file.old }
-    ensures bytes { file.new ≡ onto (take (cutsFrom model.now) file.old ++ cutFields model.now) file.old }
-    ensures end { result ≡ cutsFrom model.now + length (cutFields model.now) }
+    ensures bytes { file.new ≡ onto (take (cuts_from model.now) file.old ++ cut_fields model.now) file.old }
+    ensures end { result ≡ cuts_from model.now + length (cut_fields model.now) }
 {
     let locations = records::locations(model);
     let mut to = cuts_from(model);
@@ -174,8 +174,8 @@ fn put_cuts(model: &[i32], file: &mut [u8]) -> usize
 // Writes the whole file: how many bytes it has.
 fn put_model(model: &[i32], file: &mut [u8]) -> usize
     requires { FileRoom model.now file.old }
-    ensures bytes { file.new ≡ onto (modelFile model.now) file.old }
-    ensures count { result ≡ length (modelFile model.now) }
+    ensures bytes { file.new ≡ onto (model_file model.now) file.old }
+    ensures count { result ≡ length (model_file model.now) }
 {
     put_records(model, file);
     put_cuts(model, file)
@@ -183,7 +183,7 @@ fn put_model(model: &[i32], file: &mut [u8]) -> usize
 
 // Writes a model's file: how many bytes it has, or a refusal's number.
 pub fn write_model(model: &[i32], file: &mut [u8]) -> Count
-    ensures { record { count = result; file = file.new } ≡ writeModelCall model.now file.old }
+    ensures { record { count = result; file = file.new } ≡ write_model_call model.now file.old }
 {
     let q = write_questions(model, file.len());
     if q != 0 {

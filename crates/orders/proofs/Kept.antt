@@ -8,142 +8,142 @@ use lib.IntN.{ℤ}
 use lib.ListN.{length, drop}
 use lib.Seq.{drop_at}
 use Rattle.integers.specs.Words.{onto}
-use Rattle.plant.specs.Questions.{modelQuestions}
-use Rattle.plant.specs.Tables.{tableSize, longestTableFile, tableOk, tableAfter, ceilingOf}
-use Rattle.plant.specs.Calls.{Analysed, replyOf, ceilingReply, ceilingBy, ceilingCall, passesOf, answerTable, analysis, analysisQuestions, answered, analyseBy, analyseCall, writeReply}
+use Rattle.plant.specs.Questions.{model_questions}
+use Rattle.plant.specs.Tables.{table_size, longest_table_file, table_ok, table_after, ceiling_of}
+use Rattle.plant.specs.Calls.{Analysed, reply_of, ceiling_reply, ceiling_by, ceiling_call, passes_of, answer_table, analysis, analysis_questions, answered, analyse_by, analyse_call, write_reply}
 use Rattle.plant.specs.Demands.{ceiling, answers, Room}
-use Rattle.plant.proofs.Asks.{ask-intro, ask-yes, then-both}
+use Rattle.plant.proofs.Asks.{ask_intro, ask_yes, then_both}
 use Rattle.plant.proofs.Passed.{passed}
-use Rattle.plant.proofs.Tables.{long-enough, made_ok, table-most}
-use Rattle.plant.proofs.Keeps.{piecesAfter, pieces-ok, after-length, onto-begins}
-use Rattle.plant.proofs.ByLocation.{ceiling-by-pieces}
-use Rattle.plant.proofs.Search.{answer-code}
-use Rattle.plant.proofs.Demands.{model-yes, by_code, first-demand, passes-within}
-use Rattle.plant.proofs.AnalysisAsked.{model-asked, table-room, work-room}
+use Rattle.plant.proofs.Tables.{long_enough, made_ok, table_most}
+use Rattle.plant.proofs.Keeps.{pieces_after, pieces_ok, after_length, onto_begins}
+use Rattle.plant.proofs.ByLocation.{ceiling_by_pieces_lem}
+use Rattle.plant.proofs.Search.{answer_code}
+use Rattle.plant.proofs.Demands.{model_yes, by_code, first_demand, passes_within}
+use Rattle.plant.proofs.AnalysisAsked.{model_asked, table_room, work_room}
 use Rattle.plant.proofs.Whole.{Whole}
 use Rattle.plant.proofs.Passing.{whole}
-use Rattle.files.specs.TableFile.{tableFile, writeTableCall}
-use Rattle.files.proofs.TableSizes.{longest-most, file-most}
-use Rattle.files.proofs.TableBack.{table-back}
+use Rattle.files.specs.TableFile.{table_file, write_table_call}
+use Rattle.files.proofs.TableSizes.{longest_most, file_most}
+use Rattle.files.proofs.TableBack.{table_back}
 use Rattle.orders.specs.declared.Desk.{Desk}
-use Rattle.orders.specs.Desks.{deskQuestions, deskBy, deskCall}
+use Rattle.orders.specs.Desks.{desk_questions, desk_by, desk_call}
 use Rattle.plant.proofs.Widths.{ceiling-most}
-use Rattle.orders.specs.Quotes.{QuoteReply, quoteReply, quoteBy, quoteCall, quoted, NoneExceeds, QuoteDemand}
+use Rattle.orders.specs.Quotes.{QuoteReply, quote_reply, quote_by, quote_call, quoted, NoneExceeds, QuoteDemand}
 
 module _ (m : List ℤ) where
   -- what a model that passes is quoted
-  quoted-is : modelQuestions m ≡ 0 → quoted m ≡ record { code = 100; words = tableSize m; bytes = longestTableFile m; ceiling = ceilingOf m }
-  unfolding quoteCall
-  quoted-is asks = ap (λ (q : ℕ). quoteReply (quoteBy m q)) asks
+  quoted_is : model_questions m ≡ 0 → quoted m ≡ record { code = 100; words = table_size m; bytes = longest_table_file m; ceiling = ceiling_of m }
+  unfolding quote_call
+  quoted_is asks = ap (λ (q : ℕ). quote_reply (quote_by m q)) asks
 
-  pub words_are : modelQuestions m ≡ 0 → (quoted m).words ≡ tableSize m
-  words_are asks = ap (λ (r : QuoteReply). r.words) (quoted-is asks)
+  pub words_are : model_questions m ≡ 0 → (quoted m).words ≡ table_size m
+  words_are asks = ap (λ (r : QuoteReply). r.words) (quoted_is asks)
 
-  pub bytes-are : modelQuestions m ≡ 0 → (quoted m).bytes ≡ longestTableFile m
-  bytes-are asks = ap (λ (r : QuoteReply). r.bytes) (quoted-is asks)
+  pub bytes_are : model_questions m ≡ 0 → (quoted m).bytes ≡ longest_table_file m
+  bytes_are asks = ap (λ (r : QuoteReply). r.bytes) (quoted_is asks)
 
-  pub ceiling-is : modelQuestions m ≡ 0 → (quoted m).ceiling ≡ ceilingOf m
-  ceiling-is asks = ap (λ (r : QuoteReply). r.ceiling) (quoted-is asks)
+  pub ceiling_is : model_questions m ≡ 0 → (quoted m).ceiling ≡ ceiling_of m
+  ceiling_is asks = ap (λ (r : QuoteReply). r.ceiling) (quoted_is asks)
 
-  largest : (q : ℕ) → modelQuestions m ≡ q → let r = quoteReply (quoteBy m q) in (r.words ≤ 19968) × (r.bytes ≤ 96775) × (r.ceiling ≤ 12800001408)
-  largest zero e = let w : Whole m = whole m e in (table-most m w.head.n-small w.head.L-small, longest-most m w, ceiling-most m (passed m e))
+  largest : (q : ℕ) → model_questions m ≡ q → let r = quote_reply (quote_by m q) in (r.words ≤ 19968) × (r.bytes ≤ 96775) × (r.ceiling ≤ 12800001408)
+  largest zero e = let w : Whole m = whole m e in (table_most m w.head.n_small w.head.L_small, longest_most m w, ceiling-most m (passed m e))
   largest (suc q) e = (omega arith, omega arith, omega arith)
 
-  same_by : (q : ℕ) → (quoteReply (quoteBy m q)).ceiling ≡ (ceilingReply (ceilingBy m q)).value
+  same_by : (q : ℕ) → (quote_reply (quote_by m q)).ceiling ≡ (ceiling_reply (ceiling_by m q)).value
   same_by zero = refl
   same_by (suc q) = refl
 
-  same-ceiling : (quoted m).ceiling ≡ ceiling m
-  unfolding quoteCall ceilingCall
-  same-ceiling = same_by (modelQuestions m)
+  same_ceiling : (quoted m).ceiling ≡ ceiling m
+  unfolding quote_call ceiling_call
+  same_ceiling = same_by (model_questions m)
 
   module _ (limit : ℕ) (table work : List ℤ) where
     abbrev asked : ℕ
-    asked = analysisQuestions m table work
+    asked = analysis_questions m table work
 
-    passes-by : (q : ℕ) → asked ≡ q → (replyOf (analyseBy q m limit table work)).value ≤ (quoted m).ceiling
-    passes-by zero e = omega (arith, passes-within m (model-asked m table work e) limit, ceiling-is (model-asked m table work e))
-    passes-by (suc q) e = omega arith
+    passes_by : (q : ℕ) → asked ≡ q → (reply_of (analyse_by q m limit table work)).value ≤ (quoted m).ceiling
+    passes_by zero e = omega (arith, passes_within m (model_asked m table work e) limit, ceiling_is (model_asked m table work e))
+    passes_by (suc q) e = omega arith
 
-    passes : (replyOf (analyseCall m limit table work)).value ≤ (quoted m).ceiling
-    unfolding analyseCall
-    passes = passes-by asked refl
+    passes : (reply_of (analyse_call m limit table work)).value ≤ (quoted m).ceiling
+    unfolding analyse_call
+    passes = passes_by asked refl
 
-    charge-by : (d : Desk) (q : ℕ) → deskQuestions d m limit table work ≡ q → (deskBy q d m limit table work).desk.passes ≤ d.passes + (quoted m).ceiling
-    unfolding deskQuestions
-    charge-by d zero e = let asks : modelQuestions m ≡ 0 = model-asked m table work (then-both asked _ e).0 in omega (arith, passes-within m asks limit, ceiling-is asks)
-    charge-by d (suc q) e = omega arith
+    charge_by : (d : Desk) (q : ℕ) → desk_questions d m limit table work ≡ q → (desk_by q d m limit table work).desk.passes ≤ d.passes + (quoted m).ceiling
+    unfolding desk_questions
+    charge_by d zero e = let asks : model_questions m ≡ 0 = model_asked m table work (then_both asked _ e).0 in omega (arith, passes_within m asks limit, ceiling_is asks)
+    charge_by d (suc q) e = omega arith
 
-    charge : (d : Desk) → (deskCall d m limit table work).desk.passes ≤ d.passes + (quoted m).ceiling
-    unfolding deskCall
-    charge d = charge-by d (deskQuestions d m limit table work) refl
+    charge : (d : Desk) → (desk_call d m limit table work).desk.passes ≤ d.passes + (quoted m).ceiling
+    unfolding desk_call
+    charge d = charge_by d (desk_questions d m limit table work) refl
 
     -- an answered call
     module _ (h : 100 ≤ answers m limit table work) where
-      asks : modelQuestions m ≡ 0
-      asks = model-yes m limit table work h
+      asks : model_questions m ≡ 0
+      asks = model_yes m limit table work h
 
-      is-answered : analyseCall m limit table work ≡ answered m (analysis m limit) table work
-      is-answered = by_code m limit table work h
+      is_answered : analyse_call m limit table work ≡ answered m (analysis m limit) table work
+      is_answered = by_code m limit table work h
 
-      answer-words : length (answerTable m (analyseCall m limit table work).answer) ≡ (quoted m).words
-      unfolding answerTable
-      answer-words = ap (λ (a : Analysed). length (answerTable m a.answer)) is-answered ∙ after-length m (passesOf (analysis m limit)) ∙ sym (words_are asks)
+      answer_words : length (answer_table m (analyse_call m limit table work).answer) ≡ (quoted m).words
+      unfolding answer_table
+      answer_words = ap (λ (a : Analysed). length (answer_table m a.answer)) is_answered ∙ after_length m (passes_of (analysis m limit)) ∙ sym (words_are asks)
 
       taken : (file : List ℕ) → (quoted m).bytes ≤ length file
-          → let t = (analyseCall m limit table work).table in writeReply (writeTableCall m t file) ≡ record { code = 100; value = length (tableFile m t) }
-      unfolding answerTable
-      taken file r = rw is-answered (ap writeReply
-          (table-back.written m (onto (tableAfter m k) table) file asks (long-enough m (onto (tableAfter m k) table) (piecesAfter m k) (onto-begins m k table)) ok (omega (arith, bytes-are asks))))
+          → let t = (analyse_call m limit table work).table in write_reply (write_table_call m t file) ≡ record { code = 100; value = length (table_file m t) }
+      unfolding answer_table
+      taken file r = rw is_answered (ap write_reply
+          (table_back.written m (onto (table_after m k) table) file asks (long_enough m (onto (table_after m k) table) (pieces_after m k) (onto_begins m k table)) ok (omega (arith, bytes_are asks))))
         where
           k : ℕ
-          k = passesOf (analysis m limit)
+          k = passes_of (analysis m limit)
 
-          ok : T (tableOk m (onto (tableAfter m k) table))
-          ok = made_ok m (passed m asks) (onto (tableAfter m k) table) (piecesAfter m k) (onto-begins m k table) (pieces-ok m (passed m asks) k)
+          ok : T (table_ok m (onto (table_after m k) table))
+          ok = made_ok m (passed m asks) (onto (table_after m k) table) (pieces_after m k) (onto_begins m k table) (pieces_ok m (passed m asks) k)
 
-    behind-by : (q : ℕ) → asked ≡ q → drop (quoted m).words (analyseBy q m limit table work).table ≡ drop (quoted m).words table
-    unfolding answerTable onto
-    behind-by zero e =
-        let k : ℕ = passesOf (analysis m limit) in
-        rw (words_are (model-asked m table work e) ∙ sym (after-length m k)) (drop_at (tableAfter m k) (drop (length (tableAfter m k)) table) (length (tableAfter m k)) refl)
-    behind-by (suc q) e = refl
+    behind_by : (q : ℕ) → asked ≡ q → drop (quoted m).words (analyse_by q m limit table work).table ≡ drop (quoted m).words table
+    unfolding answer_table onto
+    behind_by zero e =
+        let k : ℕ = passes_of (analysis m limit) in
+        rw (words_are (model_asked m table work e) ∙ sym (after_length m k)) (drop_at (table_after m k) (drop (length (table_after m k)) table) (length (table_after m k)) refl)
+    behind_by (suc q) e = refl
 
-    behind : drop (quoted m).words (analyseCall m limit table work).table ≡ drop (quoted m).words table
-    unfolding analyseCall
-    behind = behind-by asked refl
+    behind : drop (quoted m).words (analyse_call m limit table work).table ≡ drop (quoted m).words table
+    unfolding analyse_call
+    behind = behind_by asked refl
 
-    enough : modelQuestions m ≡ 0 → (quoted m).words ≤ length table → (quoted m).words ≤ length work → 100 ≤ answers m limit table work
+    enough : model_questions m ≡ 0 → (quoted m).words ≤ length table → (quoted m).words ≤ length work → 100 ≤ answers m limit table work
     enough asks a b =
-        let r : Room m table work = record { table-room = omega (arith, words_are asks); work-room = omega (arith, words_are asks) } in
-        subst (λ (x : Analysed). 100 ≤ (replyOf x).code) (sym ((first-demand m).with-table asks limit table work r)) (answer-code m limit)
+        let r : Room m table work = record { table_room = omega (arith, words_are asks); work_room = omega (arith, words_are asks) } in
+        subst (λ (x : Analysed). 100 ≤ (reply_of x).code) (sym ((first_demand m).with_table asks limit table work r)) (answer_code m limit)
 
-  none-exceeds : (limit : ℕ) (table work : List ℤ) → NoneExceeds m limit table work
-  none-exceeds limit table work = record {
-    passes-within = passes limit table work;
-    charge-within = charge limit table work;
-    table-words = answer-words limit table work;
-    behind-words = behind limit table work;
-    file-within = λ h. omega (arith, file-most m (analyseCall m limit table work).table, bytes-are (asks limit table work h));
-    file-taken = λ file h. taken limit table work h file;
+  none_exceeds : (limit : ℕ) (table work : List ℤ) → NoneExceeds m limit table work
+  none_exceeds limit table work = record {
+    passes_within = passes limit table work;
+    charge_within = charge limit table work;
+    table_words = answer_words limit table work;
+    behind_words = behind limit table work;
+    file_within = λ h. omega (arith, file_most m (analyse_call m limit table work).table, bytes_are (asks limit table work h));
+    file_taken = λ file h. taken limit table work h file;
   }
 
-pub quote-kept : (m : List ℤ) → QuoteDemand m
-unfolding quoteCall
-quote-kept m = record {
-  is-quoted = λ asks. ap (λ (q : ℕ). (quoteReply (quoteBy m q)).code) asks;
-  refused-by = λ q e. ap (λ (q : ℕ). quoteReply (quoteBy m q)) e;
-  none-exceeds = none-exceeds m;
-  exact-words = λ asks limit table work. (
-    λ h. let e = (first-demand m).only-passing limit table work h in (omega (arith, words_are m asks, table-room m table work e), omega (arith, words_are m asks, work-room m table work e)),
+pub quote_kept : (m : List ℤ) → QuoteDemand m
+unfolding quote_call
+quote_kept m = record {
+  is_quoted = λ asks. ap (λ (q : ℕ). (quote_reply (quote_by m q)).code) asks;
+  refused_by = λ q e. ap (λ (q : ℕ). quote_reply (quote_by m q)) e;
+  none_exceeds = none_exceeds m;
+  exact_words = λ asks limit table work. (
+    λ h. let e = (first_demand m).only_passing limit table work h in (omega (arith, words_are m asks, table_room m table work e), omega (arith, words_are m asks, work_room m table work e)),
     λ r. enough m limit table work asks r.0 r.1,
   );
   exact_bytes = λ asks room. (
-    λ h. omega (arith, bytes-are m asks, leb→le (longestTableFile m) room (ask-yes (leb (longestTableFile m) room) 39 (omega arith) h)),
-    λ h. ask-intro (leb (longestTableFile m) room) 39 (le→leb (longestTableFile m) room (omega (arith, bytes-are m asks))),
+    λ h. omega (arith, bytes_are m asks, leb→le (longest_table_file m) room (ask_yes (leb (longest_table_file m) room) 39 (omega arith) h)),
+    λ h. ask_intro (leb (longest_table_file m) room) 39 (le→leb (longest_table_file m) room (omega (arith, bytes_are m asks))),
   );
-  every-file = λ asks t. omega (arith, file-most m t, bytes-are m asks);
-  same-ceiling = same-ceiling m;
-  by-pieces = λ asks. ceiling-is m asks ∙ ceiling-by-pieces m asks;
-  largest = largest m (modelQuestions m) refl;
+  every_file = λ asks t. omega (arith, file_most m t, bytes_are m asks);
+  same_ceiling = same_ceiling m;
+  by_pieces = λ asks. ceiling_is m asks ∙ ceiling_by_pieces_lem m asks;
+  largest = largest m (model_questions m) refl;
 }

@@ -4,16 +4,16 @@ use mathlib.Core.Path.{◌≡◌, refl}
 use mathlib.Core.List.{List, [], ◌∷◌}
 use Prim.Native.Nat.{ℕ}
 use lib.IntN.{ℤ, pos}
-use Rattle.integers.specs.Counted.{cat, all_below, anyBelow, sumBelow}
+use Rattle.integers.specs.Counted.{cat, all_below, any_below, sum_below}
 use Rattle.plant.specs.Ask.{◌then◌, first}
-use Rattle.plant.specs.Box.{low, high, boxBy, boxAt, ordered}
-use Rattle.plant.specs.Model.{locationAt, invariant, rate, startFlag, startBox, switchAt, source, target, wallVariable, sourceSide, targetSide, resetMask, masked, guard, reset, forbiddenAt, forbiddenLocation, forbiddenBox, cut_at, cutVariable, cutValue, cutFrom, cut_of, modelSize, wall}
-use Rattle.plant.specs.Questions.{boxOk, insideOk, zerosOk, startOk, locationQuestions, placesOk, boxesOk, singleAt, singleOk, sourceWall, targetWall, guardOk, levelAfter, landsOk, switchQuestions, forbiddenQuestion, strictlyInside, cutOk, cutQuestion, rangesQuestions, editionQuestion, recordsQuestions, modelQuestions}
-use Rattle.plant.specs.Pieces.{piecesPerFace, perFace, anyCut, pieces}
-use Rattle.plant.specs.Tables.{piecesBefore, pieceCount, tableSize, longestTableFile, width, allWidths, otherWidths, uncutCeiling, locationCeiling, ceilingOf}
-use Rattle.plant.specs.Cases.{plantP, P}
-use Rattle.plant.proofs.Samples.{plantC, uncutC, cutC, plantD, no_cut, cut-y}
-use Rattle.orders.specs.Quotes.{QuoteReply, quoteCall, quoted}
+use Rattle.plant.specs.Box.{low, high, box_by, box_at, ordered}
+use Rattle.plant.specs.Model.{location_at, invariant, rate, start_flag, start_box, switch_at, source, target, wall_variable, source_side, target_side, reset_mask, masked, guard, reset, forbidden_at, forbidden_location, forbidden_box, cut_at, cut_variable, cut_value, cut_from, cut_of, model_size, wall}
+use Rattle.plant.specs.Questions.{box_ok, inside_ok, zeros_ok, start_ok, location_questions, places_ok, boxes_ok, single_at, single_ok, source_wall, target_wall, guard_ok, level_after, lands_ok, switch_questions, forbidden_question, strictly_inside, cut_ok, cut_question, ranges_questions, edition_question, records_questions, model_questions}
+use Rattle.plant.specs.Pieces.{pieces_per_face, per_face, any_cut, pieces}
+use Rattle.plant.specs.Tables.{pieces_before, piece_count, table_size, longest_table_file, width, all_widths, other_widths, uncut_ceiling, location_ceiling, ceiling_of}
+use Rattle.plant.specs.Cases.{plant_p, P}
+use Rattle.plant.proofs.Samples.{plant_c, uncut_c, cut_c, plant_d, no_cut, cut_y}
+use Rattle.orders.specs.Quotes.{QuoteReply, quote_call, quoted}
 
 abbrev figures : (words bytes ceiling : ℕ) → QuoteReply
 figures words bytes ceiling = record { code = 100; words = words; bytes = bytes; ceiling = ceiling }
@@ -34,48 +34,48 @@ triple high cut =
 
 record Quotes : Type 0 where
   -- plant P: four faces of five words, 7 + 4 × 27 bytes, 4 + 2 × 20
-  P-quoted : quoted P ≡ figures 20 115 44
+  P_quoted : quoted P ≡ figures 20 115 44
   -- x and y 0..6, uncut and cut at x 2: a cut in x divides the faces of y, each of which had the width 6 of x
-  C-whole : quoted uncutC ≡ figures 20 115 28
-  C-cut : quoted cutC ≡ figures 40 255 30
+  C_whole : quoted uncut_c ≡ figures 20 115 28
+  C_cut : quoted cut_c ≡ figures 40 255 30
   -- two locations of x 0..4, y 0..8, the first cut at y 5: every field is the longer one
-  D-cut : quoted (plantD cut-y no_cut) ≡ figures 60 379 58
-  D-whole : quoted (plantD no_cut no_cut) ≡ figures 40 223 56
+  D_cut : quoted (plant_d cut_y no_cut) ≡ figures 60 379 58
+  D_whole : quoted (plant_d no_cut no_cut) ≡ figures 40 223 56
   -- one variable: 2(n - 1) is 0, and a cut adds no piece that may be present
   one : quoted (single 9 no_cut) ≡ figures 6 45 2
-  one-cut : quoted (single 9 (pos 0 ∷ pos 4 ∷ [])) ≡ figures 12 99 2
-  one-point : quoted (single 0 no_cut) ≡ figures 6 45 2
+  one_cut : quoted (single 9 (pos 0 ∷ pos 4 ∷ [])) ≡ figures 12 99 2
+  one_point : quoted (single 0 no_cut) ≡ figures 6 45 2
   -- three: 6 + 4 × 111; a cut adds 4 + 2 × what the two others have
   three : quoted (triple 1 no_cut) ≡ figures 42 217 450
-  three-y : quoted (triple 1 (pos 1 ∷ pos 5 ∷ [])) ≡ figures 84 475 656
-  three-z : quoted (triple 1 (pos 2 ∷ pos 5 ∷ [])) ≡ figures 84 475 476
+  three_y : quoted (triple 1 (pos 1 ∷ pos 5 ∷ [])) ≡ figures 84 475 656
+  three_z : quoted (triple 1 (pos 2 ∷ pos 5 ∷ [])) ≡ figures 84 475 476
   -- x at one level
   flat : quoted (triple 0 no_cut) ≡ figures 42 217 446
-  flat-y : quoted (triple 0 (pos 1 ∷ pos 9 ∷ [])) ≡ figures 84 475 650
+  flat_y : quoted (triple 0 (pos 1 ∷ pos 9 ∷ [])) ≡ figures 84 475 650
   -- refusals
   no_words : quoted [] ≡ refusal 5
   seven : quoted (pos 7 ∷ pos 1 ∷ pos 0 ∷ pos 0 ∷ pos 3 ∷ []) ≡ refusal 2
-  edition-3 : quoted (pos 1 ∷ pos 1 ∷ pos 0 ∷ pos 0 ∷ pos 3 ∷ []) ≡ refusal 43
-  cut-at-the-wall : quoted (single 9 (pos 0 ∷ pos 9 ∷ [])) ≡ refusal 46
+  edition_3 : quoted (pos 1 ∷ pos 1 ∷ pos 0 ∷ pos 0 ∷ pos 3 ∷ []) ≡ refusal 43
+  cut_at_the_wall : quoted (single 9 (pos 0 ∷ pos 9 ∷ [])) ≡ refusal 46
 
 quotes : Quotes
-unfolding cat all_below anyBelow sumBelow ◌then◌ first low high boxBy boxAt ordered locationAt invariant rate startFlag startBox switchAt source target wallVariable sourceSide targetSide resetMask masked guard reset forbiddenAt forbiddenLocation forbiddenBox cut_at cutVariable cutValue cutFrom cut_of modelSize wall boxOk insideOk zerosOk startOk locationQuestions placesOk boxesOk singleAt singleOk sourceWall targetWall guardOk levelAfter landsOk switchQuestions forbiddenQuestion strictlyInside cutOk cutQuestion rangesQuestions editionQuestion recordsQuestions modelQuestions piecesPerFace perFace anyCut pieces piecesBefore pieceCount tableSize longestTableFile width allWidths otherWidths uncutCeiling locationCeiling ceilingOf plantP P plantC uncutC cutC plantD quoteCall single triple
+unfolding cat all_below any_below sum_below ◌then◌ first low high box_by box_at ordered location_at invariant rate start_flag start_box switch_at source target wall_variable source_side target_side reset_mask masked guard reset forbidden_at forbidden_location forbidden_box cut_at cut_variable cut_value cut_from cut_of model_size wall box_ok inside_ok zeros_ok start_ok location_questions places_ok boxes_ok single_at single_ok source_wall target_wall guard_ok level_after lands_ok switch_questions forbidden_question strictly_inside cut_ok cut_question ranges_questions edition_question records_questions model_questions pieces_per_face per_face any_cut pieces pieces_before piece_count table_size longest_table_file width all_widths other_widths uncut_ceiling location_ceiling ceiling_of plant_p P plant_c uncut_c cut_c plant_d quote_call single triple
 quotes = record {
-  P-quoted = refl;
-  C-whole = refl;
-  C-cut = refl;
-  D-cut = refl;
-  D-whole = refl;
+  P_quoted = refl;
+  C_whole = refl;
+  C_cut = refl;
+  D_cut = refl;
+  D_whole = refl;
   one = refl;
-  one-cut = refl;
-  one-point = refl;
+  one_cut = refl;
+  one_point = refl;
   three = refl;
-  three-y = refl;
-  three-z = refl;
+  three_y = refl;
+  three_z = refl;
   flat = refl;
-  flat-y = refl;
+  flat_y = refl;
   no_words = refl;
   seven = refl;
-  edition-3 = refl;
-  cut-at-the-wall = refl;
+  edition_3 = refl;
+  cut_at_the_wall = refl;
 }

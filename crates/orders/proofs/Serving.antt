@@ -10,11 +10,11 @@ use lib.IntN.{ℤ}
 use Rattle.plant.specs.Ask.{ask}
 use Rattle.plant.specs.declared.Answer.{Answer}
 use Rattle.plant.specs.declared.Answer.TheVariants.{Refused}
-use Rattle.plant.specs.Calls.{Analysed, replyOf, analysis, passesOf, analysisQuestions, answered}
-use Rattle.plant.proofs.Asks.{go, halt, ask-intro, then-intro}
-use Rattle.plant.proofs.Search.{within-limit}
+use Rattle.plant.specs.Calls.{Analysed, reply_of, analysis, passes_of, analysis_questions, answered}
+use Rattle.plant.proofs.Asks.{go, halt, ask_intro, then_intro}
+use Rattle.plant.proofs.Search.{within_limit}
 use Rattle.orders.specs.declared.Desk.{Desk}
-use Rattle.orders.specs.Desks.{most, countersOk, deskQuestions, Served, counted, deskBy, deskCall}
+use Rattle.orders.specs.Desks.{most, counters_ok, desk_questions, Served, counted, desk_by, desk_call}
 
 -- ---- 22, asked of the counters without a sum that could overflow
 
@@ -27,22 +27,22 @@ both_true true b e = (refl, e)
 both_true false b e = absurd (subst T (sym e) tt)
 
 module _ (d : Desk) (limit : ℕ) where
-  pub counters-is : limit ≤ most → (ltb d.jobs most && leb d.passes (most - limit)) ≡ countersOk d limit
-  unfolding countersOk
-  counters-is h =
+  pub counters_is : limit ≤ most → (ltb d.jobs most && leb d.passes (most - limit)) ≡ counters_ok d limit
+  unfolding counters_ok
+  counters_is h =
       ap₂ ◌&&◌
       (decide (ltb d.jobs most) (leb (d.jobs + 1) most) (λ e. lt-ltb d.jobs most (omega (arith, leb-true (d.jobs + 1) most e))) (λ e. le-ltb d.jobs most (omega (arith, leb-false (d.jobs + 1) most e))))
       (decide (leb d.passes (most - limit)) (leb (d.passes + limit) most) (λ e. le-leb d.passes (most - limit) (omega (arith, h, leb-true (d.passes + limit) most e))) (λ e. lt-leb d.passes (most - limit) (omega (arith, h, leb-false (d.passes + limit) most e))))
 
   -- the counters hold what is added
-  module _ (room : countersOk d limit ≡ true) where
-    pub jobs-fit : d.jobs + 1 ≤ most
-    unfolding countersOk
-    jobs-fit = leb-true (d.jobs + 1) most (both_true (leb (d.jobs + 1) most) (leb (d.passes + limit) most) room).0
+  module _ (room : counters_ok d limit ≡ true) where
+    pub jobs_fit : d.jobs + 1 ≤ most
+    unfolding counters_ok
+    jobs_fit = leb-true (d.jobs + 1) most (both_true (leb (d.jobs + 1) most) (leb (d.passes + limit) most) room).0
 
-    pub limit-fits : d.passes + limit ≤ most
-    unfolding countersOk
-    limit-fits = leb-true (d.passes + limit) most (both_true (leb (d.jobs + 1) most) (leb (d.passes + limit) most) room).1
+    pub limit_fits : d.passes + limit ≤ most
+    unfolding counters_ok
+    limit_fits = leb-true (d.passes + limit) most (both_true (leb (d.jobs + 1) most) (leb (d.passes + limit) most) room).1
 
 -- ---- the cases
 
@@ -51,37 +51,37 @@ module _ (d : Desk) (m : List ℤ) (limit : ℕ) (table work : List ℤ) where
   abbrev unmoved : ℕ → Served
   unmoved q = record { desk = d; analysed = record { answer = Refused q; table = table; work = work } }
 
-  unmoved-by : (q : ℕ) → (q ≡ 0 → ⊥) → unmoved q ≡ deskBy q d m limit table work
-  unmoved-by zero n = absurd (n refl)
-  unmoved-by (suc q) n = refl
+  unmoved_by : (q : ℕ) → (q ≡ 0 → ⊥) → unmoved q ≡ desk_by q d m limit table work
+  unmoved_by zero n = absurd (n refl)
+  unmoved_by (suc q) n = refl
 
-  refused-with : (q : ℕ) → q ≡ deskQuestions d m limit table work → (q ≡ 0 → ⊥) → unmoved q ≡ deskCall d m limit table work
-  unfolding deskCall
-  refused-with q e n = unmoved-by q n ∙ ap (λ (x : ℕ). deskBy x d m limit table work) e
+  refused_with : (q : ℕ) → q ≡ desk_questions d m limit table work → (q ≡ 0 → ⊥) → unmoved q ≡ desk_call d m limit table work
+  unfolding desk_call
+  refused_with q e n = unmoved_by q n ∙ ap (λ (x : ℕ). desk_by x d m limit table work) e
 
-  pub desk-refused : (q : ℕ) → q ≡ analysisQuestions m table work → (q ≡ 0 → ⊥) → unmoved q ≡ deskCall d m limit table work
-  unfolding deskQuestions
-  desk-refused q e n = refused-with q (halt _ e n) n
+  pub desk_refused : (q : ℕ) → q ≡ analysis_questions m table work → (q ≡ 0 → ⊥) → unmoved q ≡ desk_call d m limit table work
+  unfolding desk_questions
+  desk_refused q e n = refused_with q (halt _ e n) n
 
-  module _ (yes : analysisQuestions m table work ≡ 0) where
-    pub desk-full : countersOk d limit ≡ false → unmoved 22 ≡ deskCall d m limit table work
-    unfolding deskQuestions
-    desk-full h = refused-with 22 (go refl yes (ap (λ (b : Bool). ask b 22) (sym h))) (λ e. omega arith)
+  module _ (yes : analysis_questions m table work ≡ 0) where
+    pub desk_full : counters_ok d limit ≡ false → unmoved 22 ≡ desk_call d m limit table work
+    unfolding desk_questions
+    desk_full h = refused_with 22 (go refl yes (ap (λ (b : Bool). ask b 22) (sym h))) (λ e. omega arith)
 
     -- an answer a of the analysis, with k passes made
-    module _ (room : countersOk d limit ≡ true) (a : Answer) (t w : List ℤ) (is : ◌≡◌ {A = Analysed} (record { answer = a; table = t; work = w }) (answered m (analysis m limit) table work)) (k : ℕ) (made : k ≡ passesOf a) where
-      pub k-within : k ≤ limit
-      k-within =
-          let e : passesOf a ≡ passesOf (analysis m limit) = ap (λ (x : Analysed). (replyOf x).value) is in
-          omega (arith, made, e, within-limit m limit)
+    module _ (room : counters_ok d limit ≡ true) (a : Answer) (t w : List ℤ) (is : ◌≡◌ {A = Analysed} (record { answer = a; table = t; work = w }) (answered m (analysis m limit) table work)) (k : ℕ) (made : k ≡ passes_of a) where
+      pub k_within : k ≤ limit
+      k_within =
+          let e : passes_of a ≡ passes_of (analysis m limit) = ap (λ (x : Analysed). (reply_of x).value) is in
+          omega (arith, made, e, within_limit m limit)
 
-      all_yes : 0 ≡ deskQuestions d m limit table work
-      unfolding deskQuestions
-      all_yes = sym (then-intro yes (ask-intro (countersOk d limit) 22 (subst T (sym room) tt)))
+      all_yes : 0 ≡ desk_questions d m limit table work
+      unfolding desk_questions
+      all_yes = sym (then_intro yes (ask_intro (counters_ok d limit) 22 (subst T (sym room) tt)))
 
-      pub desk-answered : ◌≡◌ {A = Served} (record { desk = record { jobs = d.jobs + 1; passes = d.passes + k }; analysed = record { answer = a; table = t; work = w } }) (deskCall d m limit table work)
-      unfolding deskCall
-      desk-answered =
+      pub desk_answered : ◌≡◌ {A = Served} (record { desk = record { jobs = d.jobs + 1; passes = d.passes + k }; analysed = record { answer = a; table = t; work = w } }) (desk_call d m limit table work)
+      unfolding desk_call
+      desk_answered =
           ap (λ (x : ℕ). record { desk = record { jobs = d.jobs + 1; passes = d.passes + x }; analysed = record { answer = a; table = t; work = w } }) made
           ∙ ap (counted d) is
-          ∙ ap (λ (x : ℕ). deskBy x d m limit table work) all_yes
+          ∙ ap (λ (x : ℕ). desk_by x d m limit table work) all_yes

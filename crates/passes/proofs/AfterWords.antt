@@ -9,24 +9,24 @@ use Rattle.integers.specs.Words.{word}
 use Rattle.integers.proofs.Signed.{fits32}
 use Rattle.plant.specs.declared.Interval.{Interval}
 use Rattle.plant.specs.Box.{low, high}
-use Rattle.plant.specs.Steps.{lowAfter, highAfter, boxAfter}
-use Rattle.plant.proofs.Boxes.{low-boxBy, high-boxBy}
-use Rattle.delays.proofs.Small.{in-levels}
-use Rattle.steps.proofs.Bounds.{low-after-word, high-after-word}
+use Rattle.plant.specs.Steps.{low_after, high_after, box_after}
+use Rattle.plant.proofs.Boxes.{low-box_by, high-box_by}
+use Rattle.delays.proofs.Small.{in_levels}
+use Rattle.steps.proofs.Bounds.{low_after_word, high_after_word}
 use Rattle.passes.specs.Joining.{AfterJoin}
 
 module _ (n : ℕ) (inv rate bounds : List ℤ) (d : ℕ) (b : ℤ) (t : Interval) (i : ℕ) (l : i < n) where
-  pub low_word : lowAfter n inv rate bounds d b t i ≡ word (boxAfter n inv rate bounds d b t) (2 * i)
-  unfolding low boxAfter
-  low_word = sym (low-boxBy n (lowAfter n inv rate bounds d b t) (highAfter n inv rate bounds d b t) i l)
+  pub low_word : low_after n inv rate bounds d b t i ≡ word (box_after n inv rate bounds d b t) (2 * i)
+  unfolding low box_after
+  low_word = sym (low-box_by n (low_after n inv rate bounds d b t) (high_after n inv rate bounds d b t) i l)
 
-  pub high_word : highAfter n inv rate bounds d b t i ≡ word (boxAfter n inv rate bounds d b t) (2 * i + 1)
-  unfolding high boxAfter
-  high_word = sym (high-boxBy n (lowAfter n inv rate bounds d b t) (highAfter n inv rate bounds d b t) i l)
+  pub high_word : high_after n inv rate bounds d b t i ≡ word (box_after n inv rate bounds d b t) (2 * i + 1)
+  unfolding high box_after
+  high_word = sym (high-box_by n (low_after n inv rate bounds d b t) (high_after n inv rate bounds d b t) i l)
 
   module _ (ok : AfterJoin n inv rate bounds b t) where
-    pub low-mag : mag (lowAfter n inv rate bounds d b t i) < 2147483648
-    low-mag = (fits32 {z = lowAfter n inv rate bounds d b t i} (omega (arith, low-after-word n inv rate bounds d b t i (ok.inv-in i l) (ok.rate-in i l) (in-levels ok.inv-in ok.bounds-in i l) ok.wall-in ok.small))).sfits
+    pub low_mag : mag (low_after n inv rate bounds d b t i) < 2147483648
+    low_mag = (fits32 {z = low_after n inv rate bounds d b t i} (omega (arith, low_after_word n inv rate bounds d b t i (ok.inv_in i l) (ok.rate_in i l) (in_levels ok.inv_in ok.bounds_in i l) ok.wall_in ok.small))).sfits
 
-    pub high-mag : mag (highAfter n inv rate bounds d b t i) < 2147483648
-    high-mag = (fits32 {z = highAfter n inv rate bounds d b t i} (omega (arith, high-after-word n inv rate bounds d b t i (ok.inv-in i l) (ok.rate-in i l) (in-levels ok.inv-in ok.bounds-in i l) ok.wall-in ok.small))).sfits
+    pub high_mag : mag (high_after n inv rate bounds d b t i) < 2147483648
+    high_mag = (fits32 {z = high_after n inv rate bounds d b t i} (omega (arith, high_after_word n inv rate bounds d b t i (ok.inv_in i l) (ok.rate_in i l) (in_levels ok.inv_in ok.bounds_in i l) ok.wall_in ok.small))).sfits

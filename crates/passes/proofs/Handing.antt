@@ -8,243 +8,243 @@ use native.Mathlib.Nat.{mul-le-mul_right}
 use native.Mathlib.Omega.{arith}
 use lib.IntN.{ℤ, pos, negsuc}
 use lib.ListN.{length, take}
-use Rattle.integers.specs.Words.{word, eqZ}
+use Rattle.integers.specs.Words.{word, eq_z}
 use Rattle.integers.proofs.Signed.{between}
-use Rattle.integers.proofs.Tests.{true-is}
-use Rattle.integers.proofs.Counted.{eqZ-eq}
-use Rattle.integers.proofs.Buffers.{cat-ext}
-use Rattle.plant.specs.Box.{low, high, Ordered, boxAt, hull, Face, absent, present, faceWords, join}
-use Rattle.plant.specs.Model.{n#, Cut, uncut, cutBy, cutFrom, variableOf}
-use Rattle.plant.specs.Pieces.{piecesPerFace}
+use Rattle.integers.proofs.Tests.{true_is}
+use Rattle.integers.proofs.Counted.{eq_z_eq}
+use Rattle.integers.proofs.Buffers.{cat_ext}
+use Rattle.plant.specs.Box.{low, high, Ordered, box_at, hull, Face, absent, present, face_words, join}
+use Rattle.plant.specs.Model.{n#, Cut, uncut, cut_by, cut_from, variable_of}
+use Rattle.plant.specs.Pieces.{pieces_per_face}
 use Rattle.plant.specs.declared.Interval.{Interval}
 use Rattle.plant.specs.declared.Delays.{Delays}
 use Rattle.plant.specs.declared.Delays.TheVariants.{Between, Never}
-use Rattle.plant.specs.Delays.{delaysTo, bothDelays, orNever}
-use Rattle.plant.specs.Steps.{lowAfter, highAfter, boxAfter, faceAfter, wallDelays, wallStep, switchStep}
-use Rattle.plant.specs.Tables.{faceSize, faceRead, startPart}
-use Rattle.plant.proofs.Boxes.{FaceAll, length-boxBy, inside-ordered, not-empty}
-use Rattle.plant.proofs.Inside.{not-empty-after}
+use Rattle.plant.specs.Delays.{delays_to, both_delays, or_never}
+use Rattle.plant.specs.Steps.{low_after, high_after, box_after, face_after, wall_delays, wall_step, switch_step}
+use Rattle.plant.specs.Tables.{face_size, face_read, start_part}
+use Rattle.plant.proofs.Boxes.{FaceAll, length-box_by, inside_ordered, not_empty}
+use Rattle.plant.proofs.Inside.{not_empty_after}
 use Rattle.plant.proofs.Passed.{passed}
-use Rattle.plant.proofs.Pieces.{face-of-number, index-of-number}
+use Rattle.plant.proofs.Pieces.{face_of_number, index_of_number}
 use Rattle.plant.specs.declared.End.{End}
 use Rattle.delays.specs.Ranges.{Level, LevelAt, RateAt, Levels, InInvariant, SmallEnd, SmallInterval}
 use Rattle.delays.specs.Windows.{up_to}
-use Rattle.delays.proofs.Small.{into-small, in-levels}
-use Rattle.delays.proofs.WindowEnd.{wall-small}
-use Rattle.tables.specs.Room.{faceIn, AreFaces, joinedEach, cutEach, CutVariable, PiecesJoinable}
-use Rattle.tables.proofs.Faces.{join-absent, join-widened}
-use Rattle.tables.proofs.Cutting.{one-joinable, one-joined}
+use Rattle.delays.proofs.Small.{into_small, in_levels}
+use Rattle.delays.proofs.WindowEnd.{wall_small}
+use Rattle.tables.specs.Room.{face_in, AreFaces, joined_each, cut_each, CutVariable, PiecesJoinable}
+use Rattle.tables.proofs.Faces.{join_absent, join_widened}
+use Rattle.tables.proofs.Cutting.{one_joinable, one_joined}
 use Rattle.steps.specs.Ready.{WallReady, SwitchReady}
 use Rattle.steps.specs.Handing.{Handed}
-use Rattle.steps.proofs.Faces.{after-in, switch-in}
-use Rattle.passes.specs.Joining.{piecesWith, AfterJoin, WallJoin, WallsJoin, PartJoin, StartJoin, SwitchJoin, wallsFrom}
-use Rattle.passes.proofs.PartWords.{start-inside}
-use Rattle.plant.proofs.FaceWords.{read-present, read-absent}
-use Rattle.passes.proofs.Locations.{faces-length, same-joined}
+use Rattle.steps.proofs.Faces.{after_in, switch_in}
+use Rattle.passes.specs.Joining.{pieces_with, AfterJoin, WallJoin, WallsJoin, PartJoin, StartJoin, SwitchJoin, walls_from}
+use Rattle.passes.proofs.PartWords.{start_inside}
+use Rattle.plant.proofs.FaceWords.{read_present, read_absent}
+use Rattle.passes.proofs.Locations.{faces_length, same_joined}
 
 -- k faces joined with nothing stay
-pub none-joined : (n k : ℕ) (words : List ℤ) → AreFaces n k words → words ≡ joinedEach n k words (λ q. absent)
-none-joined n k words are = sym (cat-ext k (λ q. faceWords n (join n (faceIn n words q) absent)) (λ q. faceWords n (faceIn n words q)) (λ q _. ap (faceWords n) (join-absent n (faceIn n words q))) ∙ are)
+pub none_joined : (n k : ℕ) (words : List ℤ) → AreFaces n k words → words ≡ joined_each n k words (λ q. absent)
+none_joined n k words are = sym (cat_ext k (λ q. face_words n (join n (face_in n words q) absent)) (λ q. face_words n (face_in n words q)) (λ q _. ap (face_words n) (join_absent n (face_in n words q))) ∙ are)
 
 -- the step h by the answer r, with the words after, joined to the pieces of a face of wall variable d
 module _ (n : ℕ) (variable value : ℤ) (d : ℕ) (r : Bool) (after pieces : List ℤ) (h : Face) (e : h ≡ cond r (present (take (2 * n) after)) absent) where
   abbrev c : Cut
-  c = cutFrom variable value
+  c = cut_from variable value
 
-  joins-it : {exit : List ℤ} → r ≡ true → exit ≡ joinedEach n (piecesPerFace c) pieces (cutEach n c d (present (take (2 * n) after))) → exit ≡ joinedEach n (piecesPerFace c) pieces (cutEach n c d h)
-  joins-it u k = k ∙ ap (λ (g : Face). joinedEach n (piecesPerFace c) pieces (cutEach n c d g)) (sym (e ∙ ap (λ (x : Bool). cond x (present (take (2 * n) after)) absent) u))
+  joins_it : {exit : List ℤ} → r ≡ true → exit ≡ joined_each n (pieces_per_face c) pieces (cut_each n c d (present (take (2 * n) after))) → exit ≡ joined_each n (pieces_per_face c) pieces (cut_each n c d h)
+  joins_it u k = k ∙ ap (λ (g : Face). joined_each n (pieces_per_face c) pieces (cut_each n c d g)) (sym (e ∙ ap (λ (x : Bool). cond x (present (take (2 * n) after)) absent) u))
 
-  joins-nothing : r ≡ false → AreFaces n (piecesPerFace c) pieces → pieces ≡ joinedEach n (piecesPerFace c) pieces (cutEach n c d h)
-  joins-nothing u are = none-joined n (piecesPerFace c) pieces are ∙ ap (λ (g : Face). joinedEach n (piecesPerFace c) pieces (cutEach n c d g)) (sym (e ∙ ap (λ (x : Bool). cond x (present (take (2 * n) after)) absent) u))
+  joins_nothing : r ≡ false → AreFaces n (pieces_per_face c) pieces → pieces ≡ joined_each n (pieces_per_face c) pieces (cut_each n c d h)
+  joins_nothing u are = none_joined n (pieces_per_face c) pieces are ∙ ap (λ (g : Face). joined_each n (pieces_per_face c) pieces (cut_each n c d g)) (sym (e ∙ ap (λ (x : Bool). cond x (present (take (2 * n) after)) absent) u))
 
   -- its box is ordered, and can be joined to them
-  joinable : (inv : List ℤ) → r ≡ true → FaceAll (InInvariant n inv) h → n ≤ 6 → CutVariable n variable → AreFaces n (piecesPerFace c) pieces → PiecesJoinable n variable value (take (2 * n) after) pieces
+  joinable : (inv : List ℤ) → r ≡ true → FaceAll (InInvariant n inv) h → n ≤ 6 → CutVariable n variable → AreFaces n (pieces_per_face c) pieces → PiecesJoinable n variable value (take (2 * n) after) pieces
   joinable inv u all small w are =
       let b : InInvariant n inv (take (2 * n) after) = subst (FaceAll (InInvariant n inv)) (e ∙ ap (λ (x : Bool). cond x (present (take (2 * n) after)) absent) u) all in
-      record { n-small = small; box-length = b.sized; box-ordered = b.is-ordered; cut-words = w; are-pieces = are }
+      record { n_small = small; box_length = b.sized; box_ordered = b.is_ordered; cut_words_lem = w; are_pieces = are }
 
 -- the box after the delays t, to be joined to the pieces of a face
 module _ (n : ℕ) (inv rate bounds : List ℤ) (d : ℕ) (b : ℤ) (t : Interval) (variable value : ℤ) (pieces : List ℤ) (ok : AfterJoin n inv rate bounds b t)
-    (cut-words : CutVariable n variable) (are : AreFaces n (piecesPerFace (cutFrom variable value)) pieces) (out : List ℤ) (room : 2 * n ≤ length out) where
-  abbrev afterJoined : List ℤ
-  afterJoined = joinedEach n (piecesPerFace (cutFrom variable value)) pieces (cutEach n (cutFrom variable value) d (faceAfter n inv rate bounds d b (Between t)))
+    (cut_words_lem : CutVariable n variable) (are : AreFaces n (pieces_per_face (cut_from variable value)) pieces) (out : List ℤ) (room : 2 * n ≤ length out) where
+  abbrev after_joined : List ℤ
+  after_joined = joined_each n (pieces_per_face (cut_from variable value)) pieces (cut_each n (cut_from variable value) d (face_after n inv rate bounds d b (Between t)))
 
-  pub after-ready : WallReady n inv rate bounds b out × SmallInterval t
-  after-ready = (record { inv-in = ok.inv-in; rate-in = ok.rate-in; part_in = ok.bounds-in; wall-in = ok.wall-in; room = room }, ok.small)
+  pub after_ready : WallReady n inv rate bounds b out × SmallInterval t
+  after_ready = (record { inv_in = ok.inv_in; rate_in = ok.rate_in; part_in_lem = ok.bounds_in; wall_in = ok.wall_in; room = room }, ok.small)
 
-  module _ {r : Bool} {after : List ℤ} (gives : Handed n r after out (faceAfter n inv rate bounds d b (Between t))) where
-    pub after-joinable : r ≡ true → PiecesJoinable n variable value (take (2 * n) after) pieces
-    after-joinable u = joinable n variable value d r after pieces (faceAfter n inv rate bounds d b (Between t)) gives.is-face inv u (after-in n inv rate bounds d b (Between t)) ok.n-small cut-words are
+  module _ {r : Bool} {after : List ℤ} (gives : Handed n r after out (face_after n inv rate bounds d b (Between t))) where
+    pub after_joinable : r ≡ true → PiecesJoinable n variable value (take (2 * n) after) pieces
+    after_joinable u = joinable n variable value d r after pieces (face_after n inv rate bounds d b (Between t)) gives.is_face inv u (after_in n inv rate bounds d b (Between t)) ok.n_small cut_words_lem are
 
-    pub after-joins : {exit : List ℤ} → r ≡ true → exit ≡ joinedEach n (piecesPerFace (cutFrom variable value)) pieces (cutEach n (cutFrom variable value) d (present (take (2 * n) after))) → exit ≡ afterJoined
-    after-joins = joins-it n variable value d r after pieces (faceAfter n inv rate bounds d b (Between t)) gives.is-face
+    pub after_joins : {exit : List ℤ} → r ≡ true → exit ≡ joined_each n (pieces_per_face (cut_from variable value)) pieces (cut_each n (cut_from variable value) d (present (take (2 * n) after))) → exit ≡ after_joined
+    after_joins = joins_it n variable value d r after pieces (face_after n inv rate bounds d b (Between t)) gives.is_face
 
-    pub after-joins-nothing : r ≡ false → pieces ≡ afterJoined
-    after-joins-nothing u = joins-nothing n variable value d r after pieces (faceAfter n inv rate bounds d b (Between t)) gives.is-face u are
+    pub after_joins_nothing : r ≡ false → pieces ≡ after_joined
+    after_joins_nothing u = joins_nothing n variable value d r after pieces (face_after n inv rate bounds d b (Between t)) gives.is_face u are
 
-some-piece : (c : Cut) → 1 ≤ piecesPerFace c
-unfolding piecesPerFace
-some-piece uncut = omega arith
-some-piece (cutBy v x) = omega arith
+some_piece : (c : Cut) → 1 ≤ pieces_per_face c
+unfolding pieces_per_face
+some_piece uncut = omega arith
+some_piece (cut_by v x) = omega arith
 
 -- the wall step from a box whose window ends so
 module _ (n : ℕ) (inv rate bounds : List ℤ) (end : End) (d : ℕ) (b variable value : ℤ) (pieces : List ℤ) (ok : WallJoin n inv rate bounds end d b variable value pieces) where
-  abbrev wallJoined : Face → List ℤ
-  wallJoined g = joinedEach n (piecesPerFace (cutFrom variable value)) pieces (cutEach n (cutFrom variable value) d g)
+  abbrev wall_joined : Face → List ℤ
+  wall_joined g = joined_each n (pieces_per_face (cut_from variable value)) pieces (cut_each n (cut_from variable value) d g)
 
   abbrev alone : Delays
-  alone = delaysTo (low bounds d) (high bounds d) (low rate d) (high rate d) b
+  alone = delays_to (low bounds d) (high bounds d) (low rate d) (high rate d) b
 
-  bounds-levels : Levels n bounds
-  bounds-levels = in-levels ok.inv-in ok.bounds-in
+  bounds_levels : Levels n bounds
+  bounds_levels = in_levels ok.inv_in ok.bounds_in
 
-  wall-level : Level b
-  wall-level = between b ok.from_low ok.to_high (ok.inv-in d ok.d-below).low-in (ok.inv-in d ok.d-below).high-in
+  wall_level : Level b
+  wall_level = between b ok.from_low ok.to_high (ok.inv_in d ok.d_below).low_in (ok.inv_in d ok.d_below).high_in
 
-  pub delays-ready : RateAt rate d × LevelAt bounds d × Level b × SmallEnd end
-  delays-ready = (ok.rate-in d ok.d-below, bounds-levels d ok.d-below, wall-level, ok.window-end.small)
+  pub delays_ready : RateAt rate d × LevelAt bounds d × Level b × SmallEnd end
+  delays_ready = (ok.rate_in d ok.d_below, bounds_levels d ok.d_below, wall_level, ok.window_end.small)
 
   -- there is at least one piece
-  pub pieces-there : 0 < length pieces
-  pieces-there = omega (arith, ap length ok.are-pieces, faces-length n (piecesPerFace (cutFrom variable value)) (faceIn n pieces), mul-le-mul_right (faceSize n) (some-piece (cutFrom variable value)))
+  pub pieces_there : 0 < length pieces
+  pieces_there = omega (arith, ap length ok.are_pieces, faces_length n (pieces_per_face (cut_from variable value)) (face_in n pieces), mul-le-mul_right (face_size n) (some_piece (cut_from variable value)))
 
   -- its delays, as code has them
-  module _ {ds : Delays} (found : ds ≡ orNever (bothDelays alone (Between (up_to end)))) where
-    are-delays : wallDelays n inv rate bounds d b ≡ ds
-    unfolding wallDelays
-    are-delays = ap (λ (w : Delays). orNever (bothDelays alone w)) ok.window-end.is-window ∙ sym found
+  module _ {ds : Delays} (found : ds ≡ or_never (both_delays alone (Between (up_to end)))) where
+    are_delays : wall_delays n inv rate bounds d b ≡ ds
+    unfolding wall_delays
+    are_delays = ap (λ (w : Delays). or_never (both_delays alone w)) ok.window_end.is_window ∙ sym found
 
-    step_is : wallStep n inv rate bounds d b ≡ faceAfter n inv rate bounds d b ds
-    unfolding wallStep
-    step_is = ap (faceAfter n inv rate bounds d b) are-delays
+    step_is : wall_step n inv rate bounds d b ≡ face_after n inv rate bounds d b ds
+    unfolding wall_step
+    step_is = ap (face_after n inv rate bounds d b) are_delays
 
     -- none
-    pub wall-nothing : ds ≡ Never → pieces ≡ wallJoined (wallStep n inv rate bounds d b)
-    wall-nothing none = none-joined n (piecesPerFace (cutFrom variable value)) pieces ok.are-pieces ∙ ap wallJoined (sym (step_is ∙ ap (faceAfter n inv rate bounds d b) none))
+    pub wall_nothing : ds ≡ Never → pieces ≡ wall_joined (wall_step n inv rate bounds d b)
+    wall_nothing none = none_joined n (pieces_per_face (cut_from variable value)) pieces ok.are_pieces ∙ ap wall_joined (sym (step_is ∙ ap (face_after n inv rate bounds d b) none))
 
     -- an interval
     module _ {t : Interval} (some : ds ≡ Between t) where
-      pub after-ok : AfterJoin n inv rate bounds b t
-      after-ok = record {
-        n-small = ok.n-small;
-        inv-in = ok.inv-in;
-        rate-in = ok.rate-in;
-        bounds-in = ok.bounds-in;
-        wall-in = wall-level;
-        small = wall-small alone end t
-            (into-small (low bounds d) (high bounds d) (low rate d) (high rate d) b b (bounds-levels d ok.d-below).low-in (bounds-levels d ok.d-below).high-in (ok.rate-in d ok.d-below).low-in (ok.rate-in d ok.d-below).high-in wall-level wall-level)
-            ok.window-end.small (sym found ∙ some);
+      pub after_ok : AfterJoin n inv rate bounds b t
+      after_ok = record {
+        n_small = ok.n_small;
+        inv_in = ok.inv_in;
+        rate_in = ok.rate_in;
+        bounds_in = ok.bounds_in;
+        wall_in = wall_level;
+        small = wall_small alone end t
+            (into_small (low bounds d) (high bounds d) (low rate d) (high rate d) b b (bounds_levels d ok.d_below).low_in (bounds_levels d ok.d_below).high_in (ok.rate_in d ok.d_below).low_in (ok.rate_in d ok.d_below).high_in wall_level wall_level)
+            ok.window_end.small (sym found ∙ some);
       }
 
-      pub wall-after : {exit : List ℤ} → exit ≡ wallJoined (faceAfter n inv rate bounds d b (Between t)) → exit ≡ wallJoined (wallStep n inv rate bounds d b)
-      wall-after e = e ∙ ap wallJoined (sym (step_is ∙ ap (faceAfter n inv rate bounds d b) some))
+      pub wall_after : {exit : List ℤ} → exit ≡ wall_joined (face_after n inv rate bounds d b (Between t)) → exit ≡ wall_joined (wall_step n inv rate bounds d b)
+      wall_after e = e ∙ ap wall_joined (sym (step_is ∙ ap (face_after n inv rate bounds d b) some))
 
       -- its box is not empty
-      box-ordered : Ordered n (boxAfter n inv rate bounds d b t)
-      box-ordered = not-empty-after n inv rate bounds d b (inside-ordered ok.bounds-in.inside ok.bounds-in.is-ordered) ok.rate-ordered ok.bounds-in.is-ordered ok.d-below ok.from_low ok.to_high t (are-delays ∙ some)
+      box_ordered : Ordered n (box_after n inv rate bounds d b t)
+      box_ordered = not_empty_after n inv rate bounds d b (inside_ordered ok.bounds_in.inside ok.bounds_in.is_ordered) ok.rate_ordered ok.bounds_in.is_ordered ok.d_below ok.from_low ok.to_high t (are_delays ∙ some)
 
-      box-joinable : PiecesJoinable n variable value (boxAfter n inv rate bounds d b t) pieces
-      unfolding boxAfter
-      box-joinable = record { n-small = ok.n-small; box-length = length-boxBy n (lowAfter n inv rate bounds d b t) (highAfter n inv rate bounds d b t); box-ordered = box-ordered; cut-words = ok.cut-words; are-pieces = ok.are-pieces }
+      box_joinable : PiecesJoinable n variable value (box_after n inv rate bounds d b t) pieces
+      unfolding box_after
+      box_joinable = record { n_small = ok.n_small; box_length = length-box_by n (low_after n inv rate bounds d b t) (high_after n inv rate bounds d b t); box_ordered = box_ordered; cut_words_lem = ok.cut_words_lem; are_pieces = ok.are_pieces }
 
       -- a present face in an uncut location
-      module _ (none : eqZ variable (negsuc 0) ≡ true) where
-        pub one-long : length pieces ≡ faceSize n
-        one-long = (one-joinable n d variable value (boxAfter n inv rate bounds d b t) pieces box-joinable none).face-length
+      module _ (none : eq_z variable (negsuc 0) ≡ true) where
+        pub one_long : length pieces ≡ face_size n
+        one_long = (one_joinable n d variable value (box_after n inv rate bounds d b t) pieces box_joinable none).face_length
 
-        pub wall-widened : {exit : List ℤ} → eqZ (word pieces 0) (pos 1) ≡ true → exit ≡ faceWords n (present (hull n (boxAt n pieces 1) (boxAfter n inv rate bounds d b t))) → exit ≡ wallJoined (wallStep n inv rate bounds d b)
-        wall-widened there e = wall-after
-            (one-joined n d variable value (boxAfter n inv rate bounds d b t) pieces box-joinable none (e ∙ join-widened n pieces (boxAfter n inv rate bounds d b t) there)
-            ∙ ap wallJoined (sym (not-empty n (boxAfter n inv rate bounds d b t) box-ordered)))
+        pub wall_widened : {exit : List ℤ} → eq_z (word pieces 0) (pos 1) ≡ true → exit ≡ face_words n (present (hull n (box_at n pieces 1) (box_after n inv rate bounds d b t))) → exit ≡ wall_joined (wall_step n inv rate bounds d b)
+        wall_widened there e = wall_after
+            (one_joined n d variable value (box_after n inv rate bounds d b t) pieces box_joinable none (e ∙ join_widened n pieces (box_after n inv rate bounds d b t) there)
+            ∙ ap wall_joined (sym (not_empty n (box_after n inv rate bounds d b t) box_ordered)))
 
 -- the step to face f is what the location's pieces of that face are given
-pub walls-given : (n : ℕ) (inv rate bounds : List ℤ) (c : Cut) (f : ℕ) (words : List ℤ) → joinedEach n (piecesPerFace c) words (cutEach n c (variableOf f) (wallStep n inv rate bounds (variableOf f) (word inv f))) ≡ joinedEach n (piecesPerFace c) words (λ j. wallsFrom n inv rate c (present bounds) (f * piecesPerFace c + j))
-walls-given n inv rate bounds c f words = same-joined n (piecesPerFace c) words _ _
-    (λ j u i. cutEach n c (variableOf (sym (face-of-number c f j u) i)) (wallStep n inv rate bounds (variableOf (sym (face-of-number c f j u) i)) (word inv (sym (face-of-number c f j u) i))) (sym (index-of-number c f j u) i))
+pub walls_given : (n : ℕ) (inv rate bounds : List ℤ) (c : Cut) (f : ℕ) (words : List ℤ) → joined_each n (pieces_per_face c) words (cut_each n c (variable_of f) (wall_step n inv rate bounds (variable_of f) (word inv f))) ≡ joined_each n (pieces_per_face c) words (λ j. walls_from n inv rate c (present bounds) (f * pieces_per_face c + j))
+walls_given n inv rate bounds c f words = same_joined n (pieces_per_face c) words _ _
+    (λ j u i. cut_each n c (variable_of (sym (face_of_number c f j u) i)) (wall_step n inv rate bounds (variable_of (sym (face_of_number c f j u) i)) (word inv (sym (face_of_number c f j u) i))) (sym (index_of_number c f j u) i))
 
 -- the steps from a part to all pieces of a location
 module _ (n : ℕ) (inv rate part : List ℤ) (variable value : ℤ) (block : List ℤ) (ok : PartJoin n inv rate part variable value block) where
-  abbrev partJoined : Face → List ℤ
-  partJoined g = joinedEach n (piecesWith n (cutFrom variable value)) block (wallsFrom n inv rate (cutFrom variable value) g)
+  abbrev part_joined : Face → List ℤ
+  part_joined g = joined_each n (pieces_with n (cut_from variable value)) block (walls_from n inv rate (cut_from variable value) g)
 
   -- from an absent part
-  pub part_none : eqZ (word part 0) (pos 1) ≡ false → block ≡ partJoined (faceRead n part 0)
-  part_none u = none-joined n (piecesWith n (cutFrom variable value)) block ok.are-pieces ∙ sym (ap partJoined (read-absent n part u))
+  pub part_none : eq_z (word part 0) (pos 1) ≡ false → block ≡ part_joined (face_read n part 0)
+  part_none u = none_joined n (pieces_with n (cut_from variable value)) block ok.are_pieces ∙ sym (ap part_joined (read_absent n part u))
 
   -- from a present one
-  module _ {bounds : List ℤ} (flag : eqZ (word part 0) (pos 1) ≡ true) (is-box : bounds ≡ boxAt n part 1) where
-    pub walls-join : WallsJoin n inv rate bounds variable value block
-    walls-join = record {
-      n-small = ok.part-ok.n-small;
-      inv-in = ok.inv-in;
-      rate-in = ok.rate-in;
-      rate-ordered = ok.rate-ordered;
-      bounds-in = rw is-box (ok.part-ok.has (eqZ-eq (word part 0) (pos 1) (true-is flag)));
-      cut-words = ok.cut-words;
-      are-pieces = ok.are-pieces;
+  module _ {bounds : List ℤ} (flag : eq_z (word part 0) (pos 1) ≡ true) (is_box : bounds ≡ box_at n part 1) where
+    pub walls_join : WallsJoin n inv rate bounds variable value block
+    walls_join = record {
+      n_small = ok.part_ok.n_small;
+      inv_in = ok.inv_in;
+      rate_in = ok.rate_in;
+      rate_ordered = ok.rate_ordered;
+      bounds_in = rw is_box (ok.part_ok.has (eq_z_eq (word part 0) (pos 1) (true_is flag)));
+      cut_words_lem = ok.cut_words_lem;
+      are_pieces = ok.are_pieces;
     }
 
-    pub part-joins : {exit : List ℤ} → exit ≡ partJoined (present bounds) → exit ≡ partJoined (faceRead n part 0)
-    part-joins e = e ∙ ap partJoined (ap present is-box ∙ sym (read-present n part flag))
+    pub part-joins : {exit : List ℤ} → exit ≡ part_joined (present bounds) → exit ≡ part_joined (face_read n part 0)
+    part-joins e = e ∙ ap part_joined (ap present is_box ∙ sym (read_present n part flag))
 
 -- the steps from the start part
 module _ (m : List ℤ) (l n : ℕ) (inv rate : List ℤ) (variable value : ℤ) (block : List ℤ) (ok : StartJoin m l n inv rate variable value block) where
-  abbrev startJoined : Face → List ℤ
-  startJoined g = joinedEach n (piecesWith n (cutFrom variable value)) block (wallsFrom n inv rate (cutFrom variable value) g)
+  abbrev start_joined : Face → List ℤ
+  start_joined g = joined_each n (pieces_with n (cut_from variable value)) block (walls_from n inv rate (cut_from variable value) g)
 
   -- where there is none
-  pub start-joins-nothing : startPart m l ≡ absent → block ≡ startJoined (startPart m l)
-  start-joins-nothing e = none-joined n (piecesWith n (cutFrom variable value)) block ok.are-pieces ∙ ap startJoined (sym e)
+  pub start_joins_nothing : start_part m l ≡ absent → block ≡ start_joined (start_part m l)
+  start_joins_nothing e = none_joined n (pieces_with n (cut_from variable value)) block ok.are_pieces ∙ ap start_joined (sym e)
 
   -- handed over by the answer r and the words after
-  module _ {r : Bool} {after out : List ℤ} (gives : Handed (n# m) r after out (startPart m l)) where
-    pub start_is : {x : Bool} → r ≡ x → startPart m l ≡ cond x (present (take (2 * n) after)) absent
-    start_is u = gives.is-face ∙ (λ i. cond (u i) (present (take (2 * sym ok.n-is i) after)) absent)
+  module _ {r : Bool} {after out : List ℤ} (gives : Handed (n# m) r after out (start_part m l)) where
+    pub start_is : {x : Bool} → r ≡ x → start_part m l ≡ cond x (present (take (2 * n) after)) absent
+    start_is u = gives.is_face ∙ (λ i. cond (u i) (present (take (2 * sym ok.n_is i) after)) absent)
 
-    pub start-walls : r ≡ true → WallsJoin n inv rate (take (2 * n) after) variable value block
-    start-walls u = record {
-      n-small = ok.n-small;
-      inv-in = ok.inv-in;
-      rate-in = ok.rate-in;
-      rate-ordered = ok.rate-ordered;
-      bounds-in = subst (FaceAll (InInvariant n inv)) (start_is u) (rw (ok.n-is, ok.inv-is) (start-inside m (passed m ok.passes) l ok.below));
-      cut-words = ok.cut-words;
-      are-pieces = ok.are-pieces;
+    pub start_walls : r ≡ true → WallsJoin n inv rate (take (2 * n) after) variable value block
+    start_walls u = record {
+      n_small = ok.n_small;
+      inv_in = ok.inv_in;
+      rate_in = ok.rate_in;
+      rate_ordered = ok.rate_ordered;
+      bounds_in = subst (FaceAll (InInvariant n inv)) (start_is u) (rw (ok.n_is, ok.inv_is) (start_inside m (passed m ok.passes) l ok.below));
+      cut_words_lem = ok.cut_words_lem;
+      are_pieces = ok.are_pieces;
     }
 
-    pub start-joins : {exit : List ℤ} → r ≡ true → exit ≡ startJoined (present (take (2 * n) after)) → exit ≡ startJoined (startPart m l)
-    start-joins u e = e ∙ ap startJoined (sym (start_is u))
+    pub start_joins : {exit : List ℤ} → r ≡ true → exit ≡ start_joined (present (take (2 * n) after)) → exit ≡ start_joined (start_part m l)
+    start_joins u e = e ∙ ap start_joined (sym (start_is u))
 
 module _ (n mask : ℕ) (guard reset inv from : List ℤ) (d : ℕ) (variable value : ℤ) (pieces : List ℤ) (ok : SwitchJoin n guard reset inv from variable value pieces) where
-  abbrev pub switchJoined : Face → List ℤ
-  switchJoined g = joinedEach n (piecesPerFace (cutFrom variable value)) pieces (cutEach n (cutFrom variable value) d g)
+  abbrev pub switch_joined : Face → List ℤ
+  switch_joined g = joined_each n (pieces_per_face (cut_from variable value)) pieces (cut_each n (cut_from variable value) d g)
 
-  from-absent : switchStep n mask guard reset inv absent ≡ absent
-  unfolding switchStep
-  from-absent = refl
+  from_absent : switch_step n mask guard reset inv absent ≡ absent
+  unfolding switch_step
+  from_absent = refl
 
-  pub switch-none : eqZ (word from 0) (pos 1) ≡ false → pieces ≡ switchJoined (switchStep n mask guard reset inv (faceRead n from 0))
-  switch-none u = none-joined n (piecesPerFace (cutFrom variable value)) pieces ok.are-pieces ∙ sym (ap switchJoined (ap (switchStep n mask guard reset inv) (read-absent n from u) ∙ from-absent))
+  pub switch_none : eq_z (word from 0) (pos 1) ≡ false → pieces ≡ switch_joined (switch_step n mask guard reset inv (face_read n from 0))
+  switch_none u = none_joined n (pieces_per_face (cut_from variable value)) pieces ok.are_pieces ∙ sym (ap switch_joined (ap (switch_step n mask guard reset inv) (read_absent n from u) ∙ from_absent))
 
-  module _ {bounds : List ℤ} (flag : eqZ (word from 0) (pos 1) ≡ true) (is-box : bounds ≡ boxAt n from 1) (out : List ℤ) (room : 2 * n ≤ length out) where
-    pub switch-ready : SwitchReady n guard reset inv bounds out
-    switch-ready = record {
-      guard-in = ok.guard-in;
-      reset-in = ok.reset-in;
-      inv-in = ok.inv-in;
-      from_in = rw is-box (ok.from-ok.has (eqZ-eq (word from 0) (pos 1) (true-is flag)));
+  module _ {bounds : List ℤ} (flag : eq_z (word from 0) (pos 1) ≡ true) (is_box : bounds ≡ box_at n from 1) (out : List ℤ) (room : 2 * n ≤ length out) where
+    pub switch_ready : SwitchReady n guard reset inv bounds out
+    switch_ready = record {
+      guard_in = ok.guard_in;
+      reset_in = ok.reset_in;
+      inv_in = ok.inv_in;
+      from_in = rw is_box (ok.from_ok.has (eq_z_eq (word from 0) (pos 1) (true_is flag)));
       room = room;
     }
 
-    module _ {r : Bool} {after : List ℤ} (gives : Handed n r after out (switchStep n mask guard reset inv (present bounds))) where
-      switch-is : switchStep n mask guard reset inv (faceRead n from 0) ≡ cond r (present (take (2 * n) after)) absent
-      switch-is = ap (switchStep n mask guard reset inv) (read-present n from flag ∙ ap present (sym is-box)) ∙ gives.is-face
+    module _ {r : Bool} {after : List ℤ} (gives : Handed n r after out (switch_step n mask guard reset inv (present bounds))) where
+      switch_is : switch_step n mask guard reset inv (face_read n from 0) ≡ cond r (present (take (2 * n) after)) absent
+      switch_is = ap (switch_step n mask guard reset inv) (read_present n from flag ∙ ap present (sym is_box)) ∙ gives.is_face
 
-      pub switch-joinable : r ≡ true → PiecesJoinable n variable value (take (2 * n) after) pieces
-      switch-joinable u = joinable n variable value d r after pieces (switchStep n mask guard reset inv (faceRead n from 0)) switch-is inv u (switch-in n mask guard reset inv (faceRead n from 0)) ok.from-ok.n-small ok.cut-words ok.are-pieces
+      pub switch_joinable : r ≡ true → PiecesJoinable n variable value (take (2 * n) after) pieces
+      switch_joinable u = joinable n variable value d r after pieces (switch_step n mask guard reset inv (face_read n from 0)) switch_is inv u (switch_in n mask guard reset inv (face_read n from 0)) ok.from_ok.n_small ok.cut_words_lem ok.are_pieces
 
-      pub switch-joins : {exit : List ℤ} → r ≡ true → exit ≡ switchJoined (present (take (2 * n) after)) → exit ≡ switchJoined (switchStep n mask guard reset inv (faceRead n from 0))
-      switch-joins = joins-it n variable value d r after pieces (switchStep n mask guard reset inv (faceRead n from 0)) switch-is
+      pub switch_joins : {exit : List ℤ} → r ≡ true → exit ≡ switch_joined (present (take (2 * n) after)) → exit ≡ switch_joined (switch_step n mask guard reset inv (face_read n from 0))
+      switch_joins = joins_it n variable value d r after pieces (switch_step n mask guard reset inv (face_read n from 0)) switch_is
 
-      pub switch-joins-nothing : r ≡ false → pieces ≡ switchJoined (switchStep n mask guard reset inv (faceRead n from 0))
-      switch-joins-nothing u = joins-nothing n variable value d r after pieces (switchStep n mask guard reset inv (faceRead n from 0)) switch-is u ok.are-pieces
+      pub switch_joins_nothing : r ≡ false → pieces ≡ switch_joined (switch_step n mask guard reset inv (face_read n from 0))
+      switch_joins_nothing u = joins_nothing n variable value d r after pieces (switch_step n mask guard reset inv (face_read n from 0)) switch_is u ok.are_pieces

@@ -12,120 +12,120 @@ use lib.ListN.{length, length-append}
 use borrow.Author.Tests.{eq-eqb}
 use borrow.Rule.Slice.PartMut.{mid_of, put_mid}
 use Rattle.integers.specs.Counted.{cat}
-use Rattle.integers.proofs.Counted.{sum-part}
-use Rattle.integers.proofs.Buffers.{length-cat-sum, cat-ext}
-use Rattle.plant.specs.Box.{Face, absent, onBox, faceWords, join, joins}
-use Rattle.plant.specs.Model.{n#, L#, E#, source, target, wallVariable, targetSide, Cut, uncut, cutBy, cut_of, variableOf}
-use Rattle.plant.specs.Pieces.{Extent, extentBy, cutToExtent, piecesPerFace, perFace, pieces, pieceNumber, pieceFace}
-use Rattle.plant.specs.Steps.{switchStep}
-use Rattle.plant.specs.Tables.{faceSize, pieceCount, tableSize, piece_at, tableBy, piece_of, part_of, sourcePiece, targetFace, switchStepAt, toPiece, switchOnto, wallsJoined, switchesJoined, newPiece, pass}
-use Rattle.plant.proofs.Pieces.{per-face-most, number-face, extent-number}
-use Rattle.plant.proofs.Tables.{locationWords, words-before, piece-place, location-length, words-ends, begins-itself, piece-read, table-ext, table-length}
-use Rattle.tables.specs.Room.{facesBy, AreFaces, cutEach}
-use Rattle.tables.proofs.Faces.{join-absent}
-use Rattle.passes.specs.Joining.{IsTable, locationBy, landing, landedOn, withSwitch, joinedBelow}
-use Rattle.passes.proofs.Joined.{join-ends}
-use Rattle.passes.proofs.Blocks.{put-between, mid-between, cat-one, Differ, differ}
-use Rattle.passes.proofs.Locations.{faces-length, are-faces, each-joined}
+use Rattle.integers.proofs.Counted.{sum_part}
+use Rattle.integers.proofs.Buffers.{length_cat_sum, cat_ext}
+use Rattle.plant.specs.Box.{Face, absent, on_box, face_words, join, joins}
+use Rattle.plant.specs.Model.{n#, L#, E#, source, target, wall_variable, target_side, Cut, uncut, cut_by, cut_of, variable_of}
+use Rattle.plant.specs.Pieces.{Extent, extent_by, cut_to_extent, pieces_per_face, per_face, pieces, piece_number, piece_face}
+use Rattle.plant.specs.Steps.{switch_step}
+use Rattle.plant.specs.Tables.{face_size, piece_count, table_size, piece_at, table_by, piece_of, part_of, source_piece, target_face, switch_step_at, to_piece, switch_onto, walls_joined, switches_joined, new_piece, pass}
+use Rattle.plant.proofs.Pieces.{per_face_most, number_face, extent_number}
+use Rattle.plant.proofs.Tables.{location_words, words_before, piece_place, location_length, words_ends, begins_itself, piece_read, table_ext, table_length}
+use Rattle.tables.specs.Room.{faces_by, AreFaces, cut_each}
+use Rattle.tables.proofs.Faces.{join_absent}
+use Rattle.passes.specs.Joining.{IsTable, location_by, landing, landed_on, with_switch, joined_below}
+use Rattle.passes.proofs.Joined.{join_ends}
+use Rattle.passes.proofs.Blocks.{put_between, mid_between, cat_one, Differ, differ}
+use Rattle.passes.proofs.Locations.{faces_length, are_faces, each_joined}
 
 -- ---- k pieces of a table, from piece q of location l on
 
 module _ (m : List ℤ) (g h : ℕ → ℕ → Face) (l q k : ℕ) (u : l < L# m) (v : q + k ≤ pieces m l)
     (elsewhere : (l' q' : ℕ) → (l' ≡ l → q ≤ q' → q' < q + k → ⊥) → g l' q' ≡ h l' q') where
-  in-location : Differ (pieces m l) (λ q. faceWords (n# m) (g l q)) (λ q. faceWords (n# m) (h l q)) q k
-  in-location = differ (pieces m l) _ _ q k v (λ j w x. ap (faceWords (n# m)) (elsewhere l j (λ _ a b. x a b)))
+  in_location : Differ (pieces m l) (λ q. face_words (n# m) (g l q)) (λ q. face_words (n# m) (h l q)) q k
+  in_location = differ (pieces m l) _ _ q k v (λ j w x. ap (face_words (n# m)) (elsewhere l j (λ _ a b. x a b)))
 
-  in_table : Differ (L# m) (λ l. locationBy m l (g l)) (λ l. locationBy m l (h l)) l 1
-  in_table = differ (L# m) _ _ l 1 (omega arith) (λ j w x. cat-ext (pieces m j) _ _ (λ i y. ap (faceWords (n# m)) (elsewhere j i (λ e _ _. x (omega arith) (omega arith)))))
+  in_table : Differ (L# m) (λ l. location_by m l (g l)) (λ l. location_by m l (h l)) l 1
+  in_table = differ (L# m) _ _ l 1 (omega arith) (λ j w x. cat_ext (pieces m j) _ _ (λ i y. ap (face_words (n# m)) (elsewhere j i (λ e _ _. x (omega arith) (omega arith)))))
 
   before : List ℤ
-  before = cat l (λ l. locationBy m l (g l)) ++ cat q (λ q. faceWords (n# m) (g l q))
+  before = cat l (λ l. location_by m l (g l)) ++ cat q (λ q. face_words (n# m) (g l q))
 
   after : List ℤ
-  after = in-location.rest ++ in_table.rest
+  after = in_location.rest ++ in_table.rest
 
   group : (a b x c d : List ℤ) → a ++ ((b ++ (x ++ c)) ++ d) ≡ (a ++ b) ++ (x ++ (c ++ d))
   group a b x c d = simp append_assoc
 
   -- the one location
-  alone : (f : ℕ → ℕ → Face) → cat 1 (λ j. locationBy m (l + j) (f (l + j))) ≡ locationBy m l (f l)
-  alone f = let e : l + 0 ≡ l = omega arith in cat-one (λ j. locationBy m (l + j) (f (l + j))) ∙ ap (λ (x : ℕ). locationBy m x (f x)) e
+  alone : (f : ℕ → ℕ → Face) → cat 1 (λ j. location_by m (l + j) (f (l + j))) ≡ location_by m l (f l)
+  alone f = let e : l + 0 ≡ l = omega arith in cat_one (λ j. location_by m (l + j) (f (l + j))) ∙ ap (λ (x : ℕ). location_by m x (f x)) e
 
-  first-is : tableBy m g ≡ before ++ (facesBy (n# m) k (λ j. g l (q + j)) ++ after)
-  unfolding tableBy before after
-  first-is = in_table.is-first ∙ ap (λ (s : List ℤ). cat l (λ l. locationBy m l (g l)) ++ (s ++ in_table.rest)) (alone g ∙ in-location.is-first)
-      ∙ group (cat l (λ l. locationBy m l (g l))) (cat q (λ q. faceWords (n# m) (g l q))) (facesBy (n# m) k (λ j. g l (q + j))) in-location.rest in_table.rest
+  first_is : table_by m g ≡ before ++ (faces_by (n# m) k (λ j. g l (q + j)) ++ after)
+  unfolding table_by before after
+  first_is = in_table.is_first ∙ ap (λ (s : List ℤ). cat l (λ l. location_by m l (g l)) ++ (s ++ in_table.rest)) (alone g ∙ in_location.is_first)
+      ∙ group (cat l (λ l. location_by m l (g l))) (cat q (λ q. face_words (n# m) (g l q))) (faces_by (n# m) k (λ j. g l (q + j))) in_location.rest in_table.rest
 
-  second_is : tableBy m h ≡ before ++ (facesBy (n# m) k (λ j. h l (q + j)) ++ after)
-  unfolding tableBy before after
-  second_is = in_table.is-second ∙ ap (λ (s : List ℤ). cat l (λ l. locationBy m l (g l)) ++ (s ++ in_table.rest)) (alone h ∙ in-location.is-second)
-      ∙ group (cat l (λ l. locationBy m l (g l))) (cat q (λ q. faceWords (n# m) (g l q))) (facesBy (n# m) k (λ j. h l (q + j))) in-location.rest in_table.rest
+  second_is : table_by m h ≡ before ++ (faces_by (n# m) k (λ j. h l (q + j)) ++ after)
+  unfolding table_by before after
+  second_is = in_table.is_second ∙ ap (λ (s : List ℤ). cat l (λ l. location_by m l (g l)) ++ (s ++ in_table.rest)) (alone h ∙ in_location.is_second)
+      ∙ group (cat l (λ l. location_by m l (g l))) (cat q (λ q. face_words (n# m) (g l q))) (faces_by (n# m) k (λ j. h l (q + j))) in_location.rest in_table.rest
 
-  before-length : length before ≡ piece_at m l q
+  before_length : length before ≡ piece_at m l q
   unfolding before
-  before-length = omega (
+  before_length = omega (
     arith,
-    length-append (cat l (λ l. locationBy m l (g l))) (cat q (λ q. faceWords (n# m) (g l q))),
-    length-cat-sum l (locationWords m) (λ l. locationBy m l (g l)) (λ j w. location-length m g j),
-    words-before m l,
-    faces-length (n# m) q (g l),
-    piece-place m l q,
+    length-append (cat l (λ l. location_by m l (g l))) (cat q (λ q. face_words (n# m) (g l q))),
+    length_cat_sum l (location_words m) (λ l. location_by m l (g l)) (λ j w. location_length m g j),
+    words_before m l,
+    faces_length (n# m) q (g l),
+    piece_place m l q,
   )
 
   -- their words
-  pub pieces-part : mid_of (piece_at m l q) (k * faceSize (n# m)) (tableBy m g) ≡ facesBy (n# m) k (λ j. g l (q + j))
-  pieces-part = ap (mid_of (piece_at m l q) (k * faceSize (n# m))) first-is
-      ∙ mid-between before (facesBy (n# m) k (λ j. g l (q + j))) after (piece_at m l q) (k * faceSize (n# m)) before-length (faces-length (n# m) k (λ j. g l (q + j)))
+  pub pieces-part : mid_of (piece_at m l q) (k * face_size (n# m)) (table_by m g) ≡ faces_by (n# m) k (λ j. g l (q + j))
+  pieces-part = ap (mid_of (piece_at m l q) (k * face_size (n# m))) first_is
+      ∙ mid_between before (faces_by (n# m) k (λ j. g l (q + j))) after (piece_at m l q) (k * face_size (n# m)) before_length (faces_length (n# m) k (λ j. g l (q + j)))
 
   -- other words in their place
-  pub pieces-put : put_mid (piece_at m l q) (k * faceSize (n# m)) (tableBy m g) (facesBy (n# m) k (λ j. h l (q + j))) ≡ tableBy m h
-  pieces-put = ap (λ (s : List ℤ). put_mid (piece_at m l q) (k * faceSize (n# m)) s (facesBy (n# m) k (λ j. h l (q + j)))) first-is
-      ∙ put-between before (facesBy (n# m) k (λ j. g l (q + j))) after (facesBy (n# m) k (λ j. h l (q + j))) (piece_at m l q) (k * faceSize (n# m)) before-length (faces-length (n# m) k (λ j. g l (q + j)))
+  pub pieces_put : put_mid (piece_at m l q) (k * face_size (n# m)) (table_by m g) (faces_by (n# m) k (λ j. h l (q + j))) ≡ table_by m h
+  pieces_put = ap (λ (s : List ℤ). put_mid (piece_at m l q) (k * face_size (n# m)) s (faces_by (n# m) k (λ j. h l (q + j)))) first_is
+      ∙ put_between before (faces_by (n# m) k (λ j. g l (q + j))) after (faces_by (n# m) k (λ j. h l (q + j))) (piece_at m l q) (k * face_size (n# m)) before_length (faces_length (n# m) k (λ j. g l (q + j)))
       ∙ sym second_is
 
 -- one piece alone
-pub piece-put : (m : List ℤ) (g h : ℕ → ℕ → Face) (l q : ℕ) → l < L# m → q < pieces m l → ((l' q' : ℕ) → (l' ≡ l → q' ≡ q → ⊥) → g l' q' ≡ h l' q') → put_mid (piece_at m l q) (faceSize (n# m)) (tableBy m g) (faceWords (n# m) (h l q)) ≡ tableBy m h
-piece-put m g h l q u v elsewhere =
-    (λ i. put_mid (piece_at m l q) (size i) (tableBy m g) (sym one i))
-    ∙ pieces-put m g h l q 1 u (omega arith) (λ l' q' x. elsewhere l' q' (λ a b. x a (omega arith) (omega arith)))
+pub piece_put : (m : List ℤ) (g h : ℕ → ℕ → Face) (l q : ℕ) → l < L# m → q < pieces m l → ((l' q' : ℕ) → (l' ≡ l → q' ≡ q → ⊥) → g l' q' ≡ h l' q') → put_mid (piece_at m l q) (face_size (n# m)) (table_by m g) (face_words (n# m) (h l q)) ≡ table_by m h
+piece_put m g h l q u v elsewhere =
+    (λ i. put_mid (piece_at m l q) (size i) (table_by m g) (sym one i))
+    ∙ pieces_put m g h l q 1 u (omega arith) (λ l' q' x. elsewhere l' q' (λ a b. x a (omega arith) (omega arith)))
   where
-    size : faceSize (n# m) ≡ 1 * faceSize (n# m)
+    size : face_size (n# m) ≡ 1 * face_size (n# m)
     size = omega arith
 
-    one : facesBy (n# m) 1 (λ j. h l (q + j)) ≡ faceWords (n# m) (h l q)
-    one = let e : q + 0 ≡ q = omega arith in cat-one (λ j. faceWords (n# m) (h l (q + j))) ∙ ap (λ (x : ℕ). faceWords (n# m) (h l x)) e
+    one : faces_by (n# m) 1 (λ j. h l (q + j)) ≡ face_words (n# m) (h l q)
+    one = let e : q + 0 ≡ q = omega arith in cat_one (λ j. face_words (n# m) (h l (q + j))) ∙ ap (λ (x : ℕ). face_words (n# m) (h l x)) e
 
 -- ---- where switch e lands: on the pieces of its target's face
 
 -- the pieces of face f
-of-face : (c : Cut) (f q : ℕ) → q / piecesPerFace c ≡ f → (f * piecesPerFace c ≤ q) × (q < f * piecesPerFace c + piecesPerFace c)
-unfolding piecesPerFace
-of-face uncut f q e = (omega arith, omega arith)
-of-face (cutBy v x) f q e = (omega arith, omega arith)
+of_face : (c : Cut) (f q : ℕ) → q / pieces_per_face c ≡ f → (f * pieces_per_face c ≤ q) × (q < f * pieces_per_face c + pieces_per_face c)
+unfolding pieces_per_face
+of_face uncut f q e = (omega arith, omega arith)
+of_face (cut_by v x) f q e = (omega arith, omega arith)
 
 -- the first of the pieces on which switch e lands
-abbrev pub targetFirst : List ℤ → ℕ → ℕ
-targetFirst m e = targetFace m e * perFace m (target m e)
+abbrev pub target_first : List ℤ → ℕ → ℕ
+target_first m e = target_face m e * per_face m (target m e)
 
-pub first_small : (m : List ℤ) (e : ℕ) → n# m ≤ 6 → targetFace m e < 2 * n# m → targetFirst m e ≤ 24
+pub first_small : (m : List ℤ) (e : ℕ) → n# m ≤ 6 → target_face m e < 2 * n# m → target_first m e ≤ 24
 first_small m e u v =
-    let a : targetFace m e ≤ 12 = omega arith in
-    let b : targetFirst m e ≤ 12 * 2 = mul-le-mul a (per-face-most m (target m e)) in
+    let a : target_face m e ≤ 12 = omega arith in
+    let b : target_first m e ≤ 12 * 2 = mul-le-mul a (per_face_most m (target m e)) in
     omega arith
 
 module _ (m t : List ℤ) (e k : ℕ) where
-  lands-there : targetSide m e ≤ 1 → (j : ℕ) → j < perFace m (target m e) → cutEach (n# m) (cut_of m (target m e)) (wallVariable m e) (landing m t e k) j ≡ switchOnto m t (target m e) (targetFirst m e + j) e k
-  unfolding switchOnto toPiece pieceNumber
-  lands-there s j u = sym (
-      ap (λ (b : Bool). cond (b && eqb (targetFace m e) (pieceFace m (target m e) (targetFirst m e + j))) onto absent) (eq-eqb (target m e) (target m e) refl)
-      ∙ ap (λ (b : Bool). cond b onto absent) (eq-eqb (targetFace m e) (pieceFace m (target m e) (targetFirst m e + j)) (sym (number-face m (target m e) (targetFace m e) j u)))
-      ∙ ap (λ (x : Extent). onBox (landing m t e k) (cutToExtent (n# m) x)) (extent-number m (target m e) (targetFace m e) j u)
-      ∙ ap (λ (d : ℕ). onBox (landing m t e k) (cutToExtent (n# m) (extentBy (cut_of m (target m e)) d j))) half)
+  lands_there : target_side m e ≤ 1 → (j : ℕ) → j < per_face m (target m e) → cut_each (n# m) (cut_of m (target m e)) (wall_variable m e) (landing m t e k) j ≡ switch_onto m t (target m e) (target_first m e + j) e k
+  unfolding switch_onto to_piece piece_number
+  lands_there s j u = sym (
+      ap (λ (b : Bool). cond (b && eqb (target_face m e) (piece_face m (target m e) (target_first m e + j))) onto absent) (eq-eqb (target m e) (target m e) refl)
+      ∙ ap (λ (b : Bool). cond b onto absent) (eq-eqb (target_face m e) (piece_face m (target m e) (target_first m e + j)) (sym (number_face m (target m e) (target_face m e) j u)))
+      ∙ ap (λ (x : Extent). on_box (landing m t e k) (cut_to_extent (n# m) x)) (extent_number m (target m e) (target_face m e) j u)
+      ∙ ap (λ (d : ℕ). on_box (landing m t e k) (cut_to_extent (n# m) (extent_by (cut_of m (target m e)) d j))) half)
     where
       onto : Face
-      onto = toPiece m (target m e) (targetFirst m e + j) (landing m t e k)
+      onto = to_piece m (target m e) (target_first m e + j) (landing m t e k)
 
-      half : variableOf (targetFace m e) ≡ wallVariable m e
+      half : variable_of (target_face m e) ≡ wall_variable m e
       half = omega arith
 
   by_tests : (a b : Bool) (x : Face) → (T a → T b → ⊥) → cond (a && b) x absent ≡ absent
@@ -133,113 +133,113 @@ module _ (m t : List ℤ) (e k : ℕ) where
   by_tests true false x h = refl
   by_tests false b x h = refl
 
-  lands-nowhere-else : (l q : ℕ) → (l ≡ target m e → targetFirst m e ≤ q → q < targetFirst m e + perFace m (target m e) → ⊥) → switchOnto m t l q e k ≡ absent
-  unfolding switchOnto pieceFace perFace
-  lands-nowhere-else l q h = by_tests (eqb (target m e) l) (eqb (targetFace m e) (pieceFace m l q)) _ (λ a b. not_there (sym (eqb→eq (target m e) l a)) (sym (eqb→eq (targetFace m e) (pieceFace m l q) b)))
+  lands_nowhere_else : (l q : ℕ) → (l ≡ target m e → target_first m e ≤ q → q < target_first m e + per_face m (target m e) → ⊥) → switch_onto m t l q e k ≡ absent
+  unfolding switch_onto piece_face per_face
+  lands_nowhere_else l q h = by_tests (eqb (target m e) l) (eqb (target_face m e) (piece_face m l q)) _ (λ a b. not_there (sym (eqb→eq (target m e) l a)) (sym (eqb→eq (target_face m e) (piece_face m l q) b)))
     where
-      not_there : l ≡ target m e → pieceFace m l q ≡ targetFace m e → ⊥
+      not_there : l ≡ target m e → piece_face m l q ≡ target_face m e → ⊥
       not_there a b =
-          let r : (targetFirst m e ≤ q) × (q < targetFirst m e + perFace m (target m e)) = of-face (cut_of m (target m e)) (targetFace m e) q (ap (λ (x : ℕ). pieceFace m x q) (sym a) ∙ b) in
+          let r : (target_first m e ≤ q) × (q < target_first m e + per_face m (target m e)) = of_face (cut_of m (target m e)) (target_face m e) q (ap (λ (x : ℕ). piece_face m x q) (sym a) ∙ b) in
           h a r.0 r.1
 
 -- a table whose words are those of its pieces, of which some words at a place are the pieces on which switch e lands
-module _ (m t : List ℤ) (e k : ℕ) (u : target m e < L# m) (v : targetFace m e < 2 * n# m) (s : targetSide m e ≤ 1) (out : List ℤ) (table : IsTable m out) where
-  abbrev landedPiece : ℕ → ℕ → Face
-  landedPiece l q = join (n# m) (piece_of m out l q) (switchOnto m t l q e k)
+module _ (m t : List ℤ) (e k : ℕ) (u : target m e < L# m) (v : target_face m e < 2 * n# m) (s : target_side m e ≤ 1) (out : List ℤ) (table : IsTable m out) where
+  abbrev landed_piece : ℕ → ℕ → Face
+  landed_piece l q = join (n# m) (piece_of m out l q) (switch_onto m t l q e k)
 
-  elsewhere : (l q : ℕ) → (l ≡ target m e → targetFirst m e ≤ q → q < targetFirst m e + perFace m (target m e) → ⊥) → piece_of m out l q ≡ landedPiece l q
-  elsewhere l q h = sym (ap (join (n# m) (piece_of m out l q)) (lands-nowhere-else m t e k l q h) ∙ join-absent (n# m) (piece_of m out l q))
+  elsewhere : (l q : ℕ) → (l ≡ target m e → target_first m e ≤ q → q < target_first m e + per_face m (target m e) → ⊥) → piece_of m out l q ≡ landed_piece l q
+  elsewhere l q h = sym (ap (join (n# m) (piece_of m out l q)) (lands_nowhere_else m t e k l q h) ∙ join_absent (n# m) (piece_of m out l q))
 
-  there : targetFirst m e + perFace m (target m e) ≤ pieces m (target m e)
+  there : target_first m e + per_face m (target m e) ≤ pieces m (target m e)
   unfolding pieces
-  there = omega (arith, mul-le-mul_right (perFace m (target m e)) v)
+  there = omega (arith, mul-le-mul_right (per_face m (target m e)) v)
 
-  pub lands-inside : piece_at m (target m e) (targetFirst m e) + perFace m (target m e) * faceSize (n# m) ≤ tableSize m
-  unfolding tableSize pieceCount
-  lands-inside = omega (arith, piece-place m (target m e) (targetFirst m e), mul-le-mul_right (faceSize (n# m)) there, sum-part (L# m) (locationWords m) (target m e) u, words-before m (target m e), words-before m (L# m))
+  pub lands_inside : piece_at m (target m e) (target_first m e) + per_face m (target m e) * face_size (n# m) ≤ table_size m
+  unfolding table_size piece_count
+  lands_inside = omega (arith, piece_place m (target m e) (target_first m e), mul-le-mul_right (face_size (n# m)) there, sum_part (L# m) (location_words m) (target m e) u, words_before m (target m e), words_before m (L# m))
 
-  pub out-long : length out ≡ tableSize m
-  out-long = ap length (sym table) ∙ table-length m (piece_of m out)
+  pub out_long : length out ≡ table_size m
+  out_long = ap length (sym table) ∙ table_length m (piece_of m out)
 
-  module _ {at w : ℕ} (at-is : at ≡ piece_at m (target m e) (targetFirst m e)) (w-is : w ≡ perFace m (target m e) * faceSize (n# m)) where
-    target-words : mid_of at w out ≡ facesBy (n# m) (perFace m (target m e)) (λ j. piece_of m out (target m e) (targetFirst m e + j))
-    target-words = rw (at-is, w-is)
-        (ap (mid_of (piece_at m (target m e) (targetFirst m e)) (perFace m (target m e) * faceSize (n# m))) (sym table)
-        ∙ pieces-part m (piece_of m out) landedPiece (target m e) (targetFirst m e) (perFace m (target m e)) u there elsewhere)
+  module _ {at w : ℕ} (at_is : at ≡ piece_at m (target m e) (target_first m e)) (w-is : w ≡ per_face m (target m e) * face_size (n# m)) where
+    target_words : mid_of at w out ≡ faces_by (n# m) (per_face m (target m e)) (λ j. piece_of m out (target m e) (target_first m e + j))
+    target_words = rw (at_is, w-is)
+        (ap (mid_of (piece_at m (target m e) (target_first m e)) (per_face m (target m e) * face_size (n# m))) (sym table)
+        ∙ pieces-part m (piece_of m out) landed_piece (target m e) (target_first m e) (per_face m (target m e)) u there elsewhere)
 
-    pub target-are-pieces : AreFaces (n# m) (perFace m (target m e)) (mid_of at w out)
-    target-are-pieces = are-faces (n# m) (perFace m (target m e)) (λ j. piece_of m out (target m e) (targetFirst m e + j)) target-words
+    pub target_are_pieces : AreFaces (n# m) (per_face m (target m e)) (mid_of at w out)
+    target_are_pieces = are_faces (n# m) (per_face m (target m e)) (λ j. piece_of m out (target m e) (target_first m e + j)) target_words
 
-    landed-words : landedOn m t e k (mid_of at w out) ≡ facesBy (n# m) (perFace m (target m e)) (λ j. landedPiece (target m e) (targetFirst m e + j))
-    landed-words =
-        each-joined (n# m) (perFace m (target m e)) (λ j. piece_of m out (target m e) (targetFirst m e + j)) target-words (cutEach (n# m) (cut_of m (target m e)) (wallVariable m e) (landing m t e k))
-        ∙ cat-ext (perFace m (target m e)) _ _ (λ j x. ap (λ (y : Face). faceWords (n# m) (join (n# m) (piece_of m out (target m e) (targetFirst m e + j)) y)) (lands-there m t e k s j x))
+    landed_words : landed_on m t e k (mid_of at w out) ≡ faces_by (n# m) (per_face m (target m e)) (λ j. landed_piece (target m e) (target_first m e + j))
+    landed_words =
+        each_joined (n# m) (per_face m (target m e)) (λ j. piece_of m out (target m e) (target_first m e + j)) target_words (cut_each (n# m) (cut_of m (target m e)) (wall_variable m e) (landing m t e k))
+        ∙ cat_ext (per_face m (target m e)) _ _ (λ j x. ap (λ (y : Face). face_words (n# m) (join (n# m) (piece_of m out (target m e) (target_first m e + j)) y)) (lands_there m t e k s j x))
 
-    pub landed : {words : List ℤ} → words ≡ landedOn m t e k (mid_of at w out) → put_mid at w out words ≡ withSwitch m t e k out
-    landed h = rw (h, landed-words, at-is, w-is)
-        (ap (λ (x : List ℤ). put_mid (piece_at m (target m e) (targetFirst m e)) (perFace m (target m e) * faceSize (n# m)) x (facesBy (n# m) (perFace m (target m e)) (λ j. landedPiece (target m e) (targetFirst m e + j)))) (sym table)
-        ∙ pieces-put m (piece_of m out) landedPiece (target m e) (targetFirst m e) (perFace m (target m e)) u there elsewhere)
+    pub landed : {words : List ℤ} → words ≡ landed_on m t e k (mid_of at w out) → put_mid at w out words ≡ with_switch m t e k out
+    landed h = rw (h, landed_words, at_is, w-is)
+        (ap (λ (x : List ℤ). put_mid (piece_at m (target m e) (target_first m e)) (per_face m (target m e) * face_size (n# m)) x (faces_by (n# m) (per_face m (target m e)) (λ j. landed_piece (target m e) (target_first m e + j)))) (sym table)
+        ∙ pieces_put m (piece_of m out) landed_piece (target m e) (target_first m e) (per_face m (target m e)) u there elsewhere)
 
 -- ---- the switches below e, and switch e from the pieces of its source's face below k
 
-abbrev pub joinedFrom : List ℤ → List ℤ → ℕ → ℕ → ℕ → ℕ → Face
-joinedFrom m t e k l q = joins (n# m) k (switchOnto m t l q e) (switchesJoined m t l q e)
+abbrev pub joined_from : List ℤ → List ℤ → ℕ → ℕ → ℕ → ℕ → Face
+joined_from m t e k l q = joins (n# m) k (switch_onto m t l q e) (switches_joined m t l q e)
 
 module _ (m t : List ℤ) where
-  pub switches-none : tableBy m (wallsJoined m t) ≡ tableBy m (joinedBelow m t 0)
-  unfolding switchesJoined
-  switches-none = refl
+  pub switches_none : table_by m (walls_joined m t) ≡ table_by m (joined_below m t 0)
+  unfolding switches_joined
+  switches_none = refl
 
-  pub switches-all : tableBy m (joinedBelow m t (E# m)) ≡ pass m t
-  unfolding pass newPiece
-  switches-all = refl
+  pub switches_all : table_by m (joined_below m t (E# m)) ≡ pass m t
+  unfolding pass new_piece
+  switches_all = refl
 
-  pub from-none : (e : ℕ) → tableBy m (joinedBelow m t e) ≡ tableBy m (joinedFrom m t e 0)
+  pub from_none : (e : ℕ) → table_by m (joined_below m t e) ≡ table_by m (joined_from m t e 0)
   unfolding joins
-  from-none e = refl
+  from_none e = refl
 
-  pub from_all : (e : ℕ) → tableBy m (joinedFrom m t e (perFace m (source m e))) ≡ tableBy m (joinedBelow m t (e + 1))
-  unfolding switchesJoined
+  pub from_all : (e : ℕ) → table_by m (joined_from m t e (per_face m (source m e))) ≡ table_by m (joined_below m t (e + 1))
+  unfolding switches_joined
   from_all e = rw (add-one e) refl
 
-  pub is-table : (g : ℕ → ℕ → Face) {out : List ℤ} → out ≡ tableBy m g → IsTable m out
-  is-table g e = rw e (table-ext m (piece_of m (tableBy m g)) g
-      (λ l q u v. ap (faceWords (n# m)) (piece-read m (tableBy m g) g (begins-itself m g) l q u v) ∙ words-ends (n# m) (g l q)))
+  pub is_table : (g : ℕ → ℕ → Face) {out : List ℤ} → out ≡ table_by m g → IsTable m out
+  is_table g e = rw e (table_ext m (piece_of m (table_by m g)) g
+      (λ l q u v. ap (face_words (n# m)) (piece_read m (table_by m g) g (begins_itself m g) l q u v) ∙ words_ends (n# m) (g l q)))
 
-  pub from_more : (e k : ℕ) {out : List ℤ} → out ≡ tableBy m (joinedFrom m t e k) → withSwitch m t e k out ≡ tableBy m (joinedFrom m t e (k + 1))
+  pub from_more : (e k : ℕ) {out : List ℤ} → out ≡ table_by m (joined_from m t e k) → with_switch m t e k out ≡ table_by m (joined_from m t e (k + 1))
   unfolding joins
   from_more e k h =
-      let g = joinedFrom m t e k in
-      rw (h, add-one k) (table-ext m (λ l q. join (n# m) (piece_of m (tableBy m g) l q) (switchOnto m t l q e k)) (joinedFrom m t e (suc k))
-      (λ l q u v. ap (λ (x : Face). faceWords (n# m) (join (n# m) x (switchOnto m t l q e k))) (piece-read m (tableBy m g) g (begins-itself m g) l q u v)
-      ∙ join-ends (n# m) (g l q) (switchOnto m t l q e k)))
+      let g = joined_from m t e k in
+      rw (h, add-one k) (table_ext m (λ l q. join (n# m) (piece_of m (table_by m g) l q) (switch_onto m t l q e k)) (joined_from m t e (suc k))
+      (λ l q u v. ap (λ (x : Face). face_words (n# m) (join (n# m) x (switch_onto m t l q e k))) (piece_read m (table_by m g) g (begins_itself m g) l q u v)
+      ∙ join_ends (n# m) (g l q) (switch_onto m t l q e k)))
 
   -- from a face of one piece
-  pub from_one : (e : ℕ) → perFace m (source m e) ≡ 1 → {out : List ℤ} → out ≡ tableBy m (joinedBelow m t e) → withSwitch m t e 0 out ≡ tableBy m (joinedBelow m t (e + 1))
-  from_one e one h = from_more e 0 (h ∙ from-none e) ∙ ap (λ (k : ℕ). tableBy m (joinedFrom m t e k)) all ∙ from_all e
+  pub from_one : (e : ℕ) → per_face m (source m e) ≡ 1 → {out : List ℤ} → out ≡ table_by m (joined_below m t e) → with_switch m t e 0 out ≡ table_by m (joined_below m t (e + 1))
+  from_one e one h = from_more e 0 (h ∙ from_none e) ∙ ap (λ (k : ℕ). table_by m (joined_from m t e k)) all ∙ from_all e
     where
-      all : 0 + 1 ≡ perFace m (source m e)
+      all : 0 + 1 ≡ per_face m (source m e)
       all = omega (arith, one)
 
 -- ---- an absent piece lands nothing
 
-module _ (m t : List ℤ) (e k : ℕ) (gone : part_of m t (source m e) (sourcePiece m e k + 1) ≡ absent) where
-  piece-gone : piece_of m t (source m e) (sourcePiece m e k) ≡ absent
+module _ (m t : List ℤ) (e k : ℕ) (gone : part_of m t (source m e) (source_piece m e k + 1) ≡ absent) where
+  piece_gone : piece_of m t (source m e) (source_piece m e k) ≡ absent
   unfolding part_of
-  piece-gone = ap (part_of m t (source m e)) (sym (add-one (sourcePiece m e k))) ∙ gone
+  piece_gone = ap (part_of m t (source m e)) (sym (add-one (source_piece m e k))) ∙ gone
 
-  onto-gone : (l q : ℕ) → switchOnto m t l q e k ≡ absent
-  unfolding switchOnto switchStepAt switchStep toPiece
-  onto-gone l q =
-      ap (λ (g : Face). cond (eqb (target m e) l && eqb (targetFace m e) (pieceFace m l q)) (toPiece m l q (switchStepAt m e g)) absent) piece-gone
-      ∙ either (eqb (target m e) l && eqb (targetFace m e) (pieceFace m l q))
+  onto_gone : (l q : ℕ) → switch_onto m t l q e k ≡ absent
+  unfolding switch_onto switch_step_at switch_step to_piece
+  onto_gone l q =
+      ap (λ (g : Face). cond (eqb (target m e) l && eqb (target_face m e) (piece_face m l q)) (to_piece m l q (switch_step_at m e g)) absent) piece_gone
+      ∙ either (eqb (target m e) l && eqb (target_face m e) (piece_face m l q))
     where
-      either : (b : Bool) → cond b (toPiece m l q (switchStepAt m e absent)) absent ≡ absent
+      either : (b : Bool) → cond b (to_piece m l q (switch_step_at m e absent)) absent ≡ absent
       either true = refl
       either false = refl
 
-  pub nothing-landed : {out : List ℤ} → IsTable m out → out ≡ withSwitch m t e k out
-  nothing-landed {out} is =
+  pub nothing_landed : {out : List ℤ} → IsTable m out → out ≡ with_switch m t e k out
+  nothing_landed {out} is =
       sym is
-      ∙ table-ext m (piece_of m out) (λ l q. join (n# m) (piece_of m out l q) (switchOnto m t l q e k))
-      (λ l q u v. ap (faceWords (n# m)) (sym (ap (join (n# m) (piece_of m out l q)) (onto-gone l q) ∙ join-absent (n# m) (piece_of m out l q))))
+      ∙ table_ext m (piece_of m out) (λ l q. join (n# m) (piece_of m out l q) (switch_onto m t l q e k))
+      (λ l q u v. ap (face_words (n# m)) (sym (ap (join (n# m) (piece_of m out l q)) (onto_gone l q) ∙ join_absent (n# m) (piece_of m out l q))))

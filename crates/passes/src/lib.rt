@@ -14,7 +14,7 @@ pub use parts::start_part;
 // A pass: writes to `out` the table after it, each piece joined with every wall step and every switch step from `table`, cut to
 // the piece. `places` holds how many pieces stand before each location.
 pub fn pass<'a>(model: &'a [i32], places: &[usize], table: &'a [i32], out: &mut [i32])
-    requires { Checked model.now table.now × Places model.now places.now × (length out.old ≡ T.tableSize model.now) }
+    requires { Checked model.now table.now × Places model.now places.now × (length out.old ≡ T.table_size model.now) }
     ensures { out.new ≡ T.pass model.now table.now }
 {
     walls::walls(model, places, table, out);

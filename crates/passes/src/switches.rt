@@ -1,16 +1,16 @@
 // The switch steps of a pass: each from a piece of the source's face of the table before the pass, given to the pieces of the
 // target's face.
 ghost use Rattle.std.specs.Prelude.{◌≡◌, ◌+◌, ◌<◌};
-ghost use Rattle.plant.specs.Model.{n#, E#, source, target, cutFrom};
-ghost use Rattle.plant.specs.Pieces.{piecesPerFace, perFace};
-ghost use Rattle.plant.specs.Steps.{switchStep};
+ghost use Rattle.plant.specs.Model.{n#, E#, source, target, cut_from};
+ghost use Rattle.plant.specs.Pieces.{pieces_per_face, per_face};
+ghost use Rattle.plant.specs.Steps.{switch_step};
 ghost use Rattle.plant.specs.Tables as T;
-ghost use Rattle.plant.specs.Tables.{tableBy, faceRead, sourcePiece, wallsJoined};
+ghost use Rattle.plant.specs.Tables.{table_by, face_read, source_piece, walls_joined};
 ghost use Rattle.tables.specs.Places.{Places};
-ghost use Rattle.tables.specs.Room.{AreFaces, joinedEach, cutEach};
+ghost use Rattle.tables.specs.Room.{AreFaces, joined_each, cut_each};
 ghost use Rattle.passes.specs.Checked.{Checked};
 ghost use Rattle.passes.specs.Parts.{IsPart};
-ghost use Rattle.passes.specs.Joining.{SwitchJoin, Leaves, LandsOn, NoCut, IsTable, landedOn, withSwitch, joinedBelow};
+ghost use Rattle.passes.specs.Joining.{SwitchJoin, Leaves, LandsOn, NoCut, IsTable, landed_on, with_switch, joined_below};
 
 // Joins to the pieces of a face of wall variable d the switch step from a piece of the source's face.
 fn join_switch(
@@ -26,7 +26,7 @@ fn join_switch(
     pieces: &mut [i32],
 )
     requires { SwitchJoin n guard.now reset.now inv.now from.now variable value pieces.old }
-    ensures { pieces.new ≡ joinedEach n (piecesPerFace (cutFrom variable value)) pieces.old (cutEach n (cutFrom variable value) d (switchStep n mask guard.now reset.now inv.now (faceRead n from.now 0))) }
+    ensures { pieces.new ≡ joined_each n (pieces_per_face (cut_from variable value)) pieces.old (cut_each n (cut_from variable value) d (switch_step n mask guard.now reset.now inv.now (face_read n from.now 0))) }
 {
     if integers::same(from[0], 1) {
         let mut after = [0i32; 12];
@@ -53,7 +53,7 @@ fn source_piece<'a>(
     k: usize,
 ) -> &'a [i32]
     requires { Checked model.now table.now × Places model.now places.now × Leaves model.now e count k }
-    ensures { IsPart (n# model.now) result.now (T.part_of model.now table.now (source model.now e) (sourcePiece model.now e k + 1)) }
+    ensures { IsPart (n# model.now) result.now (T.part_of model.now table.now (source model.now e) (source_piece model.now e k + 1)) }
 {
     let n = records::variables(model);
     let l = records::source(model, e);
@@ -74,8 +74,8 @@ fn join_from<'a>(
     value: i32,
     pieces: &mut [i32],
 )
-    requires { Checked model.now table.now × Places model.now places.now × Leaves model.now e count k × LandsOn model.now e variable value × AreFaces (n# model.now) (perFace model.now (target model.now e)) pieces.old }
-    ensures { pieces.new ≡ landedOn model.now table.now e k pieces.old }
+    requires { Checked model.now table.now × Places model.now places.now × Leaves model.now e count k × LandsOn model.now e variable value × AreFaces (n# model.now) (per_face model.now (target model.now e)) pieces.old }
+    ensures { pieces.new ≡ landed_on model.now table.now e k pieces.old }
 {
     let n = records::variables(model);
     let from = source_piece(model, places, table, e, count, k);
@@ -100,7 +100,7 @@ fn land_present<'a>(
     out: &mut [i32],
 )
     requires { Checked model.now table.now × Places model.now places.now × Leaves model.now e count k × LandsOn model.now e variable value × IsTable model.now out.old }
-    ensures { out.new ≡ withSwitch model.now table.now e k out.old }
+    ensures { out.new ≡ with_switch model.now table.now e k out.old }
 {
     let n = records::variables(model);
     let l = records::target(model, e);
@@ -134,7 +134,7 @@ fn land<'a>(
     out: &mut [i32],
 )
     requires { Checked model.now table.now × Places model.now places.now × Leaves model.now e count k × LandsOn model.now e variable value × IsTable model.now out.old }
-    ensures { out.new ≡ withSwitch model.now table.now e k out.old }
+    ensures { out.new ≡ with_switch model.now table.now e k out.old }
 {
     let from = source_piece(model, places, table, e, count, k);
     if integers::same(from[0], 1) {
@@ -144,8 +144,8 @@ fn land<'a>(
 
 // Joins the steps of switch e from all pieces of its source's face.
 fn land_each<'a>(model: &'a [i32], places: &[usize], table: &'a [i32], e: usize, out: &mut [i32])
-    requires { Checked model.now table.now × Places model.now places.now × (e < E# model.now) × (out.old ≡ tableBy model.now (joinedBelow model.now table.now e)) }
-    ensures { out.new ≡ tableBy model.now (joinedBelow model.now table.now (e + 1)) }
+    requires { Checked model.now table.now × Places model.now places.now × (e < E# model.now) × (out.old ≡ table_by model.now (joined_below model.now table.now e)) }
+    ensures { out.new ≡ table_by model.now (joined_below model.now table.now (e + 1)) }
 {
     let l = records::target(model, e);
     let variable = records::cut_variable(model, l);
@@ -160,7 +160,7 @@ fn land_each<'a>(model: &'a [i32], places: &[usize], table: &'a [i32], e: usize,
 
 // Joins all switch steps in a model with cuts.
 fn switches_cut<'a>(model: &'a [i32], places: &[usize], table: &'a [i32], out: &mut [i32])
-    requires { Checked model.now table.now × Places model.now places.now × (out.old ≡ tableBy model.now (wallsJoined model.now table.now)) }
+    requires { Checked model.now table.now × Places model.now places.now × (out.old ≡ table_by model.now (walls_joined model.now table.now)) }
     ensures { out.new ≡ T.pass model.now table.now }
 {
     let count = records::switches(model);
@@ -173,7 +173,7 @@ fn switches_cut<'a>(model: &'a [i32], places: &[usize], table: &'a [i32], out: &
 
 // Joins all switch steps in a model without a cut: each face has one piece, and no cut is read.
 fn switches_uncut<'a>(model: &'a [i32], places: &[usize], table: &'a [i32], out: &mut [i32])
-    requires { Checked model.now table.now × Places model.now places.now × (out.old ≡ tableBy model.now (wallsJoined model.now table.now)) × NoCut model.now }
+    requires { Checked model.now table.now × Places model.now places.now × (out.old ≡ table_by model.now (walls_joined model.now table.now)) × NoCut model.now }
     ensures { out.new ≡ T.pass model.now table.now }
 {
     let count = records::switches(model);
@@ -186,7 +186,7 @@ fn switches_uncut<'a>(model: &'a [i32], places: &[usize], table: &'a [i32], out:
 
 // Joins all switch steps to the pieces that have their wall steps.
 pub fn switches<'a>(model: &'a [i32], places: &[usize], table: &'a [i32], out: &mut [i32])
-    requires { Checked model.now table.now × Places model.now places.now × (out.old ≡ tableBy model.now (wallsJoined model.now table.now)) }
+    requires { Checked model.now table.now × Places model.now places.now × (out.old ≡ table_by model.now (walls_joined model.now table.now)) }
     ensures { out.new ≡ T.pass model.now table.now }
 {
     let locations = records::locations(model);

@@ -2,16 +2,16 @@
 // then given to the pieces of the face.
 ghost use Rattle.std.specs.Prelude.{◌≡◌, ◌*◌, ◌<◌, pos, length};
 ghost use Rattle.integers.specs.Words.{word};
-ghost use Rattle.plant.specs.Box.{boxAt, hull, present, faceWords};
+ghost use Rattle.plant.specs.Box.{box_at, hull, present, face_words};
 ghost use Rattle.plant.specs.declared.Delays.TheVariants.{Between};
-ghost use Rattle.plant.specs.Model.{L#, cutVariable, cutValue, cutFrom};
-ghost use Rattle.plant.specs.Pieces.{piecesPerFace, pieces};
-ghost use Rattle.plant.specs.Steps.{boxAfter, faceAfter, wallStep};
-ghost use Rattle.plant.specs.Tables.{faceSize, piecesBefore, tableSize, faceRead, piece_of, tableBy, startPart, wallsJoined};
+ghost use Rattle.plant.specs.Model.{L#, cut_variable, cut_value, cut_from};
+ghost use Rattle.plant.specs.Pieces.{pieces_per_face, pieces};
+ghost use Rattle.plant.specs.Steps.{box_after, face_after, wall_step};
+ghost use Rattle.plant.specs.Tables.{face_size, pieces_before, table_size, face_read, piece_of, table_by, start_part, walls_joined};
 ghost use Rattle.tables.specs.Places.{Places};
-ghost use Rattle.tables.specs.Room.{AreFaces, joinedEach, cutEach, CutVariable};
+ghost use Rattle.tables.specs.Room.{AreFaces, joined_each, cut_each, CutVariable};
 ghost use Rattle.passes.specs.Checked.{Checked};
-ghost use Rattle.passes.specs.Joining.{Located, piecesWith, AfterJoin, WallJoin, WallsJoin, PartJoin, StartJoin, wallsFrom, locationBy};
+ghost use Rattle.passes.specs.Joining.{Located, pieces_with, AfterJoin, WallJoin, WallsJoin, PartJoin, StartJoin, walls_from, location_by};
 
 use super::parts;
 use plant::{Delays, End, Interval};
@@ -27,8 +27,8 @@ fn widen_after(
     t: Interval,
     face: &mut [i32],
 )
-    requires { AfterJoin n inv.now rate.now bounds.now b t × (length face.old ≡ faceSize n) × (word face.old 0 ≡ pos 1) }
-    ensures { face.new ≡ faceWords n (present (hull n (boxAt n face.old 1) (boxAfter n inv.now rate.now bounds.now d b t))) }
+    requires { AfterJoin n inv.now rate.now bounds.now b t × (length face.old ≡ face_size n) × (word face.old 0 ≡ pos 1) }
+    ensures { face.new ≡ face_words n (present (hull n (box_at n face.old 1) (box_after n inv.now rate.now bounds.now d b t))) }
 {
     let mut i = 0;
     while i < n {
@@ -58,8 +58,8 @@ fn join_after(
     value: i32,
     pieces: &mut [i32],
 )
-    requires { AfterJoin n inv.now rate.now bounds.now b t × CutVariable n variable × AreFaces n (piecesPerFace (cutFrom variable value)) pieces.old }
-    ensures { pieces.new ≡ joinedEach n (piecesPerFace (cutFrom variable value)) pieces.old (cutEach n (cutFrom variable value) d (faceAfter n inv.now rate.now bounds.now d b (Between t))) }
+    requires { AfterJoin n inv.now rate.now bounds.now b t × CutVariable n variable × AreFaces n (pieces_per_face (cut_from variable value)) pieces.old }
+    ensures { pieces.new ≡ joined_each n (pieces_per_face (cut_from variable value)) pieces.old (cut_each n (cut_from variable value) d (face_after n inv.now rate.now bounds.now d b (Between t))) }
 {
     let mut after = [0i32; 12];
     let size = 2 * n;
@@ -88,7 +88,7 @@ fn join_wall(
     pieces: &mut [i32],
 )
     requires { WallJoin n inv.now rate.now bounds.now end d b variable value pieces.old }
-    ensures { pieces.new ≡ joinedEach n (piecesPerFace (cutFrom variable value)) pieces.old (cutEach n (cutFrom variable value) d (wallStep n inv.now rate.now bounds.now d b)) }
+    ensures { pieces.new ≡ joined_each n (pieces_per_face (cut_from variable value)) pieces.old (cut_each n (cut_from variable value) d (wall_step n inv.now rate.now bounds.now d b)) }
 {
     let Delays::Between(t) = delays::wall_delays(rate, bounds, d, b, end) else {
         return;
@@ -111,7 +111,7 @@ fn join_walls(
     block: &mut [i32],
 )
     requires { WallsJoin n inv.now rate.now bounds.now variable value block.old }
-    ensures { block.new ≡ joinedEach n (piecesWith n (cutFrom variable value)) block.old (wallsFrom n inv.now rate.now (cutFrom variable value) (present bounds.now)) }
+    ensures { block.new ≡ joined_each n (pieces_with n (cut_from variable value)) block.old (walls_from n inv.now rate.now (cut_from variable value) (present bounds.now)) }
 {
     let end = delays::window_end(n, inv, rate, bounds);
     let faces = 2 * n;
@@ -147,7 +147,7 @@ fn join_part(
     block: &mut [i32],
 )
     requires { PartJoin n inv.now rate.now part.now variable value block.old }
-    ensures { block.new ≡ joinedEach n (piecesWith n (cutFrom variable value)) block.old (wallsFrom n inv.now rate.now (cutFrom variable value) (faceRead n part.now 0)) }
+    ensures { block.new ≡ joined_each n (pieces_with n (cut_from variable value)) block.old (walls_from n inv.now rate.now (cut_from variable value) (face_read n part.now 0)) }
 {
     if integers::same(part[0], 1) {
         join_walls(
@@ -174,7 +174,7 @@ fn join_started(
     block: &mut [i32],
 )
     requires { StartJoin model.now l n inv.now rate.now variable value block.old }
-    ensures { block.new ≡ joinedEach n (piecesWith n (cutFrom variable value)) block.old (wallsFrom n inv.now rate.now (cutFrom variable value) (startPart model.now l)) }
+    ensures { block.new ≡ joined_each n (pieces_with n (cut_from variable value)) block.old (walls_from n inv.now rate.now (cut_from variable value) (start_part model.now l)) }
 {
     let mut start = [0i32; 12];
     let end = 2 * n;
@@ -195,7 +195,7 @@ fn join_start(
     block: &mut [i32],
 )
     requires { StartJoin model.now l n inv.now rate.now variable value block.old }
-    ensures { block.new ≡ joinedEach n (piecesWith n (cutFrom variable value)) block.old (wallsFrom n inv.now rate.now (cutFrom variable value) (startPart model.now l)) }
+    ensures { block.new ≡ joined_each n (pieces_with n (cut_from variable value)) block.old (walls_from n inv.now rate.now (cut_from variable value) (start_part model.now l)) }
 {
     if integers::same(records::start_flag(model, l), 1) {
         join_started(model, l, n, inv, rate, variable, value, block);
@@ -205,7 +205,7 @@ fn join_start(
 // The words of the cut of location l with so many pieces: they are read only where it is cut.
 fn cut_variable(model: &[i32], l: usize, n: usize, count: usize) -> i32
     requires { Located model.now l n count }
-    ensures { result ≡ cutVariable model.now l }
+    ensures { result ≡ cut_variable model.now l }
 {
     if count == 2 * n {
         -1
@@ -216,7 +216,7 @@ fn cut_variable(model: &[i32], l: usize, n: usize, count: usize) -> i32
 
 fn cut_value(model: &[i32], l: usize, n: usize, count: usize) -> i32
     requires { Located model.now l n count }
-    ensures { result ≡ cutValue model.now l }
+    ensures { result ≡ cut_value model.now l }
 {
     if count == 2 * n {
         0
@@ -235,8 +235,8 @@ fn join_parts<'a>(
     count: usize,
     block: &mut [i32],
 )
-    requires { Checked model.now table.now × (l < L# model.now) × (before ≡ piecesBefore model.now l) × (block.old ≡ locationBy model.now l (piece_of model.now table.now l)) × (count ≡ pieces model.now l) }
-    ensures { block.new ≡ locationBy model.now l (wallsJoined model.now table.now l) }
+    requires { Checked model.now table.now × (l < L# model.now) × (before ≡ pieces_before model.now l) × (block.old ≡ location_by model.now l (piece_of model.now table.now l)) × (count ≡ pieces model.now l) }
+    ensures { block.new ≡ location_by model.now l (walls_joined model.now table.now l) }
 {
     let n = records::variables(model);
     let inv = records::invariant(model, l);
@@ -254,8 +254,8 @@ fn join_parts<'a>(
 
 // The whole table: its words are copied at once, and the wall steps of each location joined to them.
 pub fn walls<'a>(model: &'a [i32], places: &[usize], table: &'a [i32], out: &mut [i32])
-    requires { Checked model.now table.now × Places model.now places.now × (length out.old ≡ tableSize model.now) }
-    ensures { out.new ≡ tableBy model.now (wallsJoined model.now table.now) }
+    requires { Checked model.now table.now × Places model.now places.now × (length out.old ≡ table_size model.now) }
+    ensures { out.new ≡ table_by model.now (walls_joined model.now table.now) }
 {
     let n = records::variables(model);
     let locations = records::locations(model);

@@ -12,21 +12,21 @@ use Rattle.plant.specs.declared.Answer.TheVariants.{Safe, Unknown, Unfinished}
 use Rattle.plant.specs.declared.Ceiling.TheVariants.{Passes}
 use Rattle.plant.specs.Ask.{ask, ◌then◌}
 use Rattle.plant.specs.Box.{absent}
-use Rattle.plant.specs.Model.{L#, modelSize, cutFrom, cut_of}
-use Rattle.plant.specs.Questions.{modelQuestions}
+use Rattle.plant.specs.Model.{L#, model_size, cut_from, cut_of}
+use Rattle.plant.specs.Questions.{model_questions}
 use Rattle.plant.specs.Pieces.{pieces}
-use Rattle.plant.specs.Tables.{piece_of, startPart, pass, tableAfter, touching}
-use Rattle.plant.specs.Calls.{ceilingBy, ceilingCall, tableRoomQuestion, unchanged, certificateQuestions, tableQuestions, checkerQuestions, verdictBy, checkCall, search, analysis, passesOf, answerTable, analysisQuestions, answered, analyseBy, analyseCall}
+use Rattle.plant.specs.Tables.{piece_of, start_part, pass, table_after, touching}
+use Rattle.plant.specs.Calls.{ceiling_by, ceiling_call, table_room_question, unchanged, certificate_questions, table_questions, checker_questions, verdict_by, check_call, search, analysis, passes_of, answer_table, analysis_questions, answered, analyse_by, analyse_call}
 use Rattle.plant.proofs.Asks.{then_same}
 use Rattle.plant.proofs.Passed.{Passed, passed}
 use Rattle.plant.proofs.Whole.{Whole}
 use Rattle.plant.proofs.Passing.{whole}
 use Rattle.plant.proofs.Beginning as same
-use Rattle.plant.proofs.Beginning.{alone, alone-whole, questions-alone}
-use Rattle.plant.proofs.Alike.{Alike, same_size, same-ceiling, same-table, piece-same, same_ok}
-use Rattle.plant.proofs.SameModel.{SameModel, same-pass, same-touching}
-use Rattle.plant.proofs.Front.{front, room-front, questions-front}
-use Rattle.plant.proofs.AnalysisAsked.{model-asked}
+use Rattle.plant.proofs.Beginning.{alone, alone_whole, questions_alone}
+use Rattle.plant.proofs.Alike.{Alike, same_size, same_ceiling, same_table, piece_same, same_ok}
+use Rattle.plant.proofs.SameModel.{SameModel, same_pass, same_touching}
+use Rattle.plant.proofs.Front.{front, room_front, questions_front}
+use Rattle.plant.proofs.AnalysisAsked.{model_asked}
 
 -- ---- a model, and the list of words that begins with it
 
@@ -34,119 +34,119 @@ module _ (a r : List ℤ) (w : Whole a) where
   abbrev m : List ℤ
   m = a ++ r
 
-  start-behind : (l : ℕ) → l < L# a → startPart a l ≡ startPart m l
-  unfolding startPart
-  start-behind l u = sym (rw (same.n-same a r w, same.flag_same a r w l u, same.start-same a r w l u, same.invariant-same a r w l u) refl)
+  start_behind : (l : ℕ) → l < L# a → start_part a l ≡ start_part m l
+  unfolding start_part
+  start_behind l u = sym (rw (same.n_same a r w, same.flag_same a r w l u, same.start_same a r w l u, same.invariant_same a r w l u) refl)
 
-  cut-behind : (l : ℕ) → l < L# a → cut_of a l ≡ cut_of m l
+  cut_behind : (l : ℕ) → l < L# a → cut_of a l ≡ cut_of m l
   unfolding cut_of
-  cut-behind l u = sym (ap₂ cutFrom (same.cut-variable-same a r w l u) (same.cut-value-same a r w l u))
+  cut_behind l u = sym (ap₂ cut_from (same.cut_variable_same a r w l u) (same.cut_value_same a r w l u))
 
-  same-behind : SameModel a m
-  same-behind = record {
-    alike = record { same-n = sym (same.n-same a r w); same-L = sym (same.L-same a r w); same-invariant = λ l u. sym (same.invariant-same a r w l u); same-cut = cut-behind };
-    same-E = sym (same.E-same a r w);
-    same-B = sym (same.B-same a r w);
-    rates = λ l u. sym (same.rate-same a r w l u);
-    starts = start-behind;
+  same_behind : SameModel a m
+  same_behind = record {
+    alike = record { same_n = sym (same.n_same a r w); same_L = sym (same.L_same a r w); same_invariant = λ l u. sym (same.invariant_same a r w l u); same_cut = cut_behind };
+    same_E = sym (same.E_same a r w);
+    same_B = sym (same.B_same a r w);
+    rates = λ l u. sym (same.rate_same a r w l u);
+    starts = start_behind;
     switches = λ e u. record {
-      sources = sym (same.source-same a r w e u);
-      targets = sym (same.target-same a r w e u);
-      variables = sym (same.variable-same a r w e u);
-      source-sides = sym (same.source-side-same a r w e u);
-      target-sides = sym (same.target-side-same a r w e u);
-      masks = sym (same.mask-same a r w e u);
-      guards = sym (same.guard-same a r w e u);
-      resets = sym (same.reset-same a r w e u);
+      sources = sym (same.source_same a r w e u);
+      targets = sym (same.target_same a r w e u);
+      variables = sym (same.variable_same a r w e u);
+      source_sides = sym (same.source_side_same a r w e u);
+      target_sides = sym (same.target_side_same a r w e u);
+      masks = sym (same.mask_same a r w e u);
+      guards = sym (same.guard_same a r w e u);
+      resets = sym (same.reset_same a r w e u);
     };
-    locations = λ b u. sym (same.forbidden-location-same a r w b u);
-    boxes = λ b u. sym (same.forbidden-box-same a r w b u);
+    locations = λ b u. sym (same.forbidden_location_same a r w b u);
+    boxes = λ b u. sym (same.forbidden_box_same a r w b u);
   }
 
-module _ (m : List ℤ) (asks : modelQuestions m ≡ 0) where
+module _ (m : List ℤ) (asks : model_questions m ≡ 0) where
   is_same : SameModel (alone m) m
-  is_same = subst (SameModel (alone m)) (take-append-drop (modelSize m) m) (same-behind (alone m) (drop (modelSize m) m) (alone-whole m (whole m asks)))
+  is_same = subst (SameModel (alone m)) (take-append-drop (model_size m) m) (same_behind (alone m) (drop (model_size m) m) (alone_whole m (whole m asks)))
 
-  pub passed-alone : Passed (alone m)
-  passed-alone = passed (alone m) (questions-alone m ∙ asks)
+  pub passed_alone : Passed (alone m)
+  passed_alone = passed (alone m) (questions_alone m ∙ asks)
 
-  pub alike-alone : Alike (alone m) m
-  alike-alone = is_same.alike
+  pub alike_alone : Alike (alone m) m
+  alike_alone = is_same.alike
 
   -- ---- a table t
 
   module _ (t : List ℤ) where
-    each-alone : (l q : ℕ) → l < L# (alone m) → q < pieces (alone m) l → piece_of (alone m) t l q ≡ piece_of m t l q
-    each-alone l q u v = piece-same (alone m) m alike-alone t l q u
+    each_alone : (l q : ℕ) → l < L# (alone m) → q < pieces (alone m) l → piece_of (alone m) t l q ≡ piece_of m t l q
+    each_alone l q u v = piece_same (alone m) m alike_alone t l q u
 
     pass_alone : pass (alone m) t ≡ pass m t
-    pass_alone = same-pass (alone m) m is_same passed-alone t t each-alone
+    pass_alone = same_pass (alone m) m is_same passed_alone t t each_alone
 
-    touching-alone : touching (alone m) t ≡ touching m t
-    touching-alone = same-touching (alone m) m is_same passed-alone t t each-alone
+    touching_alone : touching (alone m) t ≡ touching m t
+    touching_alone = same_touching (alone m) m is_same passed_alone t t each_alone
 
-    table-questions-alone : tableQuestions (alone m) t ≡ tableQuestions m t
-    unfolding tableQuestions certificateQuestions unchanged
-    table-questions-alone = λ i.
-        ask (same_ok (alone m) m alike-alone t i) 32
-        then (ask (equal (pass_alone i) (take (same_size (alone m) m alike-alone i) t)) 33
-        then ask (not (touching-alone i)) 34)
+    table_questions_alone : table_questions (alone m) t ≡ table_questions m t
+    unfolding table_questions certificate_questions unchanged
+    table_questions_alone = λ i.
+        ask (same_ok (alone m) m alike_alone t i) 32
+        then (ask (equal (pass_alone i) (take (same_size (alone m) m alike_alone i) t)) 33
+        then ask (not (touching_alone i)) 34)
 
   -- ---- table k, and the search for an answer
 
-  after-alone : (k : ℕ) → tableAfter (alone m) k ≡ tableAfter m k
-  unfolding tableAfter
-  after-alone zero = same-table (alone m) m alike-alone (λ l q. absent) (λ l q. absent) (λ l q u v. refl)
-  after-alone (suc k) = pass_alone (tableAfter (alone m) k) ∙ ap (pass m) (after-alone k)
+  after_alone : (k : ℕ) → table_after (alone m) k ≡ table_after m k
+  unfolding table_after
+  after_alone zero = same_table (alone m) m alike_alone (λ l q. absent) (λ l q. absent) (λ l q u v. refl)
+  after_alone (suc k) = pass_alone (table_after (alone m) k) ∙ ap (pass m) (after_alone k)
 
-  touches-alone : (k : ℕ) → touching (alone m) (tableAfter (alone m) k) ≡ touching m (tableAfter m k)
-  touches-alone k = touching-alone (tableAfter (alone m) k) ∙ ap (touching m) (after-alone k)
+  touches_alone : (k : ℕ) → touching (alone m) (table_after (alone m) k) ≡ touching m (table_after m k)
+  touches_alone k = touching_alone (table_after (alone m) k) ∙ ap (touching m) (after_alone k)
 
-  search-alone : (left k : ℕ) → search (alone m) left k ≡ search m left k
+  search_alone : (left k : ℕ) → search (alone m) left k ≡ search m left k
   unfolding search
-  search-alone zero k = λ i. cond (touches-alone k i) (Unknown k) (cond (equal (after-alone (suc k) i) (after-alone k i)) (Safe k) (Unfinished k))
-  search-alone (suc left) k = λ i. cond (touches-alone k i) (Unknown k) (cond (equal (after-alone (suc k) i) (after-alone k i)) (Safe k) (search-alone left (suc k) i))
+  search_alone zero k = λ i. cond (touches_alone k i) (Unknown k) (cond (equal (after_alone (suc k) i) (after_alone k i)) (Safe k) (Unfinished k))
+  search_alone (suc left) k = λ i. cond (touches_alone k i) (Unknown k) (cond (equal (after_alone (suc k) i) (after_alone k i)) (Safe k) (search_alone left (suc k) i))
 
-  pub answered-alone : (limit : ℕ) (table work : List ℤ) → answered (alone m) (analysis (alone m) limit) table work ≡ answered m (analysis m limit) table work
-  unfolding analysis answerTable
-  answered-alone limit table work = λ i.
-      record { answer = search-alone limit 0 i; table = onto (after-alone (passesOf (search-alone limit 0 i)) i) table; work = replicate (length work) (pos 0) }
+  pub answered_alone : (limit : ℕ) (table work : List ℤ) → answered (alone m) (analysis (alone m) limit) table work ≡ answered m (analysis m limit) table work
+  unfolding analysis answer_table
+  answered_alone limit table work = λ i.
+      record { answer = search_alone limit 0 i; table = onto (after_alone (passes_of (search_alone limit 0 i)) i) table; work = replicate (length work) (pos 0) }
 
 -- ---- the calls, of every list of words
 
 module _ (m : List ℤ) where
   -- what follows the model's questions is asked only of a model that passes
-  pub after-questions : (p q : ℕ) → (modelQuestions m ≡ 0 → p ≡ q) → (modelQuestions (alone m) then p) ≡ (modelQuestions m then q)
-  after-questions p q e = ap (λ (k : ℕ). k then p) (questions-alone m) ∙ then_same (modelQuestions m) p q e
+  pub after_questions : (p q : ℕ) → (model_questions m ≡ 0 → p ≡ q) → (model_questions (alone m) then p) ≡ (model_questions m then q)
+  after_questions p q e = ap (λ (k : ℕ). k then p) (questions_alone m) ∙ then_same (model_questions m) p q e
 
-  pub room-alone : modelQuestions m ≡ 0 → (k : ℕ) → tableRoomQuestion (alone m) k ≡ tableRoomQuestion m k
-  room-alone asks k = ap (λ (size : ℕ). ask (leb size k) 20) (same_size (alone m) m (alike-alone m asks))
+  pub room_alone : model_questions m ≡ 0 → (k : ℕ) → table_room_question (alone m) k ≡ table_room_question m k
+  room_alone asks k = ap (λ (size : ℕ). ask (leb size k) 20) (same_size (alone m) m (alike_alone m asks))
 
-  ceiling-by : (q : ℕ) → (q ≡ 0 → modelQuestions m ≡ 0) → ceilingBy (alone m) q ≡ ceilingBy m q
-  ceiling-by zero h = ap Passes (same-ceiling (alone m) m (alike-alone m (h refl)))
-  ceiling-by (suc q) h = refl
+  ceiling_by_lem : (q : ℕ) → (q ≡ 0 → model_questions m ≡ 0) → ceiling_by (alone m) q ≡ ceiling_by m q
+  ceiling_by_lem zero h = ap Passes (same_ceiling (alone m) m (alike_alone m (h refl)))
+  ceiling_by_lem (suc q) h = refl
 
-  pub ceiling-alone : ceilingCall (alone m) ≡ ceilingCall m
-  unfolding ceilingCall
-  ceiling-alone = ap (ceilingBy (alone m)) (questions-alone m) ∙ ceiling-by (modelQuestions m) (λ e. e)
+  pub ceiling_alone : ceiling_call (alone m) ≡ ceiling_call m
+  unfolding ceiling_call
+  ceiling_alone = ap (ceiling_by (alone m)) (questions_alone m) ∙ ceiling_by_lem (model_questions m) (λ e. e)
 
   -- of a list of words t, and of the table alone
-  pub check-alone : (t : List ℤ) → checkCall (alone m) (front m t) ≡ checkCall m t
-  unfolding checkCall checkerQuestions
-  check-alone t = ap verdictBy (after-questions _ _ (λ asks.
-      ap₂ ◌then◌ (room-alone asks (length (front m t)) ∙ room-front m t) (table-questions-alone m asks (front m t) ∙ questions-front m (passed m asks) t)))
+  pub check_alone : (t : List ℤ) → check_call (alone m) (front m t) ≡ check_call m t
+  unfolding check_call checker_questions
+  check_alone t = ap verdict_by (after_questions _ _ (λ asks.
+      ap₂ ◌then◌ (room_alone asks (length (front m t)) ∙ room_front m t) (table_questions_alone m asks (front m t) ∙ questions_front m (passed m asks) t)))
 
-  pub analysis-questions-alone : (table work : List ℤ) → analysisQuestions (alone m) table work ≡ analysisQuestions m table work
-  unfolding analysisQuestions
-  analysis-questions-alone table work = after-questions _ _ (λ asks.
-      ap (λ (size : ℕ). ask (leb size (length table)) 20 then ask (leb size (length work)) 21) (same_size (alone m) m (alike-alone m asks)))
+  pub analysis_questions_alone : (table work : List ℤ) → analysis_questions (alone m) table work ≡ analysis_questions m table work
+  unfolding analysis_questions
+  analysis_questions_alone table work = after_questions _ _ (λ asks.
+      ap (λ (size : ℕ). ask (leb size (length table)) 20 then ask (leb size (length work)) 21) (same_size (alone m) m (alike_alone m asks)))
 
-  analyse-by : (limit : ℕ) (table work : List ℤ) (q : ℕ) → (q ≡ 0 → modelQuestions m ≡ 0) → analyseBy q (alone m) limit table work ≡ analyseBy q m limit table work
-  analyse-by limit table work zero h = answered-alone m (h refl) limit table work
-  analyse-by limit table work (suc q) h = refl
+  analyse_by_lem : (limit : ℕ) (table work : List ℤ) (q : ℕ) → (q ≡ 0 → model_questions m ≡ 0) → analyse_by q (alone m) limit table work ≡ analyse_by q m limit table work
+  analyse_by_lem limit table work zero h = answered_alone m (h refl) limit table work
+  analyse_by_lem limit table work (suc q) h = refl
 
-  pub analyse-alone : (limit : ℕ) (table work : List ℤ) → analyseCall (alone m) limit table work ≡ analyseCall m limit table work
-  unfolding analyseCall
-  analyse-alone limit table work =
-      ap (λ (q : ℕ). analyseBy q (alone m) limit table work) (analysis-questions-alone table work)
-      ∙ analyse-by limit table work (analysisQuestions m table work) (model-asked m table work)
+  pub analyse_alone : (limit : ℕ) (table work : List ℤ) → analyse_call (alone m) limit table work ≡ analyse_call m limit table work
+  unfolding analyse_call
+  analyse_alone limit table work =
+      ap (λ (q : ℕ). analyse_by q (alone m) limit table work) (analysis_questions_alone table work)
+      ∙ analyse_by_lem limit table work (analysis_questions m table work) (model_asked m table work)

@@ -9,8 +9,8 @@ use Rattle.integers.specs.Words.{word}
 use Rattle.plant.specs.Box.{low, high}
 use Rattle.plant.specs.Model.{wall}
 
-pub wall-at : (inv : List ℤ) (d s : ℕ) → s ≤ 1 → word inv (2 * d + s) ≡ wall inv d s
+pub wall_at : (inv : List ℤ) (d s : ℕ) → s ≤ 1 → word inv (2 * d + s) ≡ wall inv d s
 unfolding wall low high
-wall-at inv d zero h = rw add-zero
-wall-at inv d (suc zero) h = refl
-wall-at inv d (suc (suc s)) h = absurd (omega arith)
+wall_at inv d zero h = rw add-zero
+wall_at inv d (suc zero) h = refl
+wall_at inv d (suc (suc s)) h = absurd (omega arith)

@@ -53,21 +53,21 @@ pub const HEAD_SIZE: usize = 5;
 
 pub fn location_size(n: usize) -> usize
     requires { n ≤ 6 }
-    ensures { result ≡ M.locationSize n }
+    ensures { result ≡ M.location_size n }
 {
     6 * n + 1
 }
 
 pub fn switch_size(n: usize) -> usize
     requires { n ≤ 6 }
-    ensures { result ≡ M.switchSize n }
+    ensures { result ≡ M.switch_size n }
 {
     6 + 4 * n
 }
 
 pub fn forbidden_size(n: usize) -> usize
     requires { n ≤ 6 }
-    ensures { result ≡ M.forbiddenSize n }
+    ensures { result ≡ M.forbidden_size n }
 {
     1 + 2 * n
 }
@@ -85,21 +85,21 @@ pub const FEW_WORDS: usize = 512;
 
 pub fn location_at(model: &[i32], l: usize) -> usize
     requires { Head model.now × (l ≤ 64) }
-    ensures { result ≡ M.locationAt model.now l }
+    ensures { result ≡ M.location_at model.now l }
 {
     HEAD_SIZE + l * location_size(variables(model))
 }
 
 pub fn switch_at(model: &[i32], e: usize) -> usize
     requires { Head model.now × (e ≤ 128) }
-    ensures { result ≡ M.switchAt model.now e }
+    ensures { result ≡ M.switch_at model.now e }
 {
     location_at(model, locations(model)) + e * switch_size(variables(model))
 }
 
 pub fn forbidden_at(model: &[i32], b: usize) -> usize
     requires { Head model.now × (b ≤ 64) }
-    ensures { result ≡ M.forbiddenAt model.now b }
+    ensures { result ≡ M.forbidden_at model.now b }
 {
     switch_at(model, switches(model)) + b * forbidden_size(variables(model))
 }
@@ -114,7 +114,7 @@ pub fn cut_at(model: &[i32], l: usize) -> usize
 // How many words the model has.
 pub fn size(model: &[i32]) -> usize
     requires { Head model.now }
-    ensures { result ≡ M.modelSize model.now }
+    ensures { result ≡ M.model_size model.now }
 {
     cut_at(model, locations(model))
 }
@@ -122,7 +122,7 @@ pub fn size(model: &[i32]) -> usize
 // The box of n variables at a place of the words.
 pub fn box_at(s: &[i32], at: usize, n: usize) -> &[i32]
     requires { at + 2 * n ≤ length s.now }
-    ensures { result.now ≡ B.boxAt n s.now at }
+    ensures { result.now ≡ B.box_at n s.now at }
 {
     let end = at + 2 * n;
     &s[at..end]
@@ -147,14 +147,14 @@ pub fn rate(model: &[i32], l: usize) -> &[i32]
 
 pub fn start_flag(model: &[i32], l: usize) -> i32
     requires { Whole model.now × (l < M.L# model.now) }
-    ensures { result ≡ M.startFlag model.now l }
+    ensures { result ≡ M.start_flag model.now l }
 {
     model[location_at(model, l) + 4 * variables(model)]
 }
 
 pub fn start_box(model: &[i32], l: usize) -> &[i32]
     requires { Whole model.now × (l < M.L# model.now) }
-    ensures { result.now ≡ M.startBox model.now l }
+    ensures { result.now ≡ M.start_box model.now l }
 {
     let n = variables(model);
     box_at(model, location_at(model, l) + (4 * n + 1), n)
@@ -178,28 +178,28 @@ pub fn target(model: &[i32], e: usize) -> usize
 
 pub fn wall_variable(model: &[i32], e: usize) -> usize
     requires { Numbered model.now e }
-    ensures { result ≡ M.wallVariable model.now e }
+    ensures { result ≡ M.wall_variable model.now e }
 {
     integers::number(model, switch_at(model, e) + 2)
 }
 
 pub fn source_side(model: &[i32], e: usize) -> usize
     requires { Numbered model.now e }
-    ensures { result ≡ M.sourceSide model.now e }
+    ensures { result ≡ M.source_side model.now e }
 {
     integers::number(model, switch_at(model, e) + 3)
 }
 
 pub fn target_side(model: &[i32], e: usize) -> usize
     requires { Numbered model.now e }
-    ensures { result ≡ M.targetSide model.now e }
+    ensures { result ≡ M.target_side model.now e }
 {
     integers::number(model, switch_at(model, e) + 4)
 }
 
 pub fn reset_mask(model: &[i32], e: usize) -> usize
     requires { Numbered model.now e }
-    ensures { result ≡ M.resetMask model.now e }
+    ensures { result ≡ M.reset_mask model.now e }
 {
     integers::number(model, switch_at(model, e) + 5)
 }
@@ -230,15 +230,15 @@ pub fn reset(model: &[i32], e: usize) -> &[i32]
 // ---- the record of a forbidden box
 
 pub fn forbidden_location(model: &[i32], b: usize) -> usize
-    requires { Whole model.now × (b < M.B# model.now) × T (non_neg (W.word model.now (M.forbiddenAt model.now b))) }
-    ensures { result ≡ M.forbiddenLocation model.now b }
+    requires { Whole model.now × (b < M.B# model.now) × T (non_neg (W.word model.now (M.forbidden_at model.now b))) }
+    ensures { result ≡ M.forbidden_location model.now b }
 {
     integers::number(model, forbidden_at(model, b))
 }
 
 pub fn forbidden_box(model: &[i32], b: usize) -> &[i32]
     requires { Whole model.now × (b < M.B# model.now) }
-    ensures { result.now ≡ M.forbiddenBox model.now b }
+    ensures { result.now ≡ M.forbidden_box model.now b }
 {
     box_at(model, forbidden_at(model, b) + 1, variables(model))
 }
@@ -247,14 +247,14 @@ pub fn forbidden_box(model: &[i32], b: usize) -> &[i32]
 
 pub fn cut_variable(model: &[i32], l: usize) -> i32
     requires { Whole model.now × (l < M.L# model.now) }
-    ensures { result ≡ M.cutVariable model.now l }
+    ensures { result ≡ M.cut_variable model.now l }
 {
     model[cut_at(model, l)]
 }
 
 pub fn cut_value(model: &[i32], l: usize) -> i32
     requires { Whole model.now × (l < M.L# model.now) }
-    ensures { result ≡ M.cutValue model.now l }
+    ensures { result ≡ M.cut_value model.now l }
 {
     model[cut_at(model, l) + 1]
 }
@@ -270,7 +270,7 @@ pub fn wall(inv: &[i32], d: usize, s: usize) -> i32
 // The wall that a switch leaves.
 pub fn source_wall(model: &[i32], e: usize) -> i32
     requires { Placed model.now e }
-    ensures { result ≡ Q.sourceWall model.now e }
+    ensures { result ≡ Q.source_wall model.now e }
 {
     let inv = invariant(model, source(model, e));
     wall(inv, wall_variable(model, e), source_side(model, e))
@@ -279,7 +279,7 @@ pub fn source_wall(model: &[i32], e: usize) -> i32
 // The wall on which it lands.
 pub fn target_wall(model: &[i32], e: usize) -> i32
     requires { Placed model.now e }
-    ensures { result ≡ Q.targetWall model.now e }
+    ensures { result ≡ Q.target_wall model.now e }
 {
     let inv = invariant(model, target(model, e));
     wall(inv, wall_variable(model, e), target_side(model, e))

@@ -7,70 +7,70 @@ use native.Mathlib.Nat.{div-div-eq-div-mul, div-one, pow-suc}
 use native.Mathlib.Numerals.{add-one}
 use lib.IntN.{ℤ}
 use lib.Signed.{le_z}
-use Rattle.integers.specs.Rounding.{maxZ, minZ}
+use Rattle.integers.specs.Rounding.{max_z, min_z}
 use Rattle.integers.specs.Counted.{all_below}
-use Rattle.plant.specs.Box.{low, high, boxBy, ordered, cut}
+use Rattle.plant.specs.Box.{low, high, box_by, ordered, cut}
 use Rattle.plant.specs.Model.{masked}
-use Rattle.plant.specs.Steps.{setMasked}
-use Rattle.plant.proofs.Boxes.{box-ext, low-cut, high_cut, low-setMasked, high-setMasked}
+use Rattle.plant.specs.Steps.{set_masked}
+use Rattle.plant.proofs.Boxes.{box_ext, low_cut, high_cut, low-set_masked, high-set_masked}
 use Rattle.delays.specs.Ranges.{Level, LevelAt}
-use Rattle.steps.proofs.Bounds.{max-abs, min-abs, cond-abs}
-use Rattle.steps.proofs.Written.{ordered-by, next-tested}
+use Rattle.steps.proofs.Bounds.{max_abs, min_abs, cond_abs}
+use Rattle.steps.proofs.Written.{ordered_by, next_tested}
 
 -- ---- the mask
 
-pub whole-mask : (mask : ℕ) → mask ≡ mask / 2 ^ 0
-whole-mask mask = sym (div-one mask)
+pub whole_mask : (mask : ℕ) → mask ≡ mask / 2 ^ 0
+whole_mask mask = sym (div-one mask)
 
-pub half-mask : (mask i : ℕ) → mask / 2 ^ i / 2 ≡ mask / 2 ^ (i + 1)
-half-mask mask i = div-div-eq-div-mul mask (2 ^ i) 2 ∙ ap (λ (k : ℕ). mask / k) (sym (pow-suc 2 i) ∙ ap (λ (k : ℕ). 2 ^ k) (sym (add-one i)))
+pub half_mask : (mask i : ℕ) → mask / 2 ^ i / 2 ≡ mask / 2 ^ (i + 1)
+half_mask mask i = div-div-eq-div-mul mask (2 ^ i) 2 ∙ ap (λ (k : ℕ). mask / k) (sym (pow-suc 2 i) ∙ ap (λ (k : ℕ). 2 ^ k) (sym (add-one i)))
 
 -- ---- the ends
 
 -- the box on which a switch lands the box of the source's face
-unfoldable pub landedBox : (n mask : ℕ) (guard reset inv from : List ℤ) → List ℤ
-landedBox n mask guard reset inv from = cut n (cut n (setMasked n mask reset (cut n from guard)) reset) inv
+unfoldable pub landed_box : (n mask : ℕ) (guard reset inv from : List ℤ) → List ℤ
+landed_box n mask guard reset inv from = cut n (cut n (set_masked n mask reset (cut n from guard)) reset) inv
 
-unfoldable pub guardedLow : (guard from : List ℤ) → ℕ → ℤ
-guardedLow guard from i = maxZ (low from i) (low guard i)
+unfoldable pub guarded_low : (guard from : List ℤ) → ℕ → ℤ
+guarded_low guard from i = max_z (low from i) (low guard i)
 
-unfoldable pub guardedHigh : (guard from : List ℤ) → ℕ → ℤ
-guardedHigh guard from i = minZ (high from i) (high guard i)
+unfoldable pub guarded_high : (guard from : List ℤ) → ℕ → ℤ
+guarded_high guard from i = min_z (high from i) (high guard i)
 
-unfoldable pub landedLow : (mask : ℕ) (guard reset inv from : List ℤ) → ℕ → ℤ
-landedLow mask guard reset inv from i = maxZ (maxZ (cond (masked mask i) (low reset i) (guardedLow guard from i)) (low reset i)) (low inv i)
+unfoldable pub landed_low : (mask : ℕ) (guard reset inv from : List ℤ) → ℕ → ℤ
+landed_low mask guard reset inv from i = max_z (max_z (cond (masked mask i) (low reset i) (guarded_low guard from i)) (low reset i)) (low inv i)
 
-unfoldable pub landedHigh : (mask : ℕ) (guard reset inv from : List ℤ) → ℕ → ℤ
-landedHigh mask guard reset inv from i = minZ (minZ (cond (masked mask i) (high reset i) (guardedHigh guard from i)) (high reset i)) (high inv i)
+unfoldable pub landed_high : (mask : ℕ) (guard reset inv from : List ℤ) → ℕ → ℤ
+landed_high mask guard reset inv from i = min_z (min_z (cond (masked mask i) (high reset i) (guarded_high guard from i)) (high reset i)) (high inv i)
 
 module _ (n mask : ℕ) (guard reset inv from : List ℤ) where
-  guarded-by : cut n from guard ≡ boxBy n (guardedLow guard from) (guardedHigh guard from)
-  unfolding cut guardedLow guardedHigh
-  guarded-by = refl
+  guarded_by : cut n from guard ≡ box_by n (guarded_low guard from) (guarded_high guard from)
+  unfolding cut guarded_low guarded_high
+  guarded_by = refl
 
-  abbrev afterReset : List ℤ
-  afterReset = setMasked n mask reset (cut n from guard)
+  abbrev after_reset : List ℤ
+  after_reset = set_masked n mask reset (cut n from guard)
 
-  low-lands : (i : ℕ) → i < n → maxZ (low (cut n afterReset reset) i) (low inv i) ≡ landedLow mask guard reset inv from i
-  unfolding landedLow guardedLow
-  low-lands i l = rw (low-cut n afterReset reset i l, low-setMasked n mask reset (cut n from guard) i l, low-cut n from guard i l)
+  low_lands : (i : ℕ) → i < n → max_z (low (cut n after_reset reset) i) (low inv i) ≡ landed_low mask guard reset inv from i
+  unfolding landed_low guarded_low
+  low_lands i l = rw (low_cut n after_reset reset i l, low-set_masked n mask reset (cut n from guard) i l, low_cut n from guard i l)
 
-  high-lands : (i : ℕ) → i < n → minZ (high (cut n afterReset reset) i) (high inv i) ≡ landedHigh mask guard reset inv from i
-  unfolding landedHigh guardedHigh
-  high-lands i l = rw (high_cut n afterReset reset i l, high-setMasked n mask reset (cut n from guard) i l, high_cut n from guard i l)
+  high_lands : (i : ℕ) → i < n → min_z (high (cut n after_reset reset) i) (high inv i) ≡ landed_high mask guard reset inv from i
+  unfolding landed_high guarded_high
+  high_lands i l = rw (high_cut n after_reset reset i l, high-set_masked n mask reset (cut n from guard) i l, high_cut n from guard i l)
 
-  cut_by : (a b : List ℤ) (lo hi : ℕ → ℤ) → ((i : ℕ) → i < n → maxZ (low a i) (low b i) ≡ lo i) → ((i : ℕ) → i < n → minZ (high a i) (high b i) ≡ hi i) → cut n a b ≡ boxBy n lo hi
+  cut_by : (a b : List ℤ) (lo hi : ℕ → ℤ) → ((i : ℕ) → i < n → max_z (low a i) (low b i) ≡ lo i) → ((i : ℕ) → i < n → min_z (high a i) (high b i) ≡ hi i) → cut n a b ≡ box_by n lo hi
   unfolding cut
-  cut_by a b lo hi e f = box-ext n (λ i. maxZ (low a i) (low b i)) (λ i. minZ (high a i) (high b i)) lo hi e f
+  cut_by a b lo hi e f = box_ext n (λ i. max_z (low a i) (low b i)) (λ i. min_z (high a i) (high b i)) lo hi e f
 
-  pub landed-by : landedBox n mask guard reset inv from ≡ boxBy n (landedLow mask guard reset inv from) (landedHigh mask guard reset inv from)
-  unfolding landedBox
-  landed-by = cut_by (cut n afterReset reset) inv (landedLow mask guard reset inv from) (landedHigh mask guard reset inv from) low-lands high-lands
+  pub landed_by : landed_box n mask guard reset inv from ≡ box_by n (landed_low mask guard reset inv from) (landed_high mask guard reset inv from)
+  unfolding landed_box
+  landed_by = cut_by (cut n after_reset reset) inv (landed_low mask guard reset inv from) (landed_high mask guard reset inv from) low_lands high_lands
 
   -- neither cut is empty
-  pub lands-by : ordered n (cut n from guard) && ordered n (landedBox n mask guard reset inv from)
-      ≡ all_below n (λ i. le_z (guardedLow guard from i) (guardedHigh guard from i)) && all_below n (λ i. le_z (landedLow mask guard reset inv from i) (landedHigh mask guard reset inv from i))
-  lands-by = rw (guarded-by, landed-by, ordered-by n (guardedLow guard from) (guardedHigh guard from), ordered-by n (landedLow mask guard reset inv from) (landedHigh mask guard reset inv from))
+  pub lands_by : ordered n (cut n from guard) && ordered n (landed_box n mask guard reset inv from)
+      ≡ all_below n (λ i. le_z (guarded_low guard from i) (guarded_high guard from i)) && all_below n (λ i. le_z (landed_low mask guard reset inv from i) (landed_high mask guard reset inv from i))
+  lands_by = rw (guarded_by, landed_by, ordered_by n (guarded_low guard from) (guarded_high guard from), ordered_by n (landed_low mask guard reset inv from) (landed_high mask guard reset inv from))
 
 -- ---- the two tests of a turn
 
@@ -85,17 +85,17 @@ unfolding all_below
 none_both f g = refl
 
 pub next_both : (f g : ℕ → Bool) (i : ℕ) → (all_below i f && all_below i g) && (f i && g i) ≡ all_below (i + 1) f && all_below (i + 1) g
-next_both f g i = both (all_below i f) (all_below i g) (f i) (g i) ∙ rw (next-tested f i, next-tested g i)
+next_both f g i = both (all_below i f) (all_below i g) (f i) (g i) ∙ rw (next_tested f i, next_tested g i)
 
 -- ---- the words are levels
 
 module _ (mask : ℕ) (guard reset inv from : List ℤ) (i : ℕ) (gs : LevelAt guard i) (rs : LevelAt reset i) (vs : LevelAt inv i) (fs : LevelAt from i) where
-  pub landed-low-level : Level (landedLow mask guard reset inv from i)
-  unfolding landedLow guardedLow
-  landed-low-level =
-      max-abs _ _ (max-abs _ _ (cond-abs (masked mask i) _ _ rs.low-in (max-abs _ _ fs.low-in gs.low-in)) rs.low-in) vs.low-in
+  pub landed_low_level : Level (landed_low mask guard reset inv from i)
+  unfolding landed_low guarded_low
+  landed_low_level =
+      max_abs _ _ (max_abs _ _ (cond_abs (masked mask i) _ _ rs.low_in (max_abs _ _ fs.low_in gs.low_in)) rs.low_in) vs.low_in
 
-  pub landed-high-level : Level (landedHigh mask guard reset inv from i)
-  unfolding landedHigh guardedHigh
-  landed-high-level =
-      min-abs _ _ (min-abs _ _ (cond-abs (masked mask i) _ _ rs.high-in (min-abs _ _ fs.high-in gs.high-in)) rs.high-in) vs.high-in
+  pub landed_high_level : Level (landed_high mask guard reset inv from i)
+  unfolding landed_high guarded_high
+  landed_high_level =
+      min_abs _ _ (min_abs _ _ (cond_abs (masked mask i) _ _ rs.high_in (min_abs _ _ fs.high_in gs.high_in)) rs.high_in) vs.high_in

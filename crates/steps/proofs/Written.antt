@@ -11,51 +11,51 @@ use lib.Signed.{lt_z, le_z}
 use lib.ListN.{length, set}
 use Rattle.integers.specs.Words.{onto}
 use Rattle.integers.specs.Counted.{all_below}
-use Rattle.integers.proofs.Tests.{is_true, true-is}
-use Rattle.integers.proofs.Counted.{all_yes, all-ext}
-use Rattle.integers.proofs.Buffers.{onto-none, onto-two, cat-none, cat-more}
-use Rattle.plant.specs.Box.{low, high, boxBy, ordered}
-use Rattle.plant.proofs.Boxes.{low-boxBy, high-boxBy, length-boxBy}
+use Rattle.integers.proofs.Tests.{is_true, true_is}
+use Rattle.integers.proofs.Counted.{all_yes, all_ext}
+use Rattle.integers.proofs.Buffers.{onto_none, onto_two, cat_none, cat_more}
+use Rattle.plant.specs.Box.{low, high, box_by, ordered}
+use Rattle.plant.proofs.Boxes.{low-box_by, high-box_by, length-box_by}
 
 module _ (lo hi : ℕ → ℤ) where
-  pub none_written : (out : List ℤ) → out ≡ onto (boxBy 0 lo hi) out
-  unfolding boxBy
-  none_written out = rw (cat-none (λ i. lo i ∷ hi i ∷ [])) (onto-none out)
+  pub none_written : (out : List ℤ) → out ≡ onto (box_by 0 lo hi) out
+  unfolding box_by
+  none_written out = rw (cat_none (λ i. lo i ∷ hi i ∷ [])) (onto_none out)
 
-  pub next-written : (i : ℕ) (out : List ℤ) → 2 * i + 1 < length out → set (set (onto (boxBy i lo hi) out) (2 * i) (lo i)) (2 * i + 1) (hi i) ≡ onto (boxBy (i + 1) lo hi) out
-  unfolding boxBy
-  next-written i out h = rw (cat-more i (λ i. lo i ∷ hi i ∷ [])) (onto-two (boxBy i lo hi) out (2 * i) (lo i) (hi i) (length-boxBy i lo hi) h)
+  pub next_written : (i : ℕ) (out : List ℤ) → 2 * i + 1 < length out → set (set (onto (box_by i lo hi) out) (2 * i) (lo i)) (2 * i + 1) (hi i) ≡ onto (box_by (i + 1) lo hi) out
+  unfolding box_by
+  next_written i out h = rw (cat_more i (λ i. lo i ∷ hi i ∷ [])) (onto_two (box_by i lo hi) out (2 * i) (lo i) (hi i) (length-box_by i lo hi) h)
 
-pub none-tested : (f : ℕ → Bool) → true ≡ all_below 0 f
+pub none_tested : (f : ℕ → Bool) → true ≡ all_below 0 f
 unfolding all_below
-none-tested f = refl
+none_tested f = refl
 
-pub next-tested : (f : ℕ → Bool) (i : ℕ) → all_below i f && f i ≡ all_below (i + 1) f
+pub next_tested : (f : ℕ → Bool) (i : ℕ) → all_below i f && f i ≡ all_below (i + 1) f
 unfolding all_below
-next-tested f i = rw (add-one i)
+next_tested f i = rw (add-one i)
 
 untrue : (b : Bool) → (T b → ⊥) → b ≡ false
 untrue true h = absurd (h tt)
 untrue false h = refl
 
 -- a test that fails once
-pub not-all : (k : ℕ) (f : ℕ → Bool) (i : ℕ) → i < k → f i ≡ false → all_below k f ≡ false
-not-all k f i l e = untrue (all_below k f) (λ h. subst T e (all_yes k f h i l))
+pub not_all : (k : ℕ) (f : ℕ → Bool) (i : ℕ) → i < k → f i ≡ false → all_below k f ≡ false
+not_all k f i l e = untrue (all_below k f) (λ h. subst T e (all_yes k f h i l))
 
 -- a box of ends is ordered if they are
-pub ordered-by : (n : ℕ) (lo hi : ℕ → ℤ) → ordered n (boxBy n lo hi) ≡ all_below n (λ i. le_z (lo i) (hi i))
+pub ordered_by : (n : ℕ) (lo hi : ℕ → ℤ) → ordered n (box_by n lo hi) ≡ all_below n (λ i. le_z (lo i) (hi i))
 unfolding ordered
-ordered-by n lo hi =
-    all-ext n (λ i. le_z (low (boxBy n lo hi) i) (high (boxBy n lo hi) i)) (λ i. le_z (lo i) (hi i)) (λ i l. ap₂ le_z (low-boxBy n lo hi i l) (high-boxBy n lo hi i l))
+ordered_by n lo hi =
+    all_ext n (λ i. le_z (low (box_by n lo hi) i) (high (box_by n lo hi) i)) (λ i. le_z (lo i) (hi i)) (λ i l. ap₂ le_z (low-box_by n lo hi i l) (high-box_by n lo hi i l))
 
 -- ---- a test of order, by the other
 
 nat_le : (m n : ℕ) (t : Bool) → ltb n m ≡ t → leb m n ≡ not t
-nat_le m n true e = lt-leb m n (ltb→lt n m (true-is e))
+nat_le m n true e = lt-leb m n (ltb→lt n m (true_is e))
 nat_le m n false e = is_true (le→leb m n (nltb→le n m (subst (λ (b : Bool). T (not b)) (sym e) tt)))
 
-pub le-by : (a b : ℤ) {t : Bool} → lt_z b a ≡ t → le_z a b ≡ not t
-le-by (pos a) (pos b) {t} e = nat_le a b t e
-le-by (pos a) (negsuc b) {t} e = ap not e
-le-by (negsuc a) (pos b) {t} e = ap not e
-le-by (negsuc a) (negsuc b) {t} e = nat_le b a t e
+pub le_by : (a b : ℤ) {t : Bool} → lt_z b a ≡ t → le_z a b ≡ not t
+le_by (pos a) (pos b) {t} e = nat_le a b t e
+le_by (pos a) (negsuc b) {t} e = ap not e
+le_by (negsuc a) (pos b) {t} e = ap not e
+le_by (negsuc a) (negsuc b) {t} e = nat_le b a t e

@@ -6,6 +6,6 @@ use Rattle.plant.specs.Box.{Face, absent, present}
 
 -- of a face of n variables: the answer r, the words at exit, and those at entry
 pub record Handed (n : ℕ) (r : Bool) (exit out : List ℤ) (face : Face) : Type 0 where
-  pub is-face : face ≡ cond r (present (take (2 * n) exit)) absent
-  pub is-exit : exit ≡ onto (take (2 * n) exit) out
+  pub is_face : face ≡ cond r (present (take (2 * n) exit)) absent
+  pub is_exit : exit ≡ onto (take (2 * n) exit) out
   pub sized : length (take (2 * n) exit) ≡ 2 * n

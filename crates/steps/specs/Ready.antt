@@ -5,20 +5,20 @@ use Rattle.delays.specs.Ranges.{Level, Levels, Rates, InInvariant}
 -- the box a, to be cut to the box b
 pub record CutReady (n : ℕ) (a b out : List ℤ) : Type 0 where
   pub a_in : Levels n a
-  pub b-in : Levels n b
+  pub b_in : Levels n b
   pub room : 2 * n ≤ length out
 
 -- from a part inside the invariant to a wall value b
 pub record WallReady (n : ℕ) (inv rate part : List ℤ) (b : ℤ) (out : List ℤ) : Type 0 where
-  pub inv-in : Levels n inv
-  pub rate-in : Rates n rate
-  pub part_in : InInvariant n inv part
-  pub wall-in : Level b
+  pub inv_in : Levels n inv
+  pub rate_in : Rates n rate
+  pub part_in_lem : InInvariant n inv part
+  pub wall_in : Level b
   pub room : 2 * n ≤ length out
 
 pub record SwitchReady (n : ℕ) (guard reset inv from out : List ℤ) : Type 0 where
-  pub guard-in : Levels n guard
-  pub reset-in : Levels n reset
-  pub inv-in : Levels n inv
+  pub guard_in : Levels n guard
+  pub reset_in : Levels n reset
+  pub inv_in : Levels n inv
   pub from_in : Levels n from
   pub room : 2 * n ≤ length out

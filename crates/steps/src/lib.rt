@@ -1,10 +1,10 @@
 // The box of a wall step and the switch step, of n variables (document 01, "Wall step and switch step"), and the cut of a box.
 // Each writes the box of the face that it gives to the front of a lent list, and answers whether it gives one.
 ghost use Rattle.std.specs.Prelude.{◌≡◌, cond, ℕ, ◌≤ℤ◌};
-ghost use Rattle.integers.specs.Rounding.{maxZ, minZ};
-ghost use Rattle.plant.specs.Box.{low, high, cut, present, unlessEmpty};
+ghost use Rattle.integers.specs.Rounding.{max_z, min_z};
+ghost use Rattle.plant.specs.Box.{low, high, cut, present, unless_empty};
 ghost use Rattle.plant.specs.declared.Delays.TheVariants.{Between};
-ghost use Rattle.plant.specs.Steps.{lowAt, highAt, lowBound, highBound, cutLow, cutHigh, lowAfter, highAfter, faceAfter, switchStep};
+ghost use Rattle.plant.specs.Steps.{low_at, high_at, low_bound, high_bound, cut_low, cut_high, low_after, high_after, face_after, switch_step};
 ghost use Rattle.delays.specs.Ranges.{Level, Rate, LevelAt, RateAt, Small, SmallInterval};
 ghost use Rattle.steps.specs.Ready.{CutReady, WallReady, SwitchReady};
 ghost use Rattle.steps.specs.Handing.{Handed};
@@ -14,7 +14,7 @@ use plant::{End, Fraction, Interval};
 // The box a cut to the box b, if it is not empty: left at the first variable of which it is.
 pub fn cut_box(n: usize, a: &[i32], b: &[i32], out: &mut [i32]) -> bool
     requires { CutReady n a.now b.now out.old }
-    ensures { Handed n result out.new out.old (unlessEmpty n (cut n a.now b.now)) }
+    ensures { Handed n result out.new out.old (unless_empty n (cut n a.now b.now)) }
 {
     let mut i = 0;
     while i < n {
@@ -35,7 +35,7 @@ pub fn cut_box(n: usize, a: &[i32], b: &[i32], out: &mut [i32]) -> bool
 // p + a × t, down to a whole number.
 fn low_at(p: i64, a: i64, t: Fraction) -> i64
     requires { Level p × Rate a × Small t }
-    ensures { result ≡ lowAt p a t }
+    ensures { result ≡ low_at p a t }
 {
     let num = t.num;
     let den = t.den;
@@ -45,7 +45,7 @@ fn low_at(p: i64, a: i64, t: Fraction) -> i64
 // q + c × t, up to a whole number.
 fn high_at(q: i64, c: i64, t: Fraction) -> i64
     requires { Level q × Rate c × Small t }
-    ensures { result ≡ highAt q c t }
+    ensures { result ≡ high_at q c t }
 {
     let num = t.num;
     let den = t.den;
@@ -55,7 +55,7 @@ fn high_at(q: i64, c: i64, t: Fraction) -> i64
 // The low p at rate a after the delay t, cut to the invariant's low lo: lo itself, without a division, where it is not above it.
 fn low_within(p: i64, a: i64, t: Fraction, lo: i64) -> i64
     requires { Level p × Rate a × Small t × Level lo }
-    ensures { result ≡ maxZ (lowAt p a t) lo }
+    ensures { result ≡ max_z (low_at p a t) lo }
 {
     let num = t.num;
     let den = t.den;
@@ -67,7 +67,7 @@ fn low_within(p: i64, a: i64, t: Fraction, lo: i64) -> i64
 // The high q at rate c after the delay t, cut to the invariant's high hi: hi itself, without a division, where it is not below it.
 fn high_within(q: i64, c: i64, t: Fraction, hi: i64) -> i64
     requires { Level q × Rate c × Small t × Level hi }
-    ensures { result ≡ minZ (highAt q c t) hi }
+    ensures { result ≡ min_z (high_at q c t) hi }
 {
     let num = t.num;
     let den = t.den;
@@ -79,7 +79,7 @@ fn high_within(q: i64, c: i64, t: Fraction, hi: i64) -> i64
 // The low p, not below the invariant's low lo, at rate a after the delays t, cut to lo: one that does not fall stays above it.
 fn low_cut(p: i64, a: i64, t: Interval, lo: i64) -> i64
     requires { Level p × Rate a × SmallInterval t × Level lo × (lo ≤ℤ p) }
-    ensures { result ≡ cutLow (lowBound p a t) lo }
+    ensures { result ≡ cut_low (low_bound p a t) lo }
 {
     if a < 0 {
         let latest = t.latest;
@@ -96,7 +96,7 @@ fn low_cut(p: i64, a: i64, t: Interval, lo: i64) -> i64
 // The high q, not above the invariant's high hi, at rate c after the delays t, cut to hi: one that does not rise stays below it.
 fn high_cut(q: i64, c: i64, t: Interval, hi: i64) -> i64
     requires { Level q × Rate c × SmallInterval t × Level hi × (q ≤ℤ hi) }
-    ensures { result ≡ cutHigh (highBound q c t) hi }
+    ensures { result ≡ cut_high (high_bound q c t) hi }
 {
     if 0 < c {
         let latest = t.latest;
@@ -121,7 +121,7 @@ pub fn low_after(
     i: usize,
 ) -> i64
     requires { LevelAt inv.now i × RateAt rate.now i × LevelAt part.now i × SmallInterval t × (low inv.now i ≤ℤ low part.now i) }
-    ensures { (n : ℕ) → result ≡ lowAfter n inv.now rate.now part.now d b t i }
+    ensures { (n : ℕ) → result ≡ low_after n inv.now rate.now part.now d b t i }
 {
     let k = 2 * i;
     let lo = integers::word(inv, k);
@@ -145,7 +145,7 @@ pub fn high_after(
     i: usize,
 ) -> i64
     requires { LevelAt inv.now i × RateAt rate.now i × LevelAt part.now i × SmallInterval t × (high part.now i ≤ℤ high inv.now i) }
-    ensures { (n : ℕ) → result ≡ highAfter n inv.now rate.now part.now d b t i }
+    ensures { (n : ℕ) → result ≡ high_after n inv.now rate.now part.now d b t i }
 {
     let j = 2 * i + 1;
     let hi = integers::word(inv, j);
@@ -170,7 +170,7 @@ pub fn box_after(
     out: &mut [i32],
 ) -> bool
     requires { WallReady n inv.now rate.now part.now b out.old × SmallInterval t }
-    ensures { Handed n result out.new out.old (faceAfter n inv.now rate.now part.now d b (Between t)) }
+    ensures { Handed n result out.new out.old (face_after n inv.now rate.now part.now d b (Between t)) }
 {
     let mut i = 0;
     while i < n {
@@ -198,7 +198,7 @@ fn after_reset(masked: bool, reset: i64, before: i64) -> i64
 // The low of variable i after a switch from the low g, cut to the reset box and the target's invariant.
 fn landed_low(masked: bool, g: i64, reset: &[i32], inv: &[i32], i: usize) -> i64
     requires { LevelAt reset.now i × LevelAt inv.now i }
-    ensures { result ≡ maxZ (maxZ (cond masked (low reset.now i) g) (low reset.now i)) (low inv.now i) }
+    ensures { result ≡ max_z (max_z (cond masked (low reset.now i) g) (low reset.now i)) (low inv.now i) }
 {
     let k = 2 * i;
     let v = integers::word(reset, k);
@@ -209,7 +209,7 @@ fn landed_low(masked: bool, g: i64, reset: &[i32], inv: &[i32], i: usize) -> i64
 // The high of variable i after a switch from the high g, cut to the reset box and the target's invariant.
 fn landed_high(masked: bool, g: i64, reset: &[i32], inv: &[i32], i: usize) -> i64
     requires { LevelAt reset.now i × LevelAt inv.now i }
-    ensures { result ≡ minZ (minZ (cond masked (high reset.now i) g) (high reset.now i)) (high inv.now i) }
+    ensures { result ≡ min_z (min_z (cond masked (high reset.now i) g) (high reset.now i)) (high inv.now i) }
 {
     let j = 2 * i + 1;
     let v = integers::word(reset, j);
@@ -228,7 +228,7 @@ pub fn switch_step(
     out: &mut [i32],
 ) -> bool
     requires { SwitchReady n guard.now reset.now inv.now from.now out.old }
-    ensures { Handed n result out.new out.old (switchStep n mask guard.now reset.now inv.now (present from.now)) }
+    ensures { Handed n result out.new out.old (switch_step n mask guard.now reset.now inv.now (present from.now)) }
 {
     let mut ok = true;
     let mut rest = mask;

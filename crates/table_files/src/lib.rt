@@ -2,9 +2,9 @@
 // and write_table. The other public functions serve the quote and the host, on a model that has passed its questions.
 ghost use Rattle.std.specs.Prelude.{◌≡◌, ◌+◌, ◌*◌, ◌≤◌, ◌<◌};
 ghost use Rattle.plant.specs.Model.{L#};
-ghost use Rattle.plant.specs.Pieces.{perFace};
+ghost use Rattle.plant.specs.Pieces.{per_face};
 ghost use Rattle.plant.proofs.Whole.{Whole};
-ghost use Rattle.files.specs.TableFile.{placeSize, piecesFrom, roomQuestions};
+ghost use Rattle.files.specs.TableFile.{place_size, pieces_from, room_questions};
 
 mod reading;
 mod writing;
@@ -23,7 +23,7 @@ const CUT_PLACE_SIZE: usize = 3;
 // The width of a place in the fields of this model: how many words it has.
 fn place_size(model: &[i32]) -> usize
     requires { Whole model.now }
-    ensures { result ≡ placeSize model.now }
+    ensures { result ≡ place_size model.now }
 {
     let locations = records::locations(model);
     let mut l: usize = 0;
@@ -38,8 +38,8 @@ fn place_size(model: &[i32]) -> usize
 
 // How many pieces a face of location l has: one where the places, by their width, don't name the piece.
 fn per_face(model: &[i32], width: usize, l: usize) -> usize
-    requires { Whole model.now × (width ≡ placeSize model.now) × (l < L# model.now) }
-    ensures { result ≡ perFace model.now l }
+    requires { Whole model.now × (width ≡ place_size model.now) × (l < L# model.now) }
+    ensures { result ≡ per_face model.now l }
 {
     if width == CUT_PLACE_SIZE {
         tables::per_face(model, l)
@@ -58,14 +58,14 @@ fn field_size(width: usize, n: usize) -> usize
 
 // Where the pieces' fields begin.
 fn pieces_from() -> usize
-    ensures { result ≡ piecesFrom }
+    ensures { result ≡ pieces_from }
 {
     wire::field_place(0, COUNT_FIELD_SIZE, 1)
 }
 
 // The model's questions; then: table buffer or list long enough? 20
 fn room_questions(model: &[i32], room: usize) -> u32
-    ensures { result ≡ roomQuestions model.now room }
+    ensures { result ≡ room_questions model.now room }
 {
     let q = model::questions(model);
     if q != 0 {

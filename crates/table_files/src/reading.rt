@@ -2,14 +2,14 @@
 ghost use Rattle.std.specs.Prelude.{◌≡◌, ◌∷◌, ◌+◌, ◌*◌, ◌≤◌, T, pos, nat_abs, length};
 ghost use Rattle.std.specs.Int.Signed.{non_neg};
 ghost use Rattle.integers.specs.Words.{within};
-ghost use Rattle.files.specs.Bytes.{word_size, wordAt, wordsAt};
-ghost use Rattle.files.specs.Fields.{payloadLength};
+ghost use Rattle.files.specs.Bytes.{word_size, word_at, words_at};
+ghost use Rattle.files.specs.Fields.{payload_length};
 ghost use Rattle.plant.specs.Ask.{first};
-ghost use Rattle.plant.specs.Tables.{faceSize, tableSize};
+ghost use Rattle.plant.specs.Tables.{face_size, table_size};
 ghost use Rattle.plant.proofs.Whole.{Whole};
 ghost use Rattle.passes.specs.Ready.{TableReady};
-ghost use Rattle.files.specs.TableFile.{pieceFieldSize, countQuestion, pieceKey, pieceQuestions, count#, fieldsQuestions, fileTable, readFaces, readTableCall};
-ghost use Rattle.table_files.specs.TableRoom.{FieldsReady, CountAt, nextLeast, indexWord, IndexAt, KeyAt};
+ghost use Rattle.files.specs.TableFile.{piece_field_size, count_question, piece_key, piece_questions, count#, fields_questions, file_table, read_faces, read_table_call};
+ghost use Rattle.table_files.specs.TableRoom.{FieldsReady, CountAt, next_least, index_word, IndexAt, KeyAt};
 
 use crate::{
     COUNT_FIELD_SIZE, CUT_PLACE_SIZE, field_size, per_face, pieces_from, place_size, room_questions,
@@ -21,15 +21,15 @@ use plant::Count;
 // The word at a position is a number from 0 to a small one.
 fn number_within(file: &[u8], at: usize, most: usize) -> bool
     requires { (at + word_size ≤ length file.now) × (most ≤ 1536) }
-    ensures { result ≡ within (pos 0) (pos most) (wordAt file.now at) }
+    ensures { result ≡ within (pos 0) (pos most) (word_at file.now at) }
 {
     integers::within(wire::word_at(file, at) as i64, 0, most as i64)
 }
 
 // The word at a position, which is not negative, as a number.
 fn number_at(file: &[u8], at: usize) -> usize
-    requires { (at + word_size ≤ length file.now) × T (non_neg (wordAt file.now at)) }
-    ensures { result ≡ nat_abs (wordAt file.now at) }
+    requires { (at + word_size ≤ length file.now) × T (non_neg (word_at file.now at)) }
+    ensures { result ≡ nat_abs (word_at file.now at) }
 {
     integers::natural(wire::word_at(file, at))
 }
@@ -37,7 +37,7 @@ fn number_at(file: &[u8], at: usize) -> usize
 // Head field whole, tag 6, length 4, count 0 to the number of pieces?
 fn count_question(model: &[i32], file: &[u8]) -> u32
     requires { Whole model.now }
-    ensures { result ≡ countQuestion model.now file.now }
+    ensures { result ≡ count_question model.now file.now }
 {
     let first = wire::next_field(file, 0);
     if !wire::is_field(first, 6, wire::payload_length(COUNT_FIELD_SIZE)) {
@@ -60,8 +60,8 @@ fn count_of(file: &[u8]) -> usize
 // Which piece of its face it names, by the word behind the face number, is a number from 0 to a small one; without that word it
 // is 0.
 fn index_within(file: &[u8], start: usize, width: usize, most: usize) -> bool
-    requires { (start + payloadLength width ≤ length file.now) × (most ≤ 1536) }
-    ensures { result ≡ within (pos 0) (pos most) (indexWord file.now start width) }
+    requires { (start + payload_length width ≤ length file.now) × (most ≤ 1536) }
+    ensures { result ≡ within (pos 0) (pos most) (index_word file.now start width) }
 {
     if width == CUT_PLACE_SIZE {
         number_within(file, start + 2 * wire::WORD_SIZE, most)
@@ -73,7 +73,7 @@ fn index_within(file: &[u8], start: usize, width: usize, most: usize) -> bool
 // That number, 0 without the word.
 fn index_at(file: &[u8], start: usize, width: usize) -> usize
     requires { IndexAt file.now start width }
-    ensures { result ≡ nat_abs (indexWord file.now start width) }
+    ensures { result ≡ nat_abs (index_word file.now start width) }
 {
     if width == CUT_PLACE_SIZE {
         number_at(file, start + 2 * wire::WORD_SIZE)
@@ -85,7 +85,7 @@ fn index_at(file: &[u8], start: usize, width: usize) -> usize
 // How many pieces of the table stand before the one that it names.
 fn key_at(model: &[i32], places: &[usize], width: usize, file: &[u8], start: usize) -> usize
     requires { KeyAt model.now places.now file.now start width }
-    ensures { result ≡ pieceKey model.now (wordsAt file.now start (pieceFieldSize model.now)) }
+    ensures { result ≡ piece_key model.now (words_at file.now start (piece_field_size model.now)) }
 {
     let l = number_at(file, start);
     let f = number_at(file, start + wire::WORD_SIZE);
@@ -103,8 +103,8 @@ fn next_least(
     start: usize,
     least: usize,
 ) -> usize
-    requires { FieldsReady model.now places.now width × (start + payloadLength width ≤ length file.now) }
-    ensures { result ≡ nextLeast model.now (wordsAt file.now start (pieceFieldSize model.now)) least }
+    requires { FieldsReady model.now places.now width × (start + payload_length width ≤ length file.now) }
+    ensures { result ≡ next_least model.now (words_at file.now start (piece_field_size model.now)) least }
 {
     if !number_within(file, start, records::locations(model) - 1) {
         return 0;
@@ -129,7 +129,7 @@ fn next_least(
 // Of each in turn: whole, tag 5, due length? 36. Location, face and piece exist, after the one before? 37
 fn pieces_questions(model: &[i32], places: &[usize], width: usize, file: &[u8], count: usize) -> u32
     requires { FieldsReady model.now places.now width }
-    ensures { result ≡ first count (pieceQuestions model.now file.now) }
+    ensures { result ≡ first count (piece_questions model.now file.now) }
 {
     let len = wire::payload_length(field_size(width, records::variables(model)));
     let mut least: usize = 0;
@@ -156,7 +156,7 @@ fn pieces_questions(model: &[i32], places: &[usize], width: usize, file: &[u8], 
 // 35 to 38.
 fn fields_questions(model: &[i32], places: &[usize], width: usize, file: &[u8]) -> u32
     requires { FieldsReady model.now places.now width }
-    ensures { result ≡ fieldsQuestions model.now file.now }
+    ensures { result ≡ fields_questions model.now file.now }
 {
     let q = count_question(model, file);
     if q != 0 {
@@ -173,8 +173,8 @@ fn fields_questions(model: &[i32], places: &[usize], width: usize, file: &[u8]) 
 
 // The words of a present piece: its box stands in the file from a position on.
 fn fill_piece(file: &[u8], from: usize, n: usize, piece: &mut [i32])
-    requires { (from + payloadLength (2 * n) ≤ length file.now) × (length piece.old ≡ faceSize n) × (n ≤ 6) }
-    ensures { piece.new ≡ pos 1 ∷ wordsAt file.now from (2 * n) }
+    requires { (from + payload_length (2 * n) ≤ length file.now) × (length piece.old ≡ face_size n) × (n ≤ 6) }
+    ensures { piece.new ≡ pos 1 ∷ words_at file.now from (2 * n) }
 {
     piece[0] = 1;
     wire::copy_words(file, from, 2 * n, piece, 1);
@@ -182,8 +182,8 @@ fn fill_piece(file: &[u8], from: usize, n: usize, piece: &mut [i32])
 
 // The table of a file that passes 35 to 38.
 fn fill(model: &[i32], places: &[usize], width: usize, file: &[u8], table: &mut [i32])
-    requires { FieldsReady model.now places.now width × (fieldsQuestions model.now file.now ≡ 0) × (length table.old ≡ tableSize model.now) }
-    ensures { table.new ≡ fileTable model.now file.now }
+    requires { FieldsReady model.now places.now width × (fields_questions model.now file.now ≡ 0) × (length table.old ≡ table_size model.now) }
+    ensures { table.new ≡ file_table model.now file.now }
 {
     integers::clear(table);
     let n = records::variables(model);
@@ -208,7 +208,7 @@ fn fill(model: &[i32], places: &[usize], width: usize, file: &[u8], table: &mut 
 // Reads a table file once the model's questions and 20 are yes: for the host.
 pub fn read_faces(model: &[i32], file: &[u8], table: &mut [i32]) -> Count
     requires { TableReady model.now table.old }
-    ensures { record { count = result; words = table.new } ≡ readFaces model.now file.now table.old }
+    ensures { record { count = result; words = table.new } ≡ read_faces model.now file.now table.old }
 {
     let width = place_size(model);
     let mut places = [0usize; 65];
@@ -229,7 +229,7 @@ pub fn read_faces(model: &[i32], file: &[u8], table: &mut [i32]) -> Count
 
 // Reads a table file into the table's words: how many they are, or a refusal's number.
 pub fn read_table(model: &[i32], file: &[u8], table: &mut [i32]) -> Count
-    ensures { record { count = result; words = table.new } ≡ readTableCall model.now file.now table.old }
+    ensures { record { count = result; words = table.new } ≡ read_table_call model.now file.now table.old }
 {
     let q = room_questions(model, table.len());
     if q != 0 {

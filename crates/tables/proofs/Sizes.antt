@@ -9,14 +9,14 @@ use native.Mathlib.Omega.{arith}
 use lib.IntN.{ℤ, negsuc}
 use lib.ListN.{length, get_or, set, length-set}
 use lib.Seq.{get_or-set_same, get_or-set_other}
-use Rattle.integers.specs.Words.{eqZ}
-use Rattle.integers.specs.Counted.{sumBelow}
-use Rattle.integers.proofs.Counted.{split, sum-times, sum-ext, sum-le, sum_same}
-use Rattle.plant.specs.Model.{n#, L#, cutFrom}
-use Rattle.plant.specs.Pieces.{piecesPerFace, perFace, pieces}
-use Rattle.plant.specs.Tables.{wordsPerLocation, faceSize, piecesBefore, pieceCount, tableSize}
-use Rattle.plant.proofs.Pieces.{per-face-most}
-use Rattle.plant.proofs.PieceCases.{before-none}
+use Rattle.integers.specs.Words.{eq_z}
+use Rattle.integers.specs.Counted.{sum_below}
+use Rattle.integers.proofs.Counted.{split, sum_times, sum_ext, sum_le, sum_same}
+use Rattle.plant.specs.Model.{n#, L#, cut_from}
+use Rattle.plant.specs.Pieces.{pieces_per_face, per_face, pieces}
+use Rattle.plant.specs.Tables.{words_per_location, face_size, pieces_before, piece_count, table_size}
+use Rattle.plant.proofs.Pieces.{per_face_most}
+use Rattle.plant.proofs.PieceCases.{before_none}
 use Rattle.plant.proofs.Tables.{pieces-most}
 use Rattle.plant.proofs.Whole.{Head}
 use Rattle.tables.specs.Places.{Places}
@@ -24,64 +24,64 @@ use Rattle.tables.specs.Room.{PiecesBy}
 
 -- ---- pieces of a face, by the first word of a cut
 
-pub by-none : (variable : ℤ) → eqZ variable (negsuc 0) ≡ true → PiecesBy variable 1
-unfolding cutFrom piecesPerFace
-by-none variable e value = rw e
+pub by_none : (variable : ℤ) → eq_z variable (negsuc 0) ≡ true → PiecesBy variable 1
+unfolding cut_from pieces_per_face
+by_none variable e value = rw e
 
-pub by-some : (variable : ℤ) → eqZ variable (negsuc 0) ≡ false → PiecesBy variable 2
-unfolding cutFrom piecesPerFace
-by-some variable e value = rw e
+pub by_some : (variable : ℤ) → eq_z variable (negsuc 0) ≡ false → PiecesBy variable 2
+unfolding cut_from pieces_per_face
+by_some variable e value = rw e
 
 -- ---- sums over the locations
 
 module _ (m : List ℤ) where
   -- the locations before l, a cut one counted twice
-  abbrev pub layersBefore : ℕ → ℕ
-  layersBefore l = sumBelow l (perFace m)
+  abbrev pub layers_before : ℕ → ℕ
+  layers_before l = sum_below l (per_face m)
 
-  pub layers-none : 0 ≡ layersBefore 0
-  unfolding sumBelow
-  layers-none = refl
+  pub layers_none : 0 ≡ layers_before 0
+  unfolding sum_below
+  layers_none = refl
 
-  pub layers-more : (l : ℕ) {count k : ℕ} → count ≡ layersBefore l → k ≡ perFace m l → count + k ≡ layersBefore (l + 1)
-  unfolding sumBelow
-  layers-more l e h = rw (add-one l) (ap₂ ◌+◌ e h)
+  pub layers_more : (l : ℕ) {count k : ℕ} → count ≡ layers_before l → k ≡ per_face m l → count + k ≡ layers_before (l + 1)
+  unfolding sum_below
+  layers_more l e h = rw (add-one l) (ap₂ ◌+◌ e h)
 
   -- each of them has 2n pieces
-  layer-pieces : (l : ℕ) → layersBefore l * (2 * n# m) ≡ piecesBefore m l
-  unfolding piecesBefore pieces
-  layer-pieces l = sym (sum-times l (perFace m) (2 * n# m)) ∙ sum-ext l (λ i. perFace m i * (2 * n# m)) (λ i. 2 * n# m * perFace m i) (λ i u. omega arith)
+  layer_pieces : (l : ℕ) → layers_before l * (2 * n# m) ≡ pieces_before m l
+  unfolding pieces_before pieces
+  layer_pieces l = sym (sum_times l (per_face m) (2 * n# m)) ∙ sum_ext l (λ i. per_face m i * (2 * n# m)) (λ i. 2 * n# m * per_face m i) (λ i u. omega arith)
 
-  pub count-layers : 2 * n# m * layersBefore (L# m) ≡ pieceCount m
-  unfolding pieceCount
-  count-layers = omega (arith, layer-pieces (L# m))
+  pub count_layers : 2 * n# m * layers_before (L# m) ≡ piece_count m
+  unfolding piece_count
+  count_layers = omega (arith, layer_pieces (L# m))
 
-  pub table-layers : layersBefore (L# m) * wordsPerLocation (n# m) ≡ tableSize m
-  unfolding tableSize wordsPerLocation
-  table-layers = omega (arith, ap (λ (k : ℕ). k * faceSize (n# m)) count-layers)
+  pub table_layers : layers_before (L# m) * words_per_location (n# m) ≡ table_size m
+  unfolding table_size words_per_location
+  table_layers = omega (arith, ap (λ (k : ℕ). k * face_size (n# m)) count_layers)
 
-  pub layers-most : (l : ℕ) → l ≤ 64 → layersBefore l ≤ 128
-  layers-most l u = omega (arith, sum-le l (perFace m) (λ i. 2) (λ i _. per-face-most m i), sum_same l 2)
+  pub layers_most : (l : ℕ) → l ≤ 64 → layers_before l ≤ 128
+  layers_most l u = omega (arith, sum_le l (per_face m) (λ i. 2) (λ i _. per_face_most m i), sum_same l 2)
 
   module _ (h : Head m) where
-    pub before-most : (l : ℕ) → l ≤ L# m → piecesBefore m l ≤ 1536
-    unfolding piecesBefore
-    before-most l u = omega (arith, sum-le l (pieces m) (λ i. 24) (λ i _. pieces-most m i h.n-small), sum_same l 24, h.L-small)
+    pub before_most : (l : ℕ) → l ≤ L# m → pieces_before m l ≤ 1536
+    unfolding pieces_before
+    before_most l u = omega (arith, sum_le l (pieces m) (λ i. 24) (λ i _. pieces-most m i h.n_small), sum_same l 24, h.L_small)
 
 -- ---- the places of the locations up to k
 
 pub record PlacesTo (m : List ℤ) (k : ℕ) (places : List ℕ) : Type 0 where
   pub long : length places ≡ 65
-  pub each : (l : ℕ) → l ≤ k → get_or places l 0 ≡ piecesBefore m l
+  pub each : (l : ℕ) → l ≤ k → get_or places l 0 ≡ pieces_before m l
 
-pub places-none : (m : List ℤ) (places : List ℕ) → length places ≡ 65 → PlacesTo m 0 (set places 0 0)
-places-none m places e = record {
+pub places_none : (m : List ℤ) (places : List ℕ) → length places ≡ 65 → PlacesTo m 0 (set places 0 0)
+places_none m places e = record {
   long = length-set places 0 0 ∙ e;
-  each = λ l u. let z : l ≡ 0 = omega arith in rw z (get_or-set_same places 0 0 0 (omega arith) ∙ sym (before-none m));
+  each = λ l u. let z : l ≡ 0 = omega arith in rw z (get_or-set_same places 0 0 0 (omega arith) ∙ sym (before_none m));
 }
 
-pub places-more : (m : List ℤ) (k before : ℕ) (places : List ℕ) → k < 64 → PlacesTo m k places → before ≡ piecesBefore m (k + 1) → PlacesTo m (k + 1) (set places (k + 1) before)
-places-more m k before places h p e = record {
+pub places_more : (m : List ℤ) (k before : ℕ) (places : List ℕ) → k < 64 → PlacesTo m k places → before ≡ pieces_before m (k + 1) → PlacesTo m (k + 1) (set places (k + 1) before)
+places_more m k before places h p e = record {
   long = length-set places (k + 1) before ∙ p.long;
   each = λ l u. ⊎_elim
       (λ v. get_or-set_other places (k + 1) l before 0 (λ w. omega arith) ∙ p.each l (omega arith))
@@ -89,5 +89,5 @@ places-more m k before places h p e = record {
       (split l (k + 1) (omega arith));
 }
 
-pub places-all : (m : List ℤ) (k : ℕ) (places : List ℕ) → PlacesTo m k places → k ≡ L# m → Places m places
-places-all m k places p e = record { long = p.long; each = λ l u. p.each l (omega (arith, e)) }
+pub places_all : (m : List ℤ) (k : ℕ) (places : List ℕ) → PlacesTo m k places → k ≡ L# m → Places m places
+places_all m k places p e = record { long = p.long; each = λ l u. p.each l (omega (arith, e)) }

@@ -2,16 +2,16 @@
 // functions serve the crates above and are no calls of outsiders: what they are lent has passed its questions.
 ghost use Rattle.std.specs.Prelude.{◌≡◌, ◌+◌, ◌*◌, ◌<◌, ◌≤◌, pos, length, take, drop, set};
 ghost use Rattle.integers.specs.Words.{word};
-ghost use Rattle.integers.specs.Counted.{sumBelow};
+ghost use Rattle.integers.specs.Counted.{sum_below};
 ghost use Rattle.plant.specs.Box as B;
-ghost use Rattle.plant.specs.Box.{hull, boxAt, present, faceWords};
-ghost use Rattle.plant.specs.Model.{L#, cutBy};
+ghost use Rattle.plant.specs.Box.{hull, box_at, present, face_words};
+ghost use Rattle.plant.specs.Model.{L#, cut_by};
 ghost use Rattle.plant.specs.Pieces as P;
-ghost use Rattle.plant.specs.Pieces.{upToValue, fromValue, cutToExtent, perFace};
-ghost use Rattle.plant.specs.Tables.{wordsPerLocation, faceSize, pieceCount, tableSize, faceRead};
+ghost use Rattle.plant.specs.Pieces.{up_to_value, from_value, cut_to_extent, per_face};
+ghost use Rattle.plant.specs.Tables.{words_per_location, face_size, piece_count, table_size, face_read};
 ghost use Rattle.plant.proofs.Whole.{Whole};
 ghost use Rattle.tables.specs.Places.{Places};
-ghost use Rattle.tables.specs.Room.{Joinable, IsFace, joinedWith, AreFaces, joinedEach, PiecesBy, cutEach, Cuttable};
+ghost use Rattle.tables.specs.Room.{Joinable, IsFace, joined_with, AreFaces, joined_each, PiecesBy, cut_each, Cuttable};
 
 // How many words are held for tables: room for a very small table (uncut: eight locations of two variables, one of six), for a small
 // one (64 of two, eight of six), and for the largest (64 locations of six, all cut).
@@ -24,7 +24,7 @@ pub const MOST_WORDS: usize = 19968;
 // How many words a face of n variables has: flag, then low and high per variable. For n 7 too, as the next one.
 pub fn face_size(n: usize) -> usize
     requires { n ≤ 7 }
-    ensures { result ≡ faceSize n }
+    ensures { result ≡ face_size n }
 {
     1 + 2 * n
 }
@@ -33,7 +33,7 @@ pub fn face_size(n: usize) -> usize
 // (document 02, T-04).
 fn words_per_location(n: usize) -> usize
     requires { n ≤ 7 }
-    ensures { result ≡ wordsPerLocation n }
+    ensures { result ≡ words_per_location n }
 {
     2 * n * face_size(n)
 }
@@ -50,7 +50,7 @@ pub fn pieces_by(variable: i32) -> usize
 // How many pieces each face of location l has.
 pub fn per_face(model: &[i32], l: usize) -> usize
     requires { Whole model.now × (l < L# model.now) }
-    ensures { result ≡ perFace model.now l }
+    ensures { result ≡ per_face model.now l }
 {
     pieces_by(records::cut_variable(model, l))
 }
@@ -82,7 +82,7 @@ pub fn places(model: &[i32], places: &mut [usize; 65])
 // The locations, a cut one counted twice: it has two pieces for each face.
 fn layers(model: &[i32]) -> usize
     requires { Whole model.now }
-    ensures { result ≡ sumBelow (L# model.now) (perFace model.now) }
+    ensures { result ≡ sum_below (L# model.now) (per_face model.now) }
 {
     let locations = records::locations(model);
     let mut count: usize = 0;
@@ -97,7 +97,7 @@ fn layers(model: &[i32]) -> usize
 // How many pieces a table of the model has.
 pub fn piece_count(model: &[i32]) -> usize
     requires { Whole model.now }
-    ensures { result ≡ pieceCount model.now }
+    ensures { result ≡ piece_count model.now }
 {
     2 * records::variables(model) * layers(model)
 }
@@ -105,7 +105,7 @@ pub fn piece_count(model: &[i32]) -> usize
 // How many words a table of the model has.
 pub fn table_size(model: &[i32]) -> usize
     requires { Whole model.now }
-    ensures { result ≡ tableSize model.now }
+    ensures { result ≡ table_size model.now }
 {
     layers(model) * words_per_location(records::variables(model))
 }
@@ -113,15 +113,15 @@ pub fn table_size(model: &[i32]) -> usize
 // Where a piece begins in the table: piece q of a location before which so many pieces stand.
 pub fn piece_at(before: usize, q: usize, n: usize) -> usize
     requires { (before ≤ 1536) × (q ≤ 24) × (n ≤ 6) }
-    ensures { result ≡ (before + q) * faceSize n }
+    ensures { result ≡ (before + q) * face_size n }
 {
     (before + q) * face_size(n)
 }
 
 // The words of the face that begins at a place.
 pub fn face(words: &[i32], at: usize, n: usize) -> &[i32]
-    requires { (n ≤ 6) × (at + faceSize n ≤ length words.now) }
-    ensures { result.now ≡ take (faceSize n) (drop at words.now) }
+    requires { (n ≤ 6) × (at + face_size n ≤ length words.now) }
+    ensures { result.now ≡ take (face_size n) (drop at words.now) }
 {
     let end = at + face_size(n);
     &words[at..end]
@@ -132,7 +132,7 @@ pub fn face(words: &[i32], at: usize, n: usize) -> &[i32]
 // The face becomes the box.
 fn place(n: usize, from: &[i32], face: &mut [i32])
     requires { Joinable n from.now face.old }
-    ensures { face.new ≡ faceWords n (present from.now) }
+    ensures { face.new ≡ face_words n (present from.now) }
 {
     let end = 2 * n;
     face[0] = 1;
@@ -147,7 +147,7 @@ fn place(n: usize, from: &[i32], face: &mut [i32])
 // A present face is widened to the smallest box holding both.
 fn widen(n: usize, from: &[i32], face: &mut [i32])
     requires { Joinable n from.now face.old × (word face.old 0 ≡ pos 1) }
-    ensures { face.new ≡ faceWords n (present (hull n (boxAt n face.old 1) from.now)) }
+    ensures { face.new ≡ face_words n (present (hull n (box_at n face.old 1) from.now)) }
 {
     let mut i: usize = 0;
     while i < n {
@@ -165,7 +165,7 @@ fn widen(n: usize, from: &[i32], face: &mut [i32])
 // Joins a box to a face: the smallest box holding both.
 pub fn join(n: usize, from: &[i32], face: &mut [i32])
     requires { Joinable n from.now face.old }
-    ensures { face.new ≡ faceWords n (B.join n (faceRead n face.old 0) (present from.now)) }
+    ensures { face.new ≡ face_words n (B.join n (face_read n face.old 0) (present from.now)) }
 {
     if integers::same(face[0], 1) {
         widen(n, from, face);
@@ -179,7 +179,7 @@ pub fn join(n: usize, from: &[i32], face: &mut [i32])
 // Joins to a piece a box with another word at a place.
 fn join_with(n: usize, at: usize, z: i32, from: &[i32], piece: &mut [i32])
     requires { Joinable n from.now piece.old × (length from.now ≡ 2 * n) × (at < 2 * n) }
-    ensures { piece.new ≡ joinedWith n piece.old (present (set from.now at z)) }
+    ensures { piece.new ≡ joined_with n piece.old (present (set from.now at z)) }
 {
     let mut part = [0i32; 12];
     let end = 2 * n;
@@ -191,7 +191,7 @@ fn join_with(n: usize, at: usize, z: i32, from: &[i32], piece: &mut [i32])
 // Joins to a piece what a box has up to the value x of variable v.
 fn join_up_to(n: usize, v: usize, x: i32, from: &[i32], piece: &mut [i32])
     requires { Cuttable n v from.now × IsFace n piece.old }
-    ensures { piece.new ≡ joinedWith n piece.old (cutToExtent n (upToValue v x) from.now) }
+    ensures { piece.new ≡ joined_with n piece.old (cut_to_extent n (up_to_value v x) from.now) }
 {
     let low = 2 * v;
     let high = low + 1;
@@ -204,7 +204,7 @@ fn join_up_to(n: usize, v: usize, x: i32, from: &[i32], piece: &mut [i32])
 // Joins to a piece what a box has from the value x of variable v.
 fn join_from(n: usize, v: usize, x: i32, from: &[i32], piece: &mut [i32])
     requires { Cuttable n v from.now × IsFace n piece.old }
-    ensures { piece.new ≡ joinedWith n piece.old (cutToExtent n (fromValue v x) from.now) }
+    ensures { piece.new ≡ joined_with n piece.old (cut_to_extent n (from_value v x) from.now) }
 {
     let low = 2 * v;
     let high = low + 1;
@@ -218,7 +218,7 @@ fn join_from(n: usize, v: usize, x: i32, from: &[i32], piece: &mut [i32])
 // is the whole face, and the second is absent.
 pub fn join_both(n: usize, d: usize, v: usize, x: i32, from: &[i32], pieces: &mut [i32])
     requires { Cuttable n v from.now × AreFaces n 2 pieces.old }
-    ensures { pieces.new ≡ joinedEach n 2 pieces.old (cutEach n (cutBy v x) d (present from.now)) }
+    ensures { pieces.new ≡ joined_each n 2 pieces.old (cut_each n (cut_by v x) d (present from.now)) }
 {
     let size = face_size(n);
     let end = 2 * size;

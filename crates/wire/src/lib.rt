@@ -3,8 +3,8 @@ ghost use Rattle.std.specs.Prelude.{◌≡◌, ◌++◌, ◌+◌, ◌*◌, ◌�
 ghost use Rattle.std.specs.Int.{w32};
 ghost use Rattle.std.proofs.Common.{to_z, of_z};
 ghost use Rattle.integers.specs.Words.{onto};
-ghost use Rattle.files.specs.Bytes.{word_size, bits_at, wordAt, wordsAt, bitsBytes, word_bytes, wordsBytes, part};
-ghost use Rattle.files.specs.Fields.{headerSize, payloadLength, fieldLength, fieldPlace, length_at, fieldAt, isField, header};
+ghost use Rattle.files.specs.Bytes.{word_size, bits_at, word_at, words_at, bits_bytes, word_bytes, words_bytes, part};
+ghost use Rattle.files.specs.Fields.{header_size, payload_length, field_length, field_place, length_at, field_at, is_field, header};
 
 use files::Field;
 
@@ -45,15 +45,15 @@ fn signed(u: u32) -> i32
 // The word at a position.
 pub fn word_at(file: &[u8], at: usize) -> i32
     requires { at + word_size ≤ length file.now }
-    ensures { result ≡ wordAt file.now at }
+    ensures { result ≡ word_at file.now at }
 {
     signed(bits_at(file, at))
 }
 
 // Copies `count` words, from a position of the file on, to a place of the buffer.
 pub fn copy_words(file: &[u8], from: usize, count: usize, words: &mut [i32], to: usize)
-    requires { (from + payloadLength count ≤ length file.now) × (to + count ≤ length words.old) }
-    ensures { words.new ≡ onto (take to words.old ++ wordsAt file.now from count) words.old }
+    requires { (from + payload_length count ≤ length file.now) × (to + count ≤ length words.old) }
+    ensures { words.new ≡ onto (take to words.old ++ words_at file.now from count) words.old }
 {
     let mut i: usize = 0;
     while i < count {
@@ -78,7 +78,7 @@ fn bits_of(z: i32) -> u32
 // Writes the four bytes of 32 bits, highest byte first.
 fn put_bits(out: &mut [u8], at: usize, u: u32)
     requires { at + word_size ≤ length out.old }
-    ensures { out.new ≡ onto (take at out.old ++ bitsBytes u) out.old }
+    ensures { out.new ≡ onto (take at out.old ++ bits_bytes u) out.old }
 {
     out[at] = (u / 16777216) as u8;
     out[at + 1] = (u / 65536 % 256) as u8;
@@ -96,8 +96,8 @@ pub fn put_word(out: &mut [u8], at: usize, z: i32)
 
 // Writes the bytes of `count` words, from a place of the list on, at a position.
 pub fn put_words(words: &[i32], from: usize, count: usize, out: &mut [u8], to: usize)
-    requires { (from + count ≤ length words.now) × (to + payloadLength count ≤ length out.old) }
-    ensures { out.new ≡ onto (take to out.old ++ wordsBytes (part words.now from count)) out.old }
+    requires { (from + count ≤ length words.now) × (to + payload_length count ≤ length out.old) }
+    ensures { out.new ≡ onto (take to out.old ++ words_bytes (part words.now from count)) out.old }
 {
     let mut i: usize = 0;
     while i < count {
@@ -114,7 +114,7 @@ pub const HEADER_SIZE: usize = 3;
 // A payload of w words.
 pub fn payload_length(w: usize) -> usize
     requires { w ≤ 16383 }
-    ensures { result ≡ payloadLength w }
+    ensures { result ≡ payload_length w }
 {
     WORD_SIZE * w
 }
@@ -122,7 +122,7 @@ pub fn payload_length(w: usize) -> usize
 // The whole field.
 pub fn field_length(w: usize) -> usize
     requires { w ≤ 16383 }
-    ensures { result ≡ fieldLength w }
+    ensures { result ≡ field_length w }
 {
     HEADER_SIZE + payload_length(w)
 }
@@ -130,7 +130,7 @@ pub fn field_length(w: usize) -> usize
 // Where field i of a run of such fields begins.
 pub fn field_place(from: usize, w: usize, i: usize) -> usize
     requires { (from ≤ 1000000) × (w ≤ 37) × (i ≤ 1536) }
-    ensures { result ≡ fieldPlace from w i }
+    ensures { result ≡ field_place from w i }
 {
     from + i * field_length(w)
 }
@@ -139,7 +139,7 @@ pub fn field_place(from: usize, w: usize, i: usize) -> usize
 
 // The length that a field's second and third byte give, highest byte first.
 fn length_at(file: &[u8], at: usize) -> usize
-    requires { at + headerSize ≤ length file.now }
+    requires { at + header_size ≤ length file.now }
     ensures { (result ≡ length_at file.now at) × (result < 65536) }
 {
     let high = wide(file[at + 1]);
@@ -149,7 +149,7 @@ fn length_at(file: &[u8], at: usize) -> usize
 
 // The field at a position, which may lie anywhere.
 pub fn field_at(file: &[u8], at: usize) -> Field
-    ensures { result ≡ fieldAt file.now at }
+    ensures { result ≡ field_at file.now at }
 {
     if file.len() < HEADER_SIZE {
         return Field::Short;
@@ -173,7 +173,7 @@ pub fn field_at(file: &[u8], at: usize) -> Field
 
 // A whole field of this tag and this length.
 pub fn is_field(f: Field, tag: u8, len: usize) -> bool
-    ensures { result ≡ isField f tag len }
+    ensures { result ≡ is_field f tag len }
 {
     match f {
         Field::Whole { tag: t, len: l, .. } => (t == tag) & (l == len),
@@ -184,7 +184,7 @@ pub fn is_field(f: Field, tag: u8, len: usize) -> bool
 
 // Writes a field's tag and the length of its payload.
 pub fn put_header(out: &mut [u8], to: usize, tag: u8, len: usize)
-    requires { (len < 65536) × (to + headerSize ≤ length out.old) }
+    requires { (len < 65536) × (to + header_size ≤ length out.old) }
     ensures { out.new ≡ onto (take to out.old ++ header tag len) out.old }
 {
     out[to] = tag;
@@ -209,14 +209,14 @@ pub fn cursor_at<'a>(file: &'a [u8], at: usize) -> Cursor<'a>
 
 // The next field: where its payload lies, and where the one after it begins.
 pub fn next<'a>(c: Cursor<'a>) -> Field
-    ensures { result ≡ fieldAt c.entry.file.now c.entry.at }
+    ensures { result ≡ field_at c.entry.file.now c.entry.at }
 {
     field_at(c.file, c.at)
 }
 
 // The next field from a position on, by a cursor there.
 pub fn next_field(file: &[u8], at: usize) -> Field
-    ensures { result ≡ fieldAt file.now at }
+    ensures { result ≡ field_at file.now at }
 {
     next(cursor_at(file, at))
 }

@@ -1,7 +1,7 @@
 -- The questions' number is the refusal, or the answer is the analysis's.
 use mathlib.Core.Path.{sym, ◌∙◌}
 use borrow.Author.Rules.{rules}
-use Rattle.plant.proofs.AnalysisAsked.{analyse-refused, analyse-answered}
+use Rattle.plant.proofs.AnalysisAsked.{analyse_refused, analyse_answered}
 use Rattle.analysis.proofs.analyse.Statement.{statement}
 use Rattle.analysis.proofs.analyse.Tie as tie
 
@@ -15,7 +15,7 @@ same-length-2 : tie.Need-same-length-2
 same-length-2 c = search rules
 
 returns : tie.Need-returns
-returns c = analyse-refused _ _ _ _ _ c.before.questions.ensures c.if1.true
+returns c = analyse_refused _ _ _ _ _ c.before.questions.ensures c.if1.true
 
 analyse-passed-requires : tie.Need-analyse-passed-requires
 analyse-passed-requires c κs = sym c.before.before.before.questions.ensures ∙ c.before.before.if1.false
@@ -26,8 +26,8 @@ same-length-3 c = search rules
 same-length-4 : tie.Need-same-length-4
 same-length-4 c = search rules
 
-returns-2 : tie.Need-returns-2
-returns-2 c = analyse-answered _ _ _ _ _ c.before.before.before.before.before.before.questions.ensures _ c.before.before.before.before.before.if1.false c.before.before.analyse-passed.ensures
+returns_2 : tie.Need-returns-2
+returns_2 c = analyse_answered _ _ _ _ _ c.before.before.before.before.before.before.questions.ensures _ c.before.before.before.before.before.if1.false c.before.before.analyse-passed.ensures
 
 pub analyse-spec : {M : Type 1} → statement M
 analyse-spec =
@@ -40,4 +40,4 @@ analyse-spec =
     analyse-passed-requires
     same-length-3
     same-length-4
-    returns-2)
+    returns_2)

@@ -14,8 +14,8 @@ returns c = ceiling-refused _ _ c.before.questions.ensures c.if1.true
 ceiling-of-requires : tie.Need-ceiling-of-requires
 ceiling-of-requires c κs = search rules
 
-returns-2 : tie.Need-returns-2
-returns-2 c = ceiling-passes _ _ (sym c.before.before.questions.ensures ∙ c.before.if1.false) c.ceiling-of.ensures
+returns_2 : tie.Need-returns-2
+returns_2 c = ceiling-passes _ _ (sym c.before.before.questions.ensures ∙ c.before.if1.false) c.ceiling-of.ensures
 
 pub ceiling-spec : {M : Type 1} → statement M
-ceiling-spec = tie.close (tie.spec questions-requires returns ceiling-of-requires returns-2)
+ceiling-spec = tie.close (tie.spec questions-requires returns ceiling-of-requires returns_2)

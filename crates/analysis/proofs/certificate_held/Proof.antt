@@ -4,8 +4,8 @@ use Prim.Native.Nat.{◌≤◌}
 use native.Mathlib.Omega.{arith}
 use lib.IntN.{pos}
 use lib.ListN.{length, length-replicate}
-use Rattle.plant.proofs.Passing.{head-ready}
-use Rattle.tables.proofs.Faces.{table-most}
+use Rattle.plant.proofs.Passing.{head_ready}
+use Rattle.tables.proofs.Faces.{table_most}
 use Rattle.analysis.proofs.Sizes.{prefix}
 use borrow.Author.Rules.{rules}
 use Rattle.analysis.proofs.certificate_held.Statement.{statement}
@@ -13,7 +13,7 @@ use Rattle.analysis.proofs.certificate_held.Tie as tie
 
 -- the table is no longer than the words held for the largest one
 room : (c : tie.Start) → length c.args.table.now ≤ 19968
-room c = omega (arith, c.requires.0.size, table-most _ (head-ready _ c.requires.0.passes))
+room c = omega (arith, c.requires.0.size, table_most _ (head_ready _ c.requires.0.passes))
 
 -- or than those held for a smaller one
 least : (c : tie.Then1) → length c.before.before.args.table.now ≤ 160
@@ -47,8 +47,8 @@ certificate-with-requires-2 c κs =
     let p = c.before.before.before.before.requires in
     (p.0, p.1, p.2, record { passes = p.0.passes; size = sym (prefix _ _ (length-replicate 1280 (pos 0)) (small c.before)) ∙ p.0.size })
 
-returns-2 : tie.Need-returns-2
-returns-2 c = search rules
+returns_2 : tie.Need-returns-2
+returns_2 c = search rules
 
 array-borrow-prefix-after-3 : tie.Need-array-borrow-prefix-after-3
 array-borrow-prefix-after-3 c = room c.before.before.before
@@ -76,7 +76,7 @@ certificate-held-spec =
     array-borrow-prefix-after-2
     slice-aggregate-certificate-with-2
     certificate-with-requires-2
-    returns-2
+    returns_2
     array-borrow-prefix-after-3
     slice-aggregate-certificate-with-3
     certificate-with-requires-3

@@ -2,9 +2,9 @@
 use mathlib.Core.Path.{◌≡◌, refl, sym, ◌∙◌}
 use mathlib.Core.Bool.{true}
 use borrow.Author.Tests.{not-true, not-false}
-use Rattle.plant.specs.Tables.{tableOk}
+use Rattle.plant.specs.Tables.{table_ok}
 use Rattle.plant.proofs.Passing.{whole}
-use Rattle.analysis.proofs.Calls.{not_valid, valid-asked}
+use Rattle.analysis.proofs.Calls.{not_valid, valid_asked}
 use borrow.Author.Rules.{rules}
 use Rattle.analysis.proofs.table_questions.Statement.{statement}
 use Rattle.analysis.proofs.table_questions.Tie as tie
@@ -22,7 +22,7 @@ returns : tie.Need-returns
 returns c = not_valid _ _ (sym c.before.table-ok.ensures ∙ not-true _ c.if1.true)
 
 -- after 32
-valid : (c : tie.Else1) → let a = c.before.before.before.before.before.args in tableOk a.model.now a.table.now ≡ true
+valid : (c : tie.Else1) → let a = c.before.before.before.before.before.args in table_ok a.model.now a.table.now ≡ true
 valid c = sym c.before.table-ok.ensures ∙ not-false _ c.if1.false
 
 slice-aggregate-certificate-held : tie.Need-slice-aggregate-certificate-held
@@ -31,8 +31,8 @@ slice-aggregate-certificate-held c = search rules
 certificate-held-requires : tie.Need-certificate-held-requires
 certificate-held-requires c κs = let i = c.before in (i.before.before.before.before.before.requires, i.before.before.before.places2.ensures, valid i)
 
-returns-2 : tie.Need-returns-2
-returns-2 c = valid-asked _ _ (valid c.before.before) c.certificate-held.ensures
+returns_2 : tie.Need-returns-2
+returns_2 c = valid_asked _ _ (valid c.before.before) c.certificate-held.ensures
 
 pub table-questions-spec : {M : Type 1} → statement M
 table-questions-spec =
@@ -44,4 +44,4 @@ table-questions-spec =
     returns
     slice-aggregate-certificate-held
     certificate-held-requires
-    returns-2)
+    returns_2)

@@ -1,6 +1,6 @@
 -- Word 2i + 1 of both boxes, and the smaller of them.
 use mathlib.Core.Path.{ap₂, ◌∙◌}
-use Rattle.integers.specs.Rounding.{minZ}
+use Rattle.integers.specs.Rounding.{min_z}
 use Rattle.integers.proofs.Signed.{got64}
 use Rattle.plant.specs.Box.{high}
 use borrow.Author.Rules.{rules}
@@ -28,7 +28,7 @@ returns c =
     let v = c.before.before.word in
     let w = c.before.word2 in
     let m = simp (got64 v.result v.type-inv, got64 w.result w.type-inv) at c.smaller.ensures in
-    got64 c.smaller.result c.smaller.type-inv ∙ m ∙ ap₂ minZ v.ensures w.ensures
+    got64 c.smaller.result c.smaller.type-inv ∙ m ∙ ap₂ min_z v.ensures w.ensures
 
 pub cut-high-spec : {M : Type 1} → statement M
 cut-high-spec =

@@ -1,6 +1,6 @@
 -- Word 2i of both boxes, and the larger of them.
 use mathlib.Core.Path.{ap₂, ◌∙◌}
-use Rattle.integers.specs.Rounding.{maxZ}
+use Rattle.integers.specs.Rounding.{max_z}
 use Rattle.integers.proofs.Signed.{got64}
 use Rattle.plant.specs.Box.{low}
 use borrow.Author.Rules.{rules}
@@ -25,7 +25,7 @@ returns c =
     let v = c.before.before.word in
     let w = c.before.word2 in
     let m = simp (got64 v.result v.type-inv, got64 w.result w.type-inv) at c.larger.ensures in
-    got64 c.larger.result c.larger.type-inv ∙ m ∙ ap₂ maxZ v.ensures w.ensures
+    got64 c.larger.result c.larger.type-inv ∙ m ∙ ap₂ max_z v.ensures w.ensures
 
 pub cut-low-spec : {M : Type 1} → statement M
 cut-low-spec = tie.close (tie.spec mul-k word-requires word-requires-2 larger-requires returns)

@@ -10,8 +10,8 @@ le-requires c κs = search rules
 returns : tie.Need-returns
 returns c = simp (sym c.before.le.ensures ∙ c.if1.true)
 
-returns-2 : tie.Need-returns-2
-returns-2 c = simp (sym c.before.le.ensures ∙ c.if1.false)
+returns_2 : tie.Need-returns-2
+returns_2 c = simp (sym c.before.le.ensures ∙ c.if1.false)
 
 pub earlier-spec : {M : Type 1} → statement M
-earlier-spec = tie.close (tie.spec le-requires returns returns-2)
+earlier-spec = tie.close (tie.spec le-requires returns returns_2)

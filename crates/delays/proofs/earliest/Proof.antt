@@ -16,8 +16,8 @@ returns c =
     let f = c.before.before.ranges in
     simp (c.delay.ensures, to_z-of_z f.p, to_z-of_z f.hi, to_z-of_z f.a, simp (to_z-of_z f.p, to_z-of_z f.hi) at c.before.if1.true, abs_neg)
 
-returns-2 : tie.Need-returns-2
-returns-2 c =
+returns_2 : tie.Need-returns-2
+returns_2 c =
     let f = c.before.before.before.ranges in
     simp (c.delay2.ensures, to_z-of_z f.q, to_z-of_z f.lo, to_z-of_z f.c, simp (to_z-of_z f.p, to_z-of_z f.hi) at c.before.before.if1.false, simp (to_z-of_z f.q, to_z-of_z f.lo) at c.before.if2.true)
 
@@ -27,4 +27,4 @@ returns-3 c =
     simp (simp (to_z-of_z f.p, to_z-of_z f.hi) at c.before.if1.false, simp (to_z-of_z f.q, to_z-of_z f.lo) at c.if2.false)
 
 pub earliest-spec : {M : Type 1} → statement M
-earliest-spec = tie.close (tie.spec delay-requires delay-requires-2 returns returns-2 returns-3)
+earliest-spec = tie.close (tie.spec delay-requires delay-requires-2 returns returns_2 returns-3)

@@ -17,10 +17,10 @@ returns c = search rules
 le-requires : tie.Need-le-requires
 le-requires c κs =
     let p = c.before.before.before.before.requires in
-    (p.earliest-small, subst SmallEnd c.before.l.given.1 p.latest-small)
+    (p.earliest_small, subst SmallEnd c.before.l.given.1 p.latest_small)
 
-returns-2 : tie.Need-returns-2
-returns-2 c = simp c.before.before.l.given.1 c.le.ensures
+returns_2 : tie.Need-returns-2
+returns_2 c = simp c.before.before.l.given.1 c.le.ensures
 
 pub has-delay-spec : {M : Type 1} → statement M
-has-delay-spec = tie.close (tie.spec enum-known-l enum_told returns le-requires returns-2)
+has-delay-spec = tie.close (tie.spec enum-known-l enum_told returns le-requires returns_2)

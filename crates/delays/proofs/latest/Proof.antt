@@ -19,8 +19,8 @@ returns c =
     let f = c.before.before.ranges in
     simp (simp (c.before.endless.ensures, to_z-of_z f.p, to_z-of_z f.q, to_z-of_z f.a, to_z-of_z f.c, to_z-of_z f.lo, to_z-of_z f.hi) at c.if1.true)
 
-returns-2 : tie.Need-returns-2
-returns-2 c =
+returns_2 : tie.Need-returns-2
+returns_2 c =
     let f = c.before.before.before.before.ranges in
     let n = simp (c.before.before.before.endless.ensures, to_z-of_z f.p, to_z-of_z f.q, to_z-of_z f.a, to_z-of_z f.c, to_z-of_z f.lo, to_z-of_z f.hi) at c.before.before.if1.false in
     let t = simp (to_z-of_z f.c) at c.before.if2.true in
@@ -36,4 +36,4 @@ returns-3 c =
 pub latest-spec : {M : Type 1} → statement M
 latest-spec =
     tie.close
-    (tie.spec endless-requires delay-requires delay-requires-2 returns returns-2 returns-3)
+    (tie.spec endless-requires delay-requires delay-requires-2 returns returns_2 returns-3)

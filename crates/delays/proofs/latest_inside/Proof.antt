@@ -2,7 +2,7 @@
 use Rattle.integers.proofs.Signed.{got64}
 use Rattle.plant.specs.Box.{low, high}
 use borrow.Author.Rules.{rules}
-use Rattle.delays.proofs.WindowEnd.{latest-falling, latest-rising, latest-endless}
+use Rattle.delays.proofs.WindowEnd.{latest_falling, latest_rising, latest_endless}
 use Rattle.delays.proofs.latest_inside.Statement.{statement}
 use Rattle.delays.proofs.latest_inside.Tie as tie
 
@@ -30,7 +30,7 @@ delay-requires c κs =
     let q = c.before.word3 in
     let lo = c.word4 in
     let s = c.before.before.before.before.before in
-    simp (got64 q.result q.type-inv, got64 lo.result lo.type-inv) (rw q.ensures s.requires.2.high-in, rw lo.ensures s.requires.0.low-in)
+    simp (got64 q.result q.type-inv, got64 lo.result lo.type-inv) (rw q.ensures s.requires.2.high_in, rw lo.ensures s.requires.0.low_in)
 
 word-requires-5 : tie.Need-word-requires-5
 word-requires-5 c κs = search rules
@@ -44,7 +44,7 @@ delay-requires-2 c κs =
     let hi = c.before.word5 in
     let p = c.word6 in
     let s = c.before.before.before.before.before.before in
-    simp (got64 hi.result hi.type-inv, got64 p.result p.type-inv) (rw hi.ensures s.requires.0.high-in, rw p.ensures s.requires.2.low-in)
+    simp (got64 hi.result hi.type-inv, got64 p.result p.type-inv) (rw hi.ensures s.requires.0.high_in, rw p.ensures s.requires.2.low_in)
 
 returns : tie.Need-returns
 unfolding low high
@@ -56,11 +56,11 @@ returns c =
     let a = s.args in
     let t = simp v.ensures at (simp (got64 v.result v.type-inv) at c.before.before.before.if1.true) in
     let d = simp (lo.ensures, q.ensures, v.ensures) at (simp (got64 lo.result lo.type-inv, got64 q.result q.type-inv, got64 v.result v.type-inv) at c.delay.ensures) in
-    rw d (latest-falling (low a.part.now a.i) (high a.part.now a.i) (low a.rate.now a.i) (high a.rate.now a.i) (low a.inv.now a.i) (high a.inv.now a.i) s.requires.3.not-above s.requires.3.not-below t)
+    rw d (latest_falling (low a.part.now a.i) (high a.part.now a.i) (low a.rate.now a.i) (high a.rate.now a.i) (low a.inv.now a.i) (high a.inv.now a.i) s.requires.3.not_above s.requires.3.not_below t)
 
-returns-2 : tie.Need-returns-2
+returns_2 : tie.Need-returns-2
 unfolding low high
-returns-2 c =
+returns_2 c =
     let p = c.before.word6 in
     let hi = c.before.before.word5 in
     let w = c.before.before.before.before.before.before.word in
@@ -70,7 +70,7 @@ returns-2 c =
     let t = simp v.ensures at (simp (got64 v.result v.type-inv) at c.before.before.before.before.if1.false) in
     let u = simp w.ensures at (simp (got64 w.result w.type-inv) at c.before.before.before.if2.true) in
     let d = simp (hi.ensures, p.ensures, w.ensures) at (simp (got64 hi.result hi.type-inv, got64 p.result p.type-inv, got64 w.result w.type-inv) at c.delay2.ensures) in
-    rw d (latest-rising (low a.part.now a.i) (high a.part.now a.i) (low a.rate.now a.i) (high a.rate.now a.i) (low a.inv.now a.i) (high a.inv.now a.i) s.requires.3.not-above s.requires.3.not-below t u)
+    rw d (latest_rising (low a.part.now a.i) (high a.part.now a.i) (low a.rate.now a.i) (high a.rate.now a.i) (low a.inv.now a.i) (high a.inv.now a.i) s.requires.3.not_above s.requires.3.not_below t u)
 
 returns-3 : tie.Need-returns-3
 unfolding low high
@@ -81,7 +81,7 @@ returns-3 c =
     let a = s.args in
     let t = simp v.ensures at (simp (got64 v.result v.type-inv) at c.before.if1.false) in
     let u = simp w.ensures at (simp (got64 w.result w.type-inv) at c.if2.false) in
-    latest-endless (low a.part.now a.i) (high a.part.now a.i) (low a.rate.now a.i) (high a.rate.now a.i) (low a.inv.now a.i) (high a.inv.now a.i) s.requires.3.not-above s.requires.3.not-below t u
+    latest_endless (low a.part.now a.i) (high a.part.now a.i) (low a.rate.now a.i) (high a.rate.now a.i) (low a.inv.now a.i) (high a.inv.now a.i) s.requires.3.not_above s.requires.3.not_below t u
 
 pub latest-inside-spec : {M : Type 1} → statement M
 latest-inside-spec =
@@ -98,5 +98,5 @@ latest-inside-spec =
     word-requires-6
     delay-requires-2
     returns
-    returns-2
+    returns_2
     returns-3)

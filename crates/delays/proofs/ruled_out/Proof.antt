@@ -19,8 +19,8 @@ abbrev decreases-loop : tie.decreases-loop
 decreases-loop n inv rate part forbidden i₀ i = n - i
 
 -- the range of the variable's cut
-low-is : (c : tie.After-cut-high invariant-loop decreases-loop) → let a = c.before.before.before.before.args in to_z w64 (of_z w64 c.before.cut_low.result) ≡ lowest a.inv.now a.forbidden.now c.before.before.before.loop.i
-low-is c = got64 c.before.cut_low.result c.before.cut_low.type-inv ∙ c.before.cut_low.ensures
+low_is : (c : tie.After-cut-high invariant-loop decreases-loop) → let a = c.before.before.before.before.args in to_z w64 (of_z w64 c.before.cut_low.result) ≡ lowest a.inv.now a.forbidden.now c.before.before.before.loop.i
+low_is c = got64 c.before.cut_low.result c.before.cut_low.type-inv ∙ c.before.cut_low.ensures
 
 high_is : (c : tie.After-cut-high invariant-loop decreases-loop) → let a = c.before.before.before.before.args in to_z w64 (of_z w64 c.cut_high.result) ≡ highest a.inv.now a.forbidden.now c.before.before.before.loop.i
 high_is c = got64 c.cut_high.result c.cut_high.type-inv ∙ c.cut_high.ensures
@@ -108,9 +108,9 @@ returns c _ =
     let s = h.before.before.before.before in
     let i = h.before.before.before.loop.i in
     let a = s.args in
-    let d = simp (low-is h, high_is h, got64 w1.word.result w1.word.type-inv, got64 w2.word2.result w2.word2.type-inv, got64 w3.word3.result w3.word3.type-inv, got64 w4.word4.result w4.word4.type-inv) at c.before.no-delay.ensures in
+    let d = simp (low_is h, high_is h, got64 w1.word.result w1.word.type-inv, got64 w2.word2.result w2.word2.type-inv, got64 w3.word3.result w3.word3.type-inv, got64 w4.word4.result w4.word4.type-inv) at c.before.no_delay_lem.ensures in
     let e = simp (w1.word.ensures, w2.word2.ensures, w3.word3.ensures, w4.word4.ensures) at d in
-    ruled_out a.n a.inv.now a.rate.now a.part.now a.forbidden.now i (omega arith) (simp (low-is h, high_is h, e) at c.if1.true)
+    ruled_out a.n a.inv.now a.rate.now a.part.now a.forbidden.now i (omega arith) (simp (low_is h, high_is h, e) at c.if1.true)
 
 add-i : tie.Need-overflow-add-i invariant-loop decreases-loop
 add-i c = search rules
@@ -121,8 +121,8 @@ loop-less c = omega arith
 loop-again : tie.Need-loop-preserved invariant-loop decreases-loop
 loop-again c = tt
 
-returns-2 : tie.Need-returns-2 invariant-loop decreases-loop
-returns-2 c e = absurd (subst T (sym e) tt)
+returns_2 : tie.Need-returns-2 invariant-loop decreases-loop
+returns_2 c e = absurd (subst T (sym e) tt)
 
 pub ruled-out-spec : {M : Type 1} → statement M
 ruled-out-spec =
@@ -144,4 +144,4 @@ ruled-out-spec =
     add-i
     loop-less
     loop-again
-    returns-2)
+    returns_2)

@@ -32,8 +32,8 @@ earlier-requires c κs =
 returns : tie.Need-returns
 returns c = search rules
 
-returns-2 : tie.Need-returns-2
-returns-2 c = simp (c.before.before.before.enum_told.given.1, c.before.t.given.1)
+returns_2 : tie.Need-returns-2
+returns_2 c = simp (c.before.before.before.enum_told.given.1, c.before.t.given.1)
 
 returns-3 : tie.Need-returns-3
 returns-3 c = simp (c.before.before.before.s.given.1, c.enum-told3.given.1)
@@ -53,6 +53,6 @@ sooner-spec =
     enum-known-t-2
     earlier-requires
     returns
-    returns-2
+    returns_2
     returns-3
     returns-4)

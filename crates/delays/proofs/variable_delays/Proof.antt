@@ -35,7 +35,7 @@ delays-into-requires c κs =
     let r = s.requires.0 in
     let v = s.requires.1 in
     simp (got64 w1.result w1.type-inv, got64 w2.result w2.type-inv, got64 w3.result w3.type-inv, got64 w4.result w4.type-inv, to_z-of_z s.ranges.lo, to_z-of_z s.ranges.hi)
-    (rw w1.ensures v.low-in, rw w2.ensures v.high-in, rw w3.ensures r.low-in, rw w4.ensures r.high-in, s.requires.2, s.requires.3)
+    (rw w1.ensures v.low_in, rw w2.ensures v.high_in, rw w3.ensures r.low_in, rw w4.ensures r.high_in, s.requires.2, s.requires.3)
 
 returns : tie.Need-returns
 unfolding low high

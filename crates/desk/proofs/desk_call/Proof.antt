@@ -45,7 +45,7 @@ use denote.Triple.Clauses.{ensured, lasts}
 use denote.Exit.{yes}
 use Rattle.plant.specs.contracts.Answer as E
 use Rattle.plant.proofs.Answer.TheLaws as E'
-use Rattle.orders.specs.Desks.{Served, deskCall}
+use Rattle.orders.specs.Desks.{Served, desk_call}
 use Rattle.orders.specs.declared.Desk.{Desk}
 use Rattle.desk.specs.declared.Receipt.{Receipt}
 use Rattle.orders.specs.contracts.Desk as T
@@ -120,21 +120,21 @@ module _ {M : Type 1} {𝓤 : Ura M} (𝓛 : Logic 𝓤) (at_mem : Memory → SP
   abbrev Asked : Fml
   Asked = owns (T.the_row ∷ ShrSlice (named 0) κ₁ i32 ∷ u32 ∷ MutSlice (named 1) κ₂ i32 ∷ MutSlice (named 2) κ₃ i32 ∷ []) (h, (m, (n, (t, (w, tt))))) passed
 
-  goes-serve : ent 𝓤 (⋆ 𝓛 (Tokens ∷ ‵ Asked ∷ [])) ((Serve 𝓛 at_mem run).pre to)
-  goes-serve = qed 𝓛 (Tokens ∷ ‵ Asked ∷ []) ∵ join ! $ frame ! $ done !
+  goes_serve : ent 𝓤 (⋆ 𝓛 (Tokens ∷ ‵ Asked ∷ [])) ((Serve 𝓛 at_mem run).pre to)
+  goes_serve = qed 𝓛 (Tokens ∷ ‵ Asked ∷ []) ∵ join ! $ frame ! $ done !
 
   -- what it says
   abbrev Lists : Type 0
   Lists = Unit {0} × (Unit {0} × (Unit {0} × (List ℤ × (List ℤ × Unit {0}))))
 
-  abbrev last-table : Lists → List ℤ
-  last-table zs = zs.1.1.1.0
+  abbrev last_table : Lists → List ℤ
+  last_table zs = zs.1.1.1.0
 
-  abbrev last-work : Lists → List ℤ
-  last-work zs = zs.1.1.1.1.0
+  abbrev last_work : Lists → List ℤ
+  last_work zs = zs.1.1.1.1.0
 
   abbrev Said : Receipt → Lists → Type 0
-  Said r zs = ◌≡◌ {A = Served} (record { desk = r.desk; analysed = record { answer = r.answer; table = last-table zs; work = last-work zs } }) (deskCall h m.now n t.now w.now)
+  Said r zs = ◌≡◌ {A = Served} (record { desk = r.desk; analysed = record { answer = r.answer; table = last_table zs; work = last_work zs } }) (desk_call h m.now n t.now w.now)
 
   -- the facts of the desk within what came back: what closing the borrow asks
   made : (r : Receipt) (u : Val) → Is S.the_row r (u ∷ []) → Is T.the_row r.desk (T'.lowered r.desk ∷ [])
@@ -143,10 +143,10 @@ module _ {M : Type 1} {𝓤 : Ura M} (𝓛 : Logic 𝓤) (at_mem : Memory → SP
       LL.owes T.the_type T'.the_laws r.desk ((refl, f.0.1.1.0.1), ((refl, f.0.1.1.1.0.1), tt))
 
   -- and of the answer
-  abbrev answer-val : Receipt → Val
-  answer-val r = EL.val E.the_type E'.the_laws r.answer
+  abbrev answer_val : Receipt → Val
+  answer_val r = EL.val E.the_type E'.the_laws r.answer
 
-  answered : (r : Receipt) (u : Val) → Is S.the_row r (u ∷ []) → Is E.the_row r.answer (answer-val r ∷ [])
+  answered : (r : Receipt) (u : Val) → Is S.the_row r (u ∷ []) → Is E.the_row r.answer (answer_val r ∷ [])
   answered r u is = (LL.owed S.the_type S'.the_laws r (u ∷ []) is).1.0
 
   abbrev Post : Val → SProp 𝓤
@@ -155,11 +155,11 @@ module _ {M : Type 1} {𝓤 : Ura M} (𝓛 : Logic 𝓤) (at_mem : Memory → SP
   abbrev Left : Receipt → List ℤ → List ℤ → List (Item 𝓤)
   Left r zt zw = ‵ (fobs γ ((T.the_row).coded.code r.desk)) ∷ ‵ (fbor κ₀ (Body (mem (T.the_row)) b o γ)) ∷ ‵ (flft κ₀ q₀) ∷ Tokens ∷ ‵ (finally i32 t.name zt) ∷ ‵ (finally i32 w.name zw) ∷ ‵ OwnM ∷ []
 
-  exits : n < 2 ^ 32 → (r : Receipt) (zs : Lists) → Is E.the_row r.answer (answer-val r ∷ []) → Said r zs → length (last-table zs) ≡ length t.now → length (last-work zs) ≡ length w.now
-      → ent 𝓤 (⋆ 𝓛 (Left r (last-table zs) (last-work zs))) (Post (answer-val r))
+  exits : n < 2 ^ 32 → (r : Receipt) (zs : Lists) → Is E.the_row r.answer (answer_val r ∷ []) → Said r zs → length (last_table zs) ≡ length t.now → length (last_work zs) ≡ length w.now
+      → ent 𝓤 (⋆ 𝓛 (Left r (last_table zs) (last_work zs))) (Post (answer_val r))
   exits fits r zs is e lt lw =
-      qed 𝓛 (Left r (last-table zs) (last-work zs)) ∵
-      suffices ! _ (ends_at 𝓛 call.ended stayed (call.clauses 𝓛 at_mem run) ((κs, (q₀, (q₁, (q₂, (q₃, tt)))), tt, a, at), tt) (answer-val r) r.answer (r.desk, (tt, (tt, (last-table zs, (last-work zs, tt))))) (tt, (tt, (tt, (lt, (lw, tt)))))) $
+      qed 𝓛 (Left r (last_table zs) (last_work zs)) ∵
+      suffices ! _ (ends_at 𝓛 call.ended stayed (call.clauses 𝓛 at_mem run) ((κs, (q₀, (q₁, (q₂, (q₃, tt)))), tt, a, at), tt) (answer_val r) r.answer (r.desk, (tt, (tt, (last_table zs, (last_work zs, tt))))) (tt, (tt, (tt, (lt, (lw, tt)))))) $
       says ! e $ move ! (2 ∷ 3 ∷ []) $ join ! $ frame ! $
       -- [obs; the borrow; table's last list; work's; what model owns]
       feq_i ! (List Val) (vptr b o ∷ []) (vptr b o ∷ []) refl $ fjoin3 ! $ nothing ! $ move ! (3 ∷ 0 ∷ []) $ fjoin ! $ move ! (2 ∷ 0 ∷ []) $ fjoin ! $
@@ -190,7 +190,7 @@ module _ {M : Type 1} {𝓤 : Ura M} (𝓛 : Logic 𝓤) (at_mem : Memory → SP
         -- what `serve` asks
         move ! (33 ∷ []) $ use1 𝓛 (‵ OwnM ⊛ ‵ OwnM) ((shr_slice_copy 𝓛 (named 1) κ₁ i32).twice m (sm ∷ [])) $ split ! $
         nothing ! $ move ! (34 ∷ 0 ∷ []) $ fjoin ! $ move ! (34 ∷ 0 ∷ []) $ fjoin ! $ owned ! u32 (Is u32) (uint_Makes 𝓛 w32) n _ (refl, gn.1) $ fjoin ! $ move ! (1 ∷ 0 ∷ []) $ fjoin ! $
-        owned ! (T.the_row) (Is (T.the_row)) ((LL.makes T.the_type T'.the_plain) 𝓛) h _ g $ fjoin ! $ move ! (33 ∷ 0 ∷ []) $ use2 𝓛 (raw ((Serve 𝓛 at_mem run).pre to)) goes-serve $
+        owned ! (T.the_row) (Is (T.the_row)) ((LL.makes T.the_type T'.the_plain) 𝓛) h _ g $ fjoin ! $ move ! (33 ∷ 0 ∷ []) $ use2 𝓛 (raw ((Serve 𝓛 at_mem run).pre to)) goes_serve $
         -- [what it asks; model's; the desk's cell 2; …; auth 6; _11 7; _10 9; _9 11; _8 13; _7 15; _6 17; _5 19; _4 21; _3 23; _2 25; _1 27; _0 29; …]
         calls_at ! fm (Serve 𝓛 at_mem run) known to (and_then ! (load ! (from ! (stop !)) (look ! 15 refl)) (and_then ! (load ! (from ! (stop !)) (look ! 25 refl)) (and_then ! (load ! (from ! (stop !)) (look ! 23 refl)) (and_then ! (load ! (from ! (stop !)) (look ! 11 refl)) (and_then ! (load ! (from ! (stop !)) (look ! 7 refl)) (no_more !)))))) (λ u.
         use1 𝓛 (later (some (λ (r : Receipt). (Tokens ⊛ ‵ ((S.the_row).own_val r (u ∷ []))) ⊛ raw (ensured 𝓛 serve.ended (serve.clauses 𝓛 at_mem run) (κ₁, (κ₂, (κ₃, tt))) (h, (m, (n, (t, (w, tt))))) tt r)))) (id⊢ 𝓤 _) $ await ! tt $ pick ! (λ r.
@@ -214,9 +214,9 @@ module _ {M : Type 1} {𝓤 : Ura M} (𝓛 : Logic 𝓤) (at_mem : Memory → SP
 module _ {M : Type 1} {𝓤 : Ura M} (𝓛 : Logic 𝓤) (at_mem : Memory → SProp 𝓤) (run : Routine → Fun 𝓤) where
   open 𝓛 use {H}
 
-  call-walks : (C : Calls 𝓤 H) (Λ : Loops 𝓤 H) → FmC 𝓤 H 𝓛.laws C → Triple 𝓤 (C #desk·serve) (Serve 𝓛 at_mem run)
+  call_walks : (C : Calls 𝓤 H) (Λ : Loops 𝓤 H) → FmC 𝓤 H 𝓛.laws C → Triple 𝓤 (C #desk·serve) (Serve 𝓛 at_mem run)
       → Walks 𝓛 call.ended stayed (WpFn 𝓤 H C Λ code.function) (call.clauses 𝓛 at_mem run)
-  call-walks C Λ fm known = walked 𝓛 call.ended stayed (call.clauses 𝓛 at_mem run) (WpFn 𝓤 H C Λ code.function)
+  call_walks C Λ fm known = walked 𝓛 call.ended stayed (call.clauses 𝓛 at_mem run) (WpFn 𝓤 H C Λ code.function)
       (λ κs. (shr_vals, (shr_slice_vals, (uint_vals w32, (shr_slice_vals, (shr_slice_vals, tt))))))
       (λ κs. (mut_Tells (named 0) κs.0 (T.the_row), (shr_slice_Tells (named 1) κs.1.0 i32, (uint_Tells w32, (mut_slice_Tells (named 2) κs.1.1.0 i32, (mut_slice_Tells (named 3) κs.1.1.1.0 i32, tt))))))
       (λ κs qs bounds a _ are. via 𝓤 _ (fst∗ 𝓤 _ (emp 𝓤)) (walk 𝓛 at_mem run κs.0 κs.1.0 κs.1.1.0 κs.1.1.1.0 qs.0 qs.1.0 qs.1.1.0 qs.1.1.1.0
@@ -231,16 +231,16 @@ module _ {M : Type 1} {𝓤 : Ura M} (𝓛 : Logic 𝓤) (at_mem : Memory → SP
     ),
   )
 
-call-meets : {M : Type 1} {𝓤 : Ura M} (𝓛 : Logic 𝓤) (at_mem : Memory → SProp 𝓤) (run : Routine → Fun 𝓤) (𝓣 : Tables 𝓤 𝓛.H)
+call_meets : {M : Type 1} {𝓤 : Ura M} (𝓛 : Logic 𝓤) (at_mem : Memory → SProp 𝓤) (run : Routine → Fun 𝓤) (𝓣 : Tables 𝓤 𝓛.H)
     → Triple 𝓤 (𝓣.C #desk·serve) (Serve 𝓛 at_mem run)
     → Meets 𝓛 call.signature (WpFn 𝓤 𝓛.H 𝓣.C 𝓣.Λ code.function) (call.spec 𝓛 at_mem run)
-call-meets {𝓤 = 𝓤} 𝓛 at_mem run 𝓣 known = walk_Meets 𝓛 call.ended stayed (goes 𝓛 at_mem run) (call.clauses 𝓛 at_mem run) (WpFn 𝓤 𝓛.H 𝓣.C 𝓣.Λ code.function) (WpFn-mono 𝓤 𝓛.H 𝓛.laws 𝓣 code.function)
-    (call-walks 𝓛 at_mem run 𝓣.C 𝓣.Λ (fm_of 𝓤 𝓛.H 𝓛.laws 𝓣) known)
+call_meets {𝓤 = 𝓤} 𝓛 at_mem run 𝓣 known = walk_Meets 𝓛 call.ended stayed (goes 𝓛 at_mem run) (call.clauses 𝓛 at_mem run) (WpFn 𝓤 𝓛.H 𝓣.C 𝓣.Λ code.function) (WpFn-mono 𝓤 𝓛.H 𝓛.laws 𝓣 code.function)
+    (call_walks 𝓛 at_mem run 𝓣.C 𝓣.Λ (fm_of 𝓤 𝓛.H 𝓛.laws 𝓣) known)
 
 pub desk-call-spec : {M : Type 1} → stated.statement M
 unfolding code.routine tables_of
 desk-call-spec 𝓤 𝓛 𝓜 𝓡 =
     entered 𝓤 𝓛.H (triple_of 𝓛 call.signature (call.spec 𝓛 𝓜.mem 𝓡.run))
     (tables 𝓤 𝓛.H 𝓜 𝓡 code.env).C (tables 𝓤 𝓛.H 𝓜 𝓡 code.env).Λ #desk·desk-call code.function (code.unfolded 𝓤 𝓛.H 𝓜 𝓡)
-    (call-meets 𝓛 𝓜.mem 𝓡.run (tables_of 𝓤 𝓛.H 𝓜 (tables 𝓤 𝓛.H 𝓜 𝓡 code.env))
+    (call_meets 𝓛 𝓜.mem 𝓡.run (tables_of 𝓤 𝓛.H 𝓜 (tables 𝓤 𝓛.H 𝓜 𝓡 code.env))
     (cited 𝓤 𝓛.H (Serve 𝓛 𝓜.mem 𝓡.run) 𝓜 𝓡 code.env #desk·serve serve-def.routine code.calls-desk::serve (serve-thm.met 𝓤 𝓛 𝓜 𝓡)))

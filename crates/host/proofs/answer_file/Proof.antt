@@ -35,8 +35,8 @@ answer-with-requires-2 c κs = search rules
 same-length-2 : tie.Need-same-length-2
 same-length-2 c = search rules
 
-returns-2 : tie.Need-returns-2
-returns-2 c = search rules
+returns_2 : tie.Need-returns-2
+returns_2 c = search rules
 
 slice-aggregate-answer-with-5 : tie.Need-slice-aggregate-answer-with-5
 slice-aggregate-answer-with-5 c = search rules
@@ -67,7 +67,7 @@ answer-file-spec =
     slice-aggregate-answer-with-4
     answer-with-requires-2
     same-length-2
-    returns-2
+    returns_2
     slice-aggregate-answer-with-5
     slice-aggregate-answer-with-6
     answer-with-requires-3

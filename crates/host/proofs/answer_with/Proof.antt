@@ -4,7 +4,7 @@ use native.Mathlib.Omega.{arith}
 use borrow.Author.Rules.{rules}
 use Rattle.plant.proofs.Passing.{whole}
 use Rattle.plant.proofs.AnalysisAsked.{all_yes}
-use Rattle.interface.proofs.Deciding.{answer-front, is-decided}
+use Rattle.interface.proofs.Deciding.{answer_front, is_decided}
 use Rattle.host.proofs.answer_with.Statement.{statement}
 use Rattle.host.proofs.answer_with.Tie as tie
 
@@ -20,14 +20,14 @@ slice-reshare-prefix-put-table c = search rules
 slice-aggregate-put-table : tie.Need-slice-aggregate-put-table
 slice-aggregate-put-table c =
     let s = c.before.before.before.before.before.before.before.before in
-    (answer-front _ _ s.args.table.now s.args.work.now s.requires.2 c.before.before.before.before.analyse-passed.ensures c.before.table-size.ensures).lent
+    (answer_front _ _ s.args.table.now s.args.work.now s.requires.2 c.before.before.before.before.analyse-passed.ensures c.before.table_size_lem.ensures).lent
 
 put-table-requires : tie.Need-put-table-requires
 put-table-requires c κs =
     let s = c.before.before.before.before.before.before.before.before.before in
     record {
       whole = whole _ s.requires.0;
-      room = omega (arith, c.before.before.table-size.ensures, (answer-front _ _ s.args.table.now s.args.work.now s.requires.2 c.before.before.before.before.before.analyse-passed.ensures c.before.before.table-size.ensures).lent);
+      room = omega (arith, c.before.before.table_size_lem.ensures, (answer_front _ _ s.args.table.now s.args.work.now s.requires.2 c.before.before.before.before.before.analyse-passed.ensures c.before.before.table_size_lem.ensures).lent);
       bytes = s.requires.1;
     }
 
@@ -46,7 +46,7 @@ same-length-3 c = search rules
 returns : tie.Need-returns
 returns c =
     let s = c.before.before.before.before.before.before.before.before.before.before.before.before.before in
-    is-decided _ _ s.args.table.now s.args.work.now s.requires.2 c.before.before.before.before.before.before.before.before.before.analyse-passed.ensures _ c.before.before.before.before.before.before.table-size.ensures c.pack-answer.ensures c.before.before.before.put-table.ensures.0
+    is_decided _ _ s.args.table.now s.args.work.now s.requires.2 c.before.before.before.before.before.before.before.before.before.analyse-passed.ensures _ c.before.before.before.before.before.before.table_size_lem.ensures c.pack-answer.ensures c.before.before.before.put-table.ensures.0
 
 pub answer-with-spec : {M : Type 1} → statement M
 answer-with-spec =

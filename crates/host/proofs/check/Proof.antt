@@ -1,7 +1,7 @@
 -- The file's number is the refusal, or its words are asked for.
 use borrow.Author.Rules.{rules}
-use Rattle.interface.proofs.Reading.{when, other-roomy, read-refused, read-yes, read-front, model-passes}
-use Rattle.interface.proofs.Checking.{check-refused, check-words}
+use Rattle.interface.proofs.Reading.{when, other_roomy, read_refused, read_yes, read_front, model_passes}
+use Rattle.interface.proofs.Checking.{check_refused, check_words}
 use Rattle.host.proofs.check.Statement.{statement}
 use Rattle.host.proofs.check.Tie as tie
 
@@ -15,13 +15,13 @@ enum-known-read : tie.Need-enum-known-read
 enum-known-read c = search rules
 
 array-share-prefix-words : tie.Need-array-share-prefix-words
-array-share-prefix-words c = (read-front _ _ (when c.before.read.given.1 c.before.before.before.before.read-model.ensures)).there
+array-share-prefix-words c = (read_front _ _ (when c.before.read.given.1 c.before.before.before.before.read-model.ensures)).there
 
 slice-aggregate-check-words : tie.Need-slice-aggregate-check-words
-slice-aggregate-check-words c = (read-front _ _ (when c.before.before.read.given.1 c.before.before.before.before.before.read-model.ensures)).lent
+slice-aggregate-check-words c = (read_front _ _ (when c.before.before.read.given.1 c.before.before.before.before.before.read-model.ensures)).lent
 
 check-words-requires : tie.Need-check-words-requires
-check-words-requires c κs = model-passes _ _ (when c.before.before.read.given.1 c.before.before.before.before.before.read-model.ensures)
+check-words-requires c κs = model_passes _ _ (when c.before.before.read.given.1 c.before.before.before.before.before.read-model.ensures)
 
 enum-known-read-2 : tie.Need-enum-known-read-2
 enum-known-read-2 c = search rules
@@ -35,16 +35,16 @@ returns c = search rules
 cast-result : tie.Need-overflow-cast-result
 cast-result c = search rules
 
-returns-2 : tie.Need-returns-2
-returns-2 c =
+returns_2 : tie.Need-returns-2
+returns_2 c =
     let e = when c.before.before.before.read.given.1 c.before.before.before.before.before.before.read-model.ensures in
-    check-words _ _ (read-yes _ _ e) (read-front _ _ e).are c.check-words.ensures
+    check_words _ _ (read_yes _ _ e) (read_front _ _ e).are c.check_words.ensures
 
 returns-3 : tie.Need-returns-3
 returns-3 c =
     let e = when c.before.before.read2.given.1 c.before.before.before.before.before.read-model.ensures in
-    let k = read-refused _ _ (other-roomy _ _ e c.if1.false) e in
-    check-refused _ _ k.0 k.1
+    let k = read_refused _ _ (other_roomy _ _ e c.if1.false) e in
+    check_refused _ _ k.0 k.1
 
 pub check-spec : {M : Type 1} → statement M
 check-spec =
@@ -60,5 +60,5 @@ check-spec =
     check-most-requires
     returns
     cast-result
-    returns-2
+    returns_2
     returns-3)

@@ -23,8 +23,8 @@ slice-aggregate-check-with-2 c = search rules
 check-with-requires-2 : tie.Need-check-with-requires-2
 check-with-requires-2 c κs = search rules
 
-returns-2 : tie.Need-returns-2
-returns-2 c = search rules
+returns_2 : tie.Need-returns-2
+returns_2 c = search rules
 
 slice-aggregate-check-with-3 : tie.Need-slice-aggregate-check-with-3
 slice-aggregate-check-with-3 c = search rules
@@ -45,7 +45,7 @@ check-words-spec =
     returns
     slice-aggregate-check-with-2
     check-with-requires-2
-    returns-2
+    returns_2
     slice-aggregate-check-with-3
     check-with-requires-3
     returns-3)

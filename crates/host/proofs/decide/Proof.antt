@@ -1,7 +1,7 @@
 -- The file's number is the refusal, or its words are decided.
 use borrow.Author.Rules.{rules}
-use Rattle.interface.proofs.Reading.{when, other-roomy, read-refused, read-yes, read-front, model-passes}
-use Rattle.interface.proofs.Deciding.{decide-refused, decide-words}
+use Rattle.interface.proofs.Reading.{when, other_roomy, read_refused, read_yes, read_front, model_passes}
+use Rattle.interface.proofs.Deciding.{decide_refused, decide_words}
 use Rattle.host.proofs.decide.Statement.{statement}
 use Rattle.host.proofs.decide.Tie as tie
 
@@ -15,13 +15,13 @@ enum-known-read : tie.Need-enum-known-read
 enum-known-read c = search rules
 
 array-share-prefix-words : tie.Need-array-share-prefix-words
-array-share-prefix-words c = (read-front _ _ (when c.before.read.given.1 c.before.before.before.before.read-model.ensures)).there
+array-share-prefix-words c = (read_front _ _ (when c.before.read.given.1 c.before.before.before.before.read-model.ensures)).there
 
 slice-aggregate-decide-words : tie.Need-slice-aggregate-decide-words
-slice-aggregate-decide-words c = (read-front _ _ (when c.before.before.read.given.1 c.before.before.before.before.before.read-model.ensures)).lent
+slice-aggregate-decide-words c = (read_front _ _ (when c.before.before.read.given.1 c.before.before.before.before.before.read-model.ensures)).lent
 
 decide-words-requires : tie.Need-decide-words-requires
-decide-words-requires c κs = model-passes _ _ (when c.before.before.before.read.given.1 c.before.before.before.before.before.before.read-model.ensures)
+decide-words-requires c κs = model_passes _ _ (when c.before.before.before.read.given.1 c.before.before.before.before.before.before.read-model.ensures)
 
 enum-known-read-2 : tie.Need-enum-known-read-2
 enum-known-read-2 c = search rules
@@ -41,16 +41,16 @@ pack-requires c κs = search rules
 same-length-2 : tie.Need-same-length-2
 same-length-2 c = search rules
 
-returns-2 : tie.Need-returns-2
-returns-2 c =
+returns_2 : tie.Need-returns-2
+returns_2 c =
     let e = when c.before.before.before.before.before.before.read.given.1 c.before.before.before.before.before.before.before.before.before.read-model.ensures in
-    decide-words _ _ _ (read-yes _ _ e) (read-front _ _ e).are c.before.before.decide-words.ensures
+    decide_words _ _ _ (read_yes _ _ e) (read_front _ _ e).are c.before.before.decide_words.ensures
 
 returns-3 : tie.Need-returns-3
 returns-3 c =
     let e = when c.before.before.before.read2.given.1 c.before.before.before.before.before.before.read-model.ensures in
-    let k = read-refused _ _ (other-roomy _ _ e c.before.if1.false) e in
-    decide-refused _ _ _ c.pack.ensures k.0 k.1
+    let k = read_refused _ _ (other_roomy _ _ e c.before.if1.false) e in
+    decide_refused _ _ _ c.pack.ensures k.0 k.1
 
 pub decide-spec : {M : Type 1} → statement M
 decide-spec =
@@ -68,5 +68,5 @@ decide-spec =
     returns
     pack-requires
     same-length-2
-    returns-2
+    returns_2
     returns-3)

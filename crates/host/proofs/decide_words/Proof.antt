@@ -23,8 +23,8 @@ answer-file-requires c κs =
 same_length : tie.Need-same-length
 same_length c = search rules
 
-returns-2 : tie.Need-returns-2
-returns-2 c = room _ _ _ c.before.before.before.before.before.bytes-question.ensures c.before.before.before.before.if1.false c.before.before.answer-file.ensures
+returns_2 : tie.Need-returns-2
+returns_2 c = room _ _ _ c.before.before.before.before.before.bytes-question.ensures c.before.before.before.before.if1.false c.before.before.answer-file.ensures
 
 pub decide-words-spec : {M : Type 1} → statement M
 decide-words-spec =
@@ -35,4 +35,4 @@ decide-words-spec =
     returns
     answer-file-requires
     same_length
-    returns-2)
+    returns_2)

@@ -2,7 +2,7 @@
 use mathlib.Core.Path.{sym, ap, ◌∙◌}
 use borrow.Author.Rules.{rules}
 use Rattle.plant.specs.declared.Answer.{Answer}
-use Rattle.plant.specs.Calls.{answerReply}
+use Rattle.plant.specs.Calls.{answer_reply}
 use Rattle.interface.specs.Hosts.{packed}
 use Rattle.host.proofs.pack_answer.Statement.{statement}
 use Rattle.host.proofs.pack_answer.Tie as tie
@@ -32,16 +32,16 @@ pack-requires-4 : tie.Need-pack-requires-4
 pack-requires-4 c κs = search rules
 
 returns : tie.Need-returns
-returns c = c.pack.ensures ∙ ap (λ (a : Answer). packed (answerReply a)) (sym c.before.before.answer.given.1)
+returns c = c.pack.ensures ∙ ap (λ (a : Answer). packed (answer_reply a)) (sym c.before.before.answer.given.1)
 
-returns-2 : tie.Need-returns-2
-returns-2 c = c.pack2.ensures ∙ ap (λ (a : Answer). packed (answerReply a)) (sym c.before.before.answer2.given.1)
+returns_2 : tie.Need-returns-2
+returns_2 c = c.pack2.ensures ∙ ap (λ (a : Answer). packed (answer_reply a)) (sym c.before.before.answer2.given.1)
 
 returns-3 : tie.Need-returns-3
-returns-3 c = c.pack3.ensures ∙ ap (λ (a : Answer). packed (answerReply a)) (sym c.before.before.answer3.given.1)
+returns-3 c = c.pack3.ensures ∙ ap (λ (a : Answer). packed (answer_reply a)) (sym c.before.before.answer3.given.1)
 
 returns-4 : tie.Need-returns-4
-returns-4 c = c.pack4.ensures ∙ ap (λ (a : Answer). packed (answerReply a)) (sym c.before.before.answer4.given.1)
+returns-4 c = c.pack4.ensures ∙ ap (λ (a : Answer). packed (answer_reply a)) (sym c.before.before.answer4.given.1)
 
 pub pack-answer-spec : {M : Type 1} → statement M
 pack-answer-spec =
@@ -56,6 +56,6 @@ pack-answer-spec =
     enum-known-answer-4
     pack-requires-4
     returns
-    returns-2
+    returns_2
     returns-3
     returns-4)

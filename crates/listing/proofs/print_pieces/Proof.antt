@@ -3,7 +3,7 @@ use mathlib.Core.Path.{sym, ◌∙◌}
 use Prim.Native.Nat.{◌-◌, ◌≤◌}
 use native.Mathlib.Omega.{arith}
 use borrow.Author.Rules.{rules}
-use Rattle.files.proofs.Fields.{Lies, field-lies}
+use Rattle.files.proofs.Fields.{Lies, field_lies}
 use Rattle.listing.proofs.print_pieces.Statement.{statement}
 use Rattle.listing.proofs.print_pieces.Tie as tie
 
@@ -30,10 +30,10 @@ returns c = search rules
 
 -- where the field lies that the turn found
 lies : (c : tie.After-known-told invariant-loop decreases-loop) → let f = c.before.field.given.0 in Lies c.before.before.before.before.before.before.before.before.args.file.now c.before.before.before.before.before.loop.at f.0 f.1.0 f.1.1.0 f.1.1.1.0
-lies c = field-lies _ _ _ _ _ _ (sym c.before.before.before.next_field.ensures ∙ c.before.field.given.1)
+lies c = field_lies _ _ _ _ _ _ (sym c.before.before.before.next_field.ensures ∙ c.before.field.given.1)
 
 print-line-requires : tie.Need-print-line-requires invariant-loop decreases-loop
-print-line-requires c κs = omega (arith, (lies c).start_is, (lies c).next-is, (lies c).there)
+print-line-requires c κs = omega (arith, (lies c).start_is, (lies c).next_is, (lies c).there)
 
 add-i : tie.Need-overflow-add-i invariant-loop decreases-loop
 add-i c = omega arith
@@ -44,8 +44,8 @@ loop-less c = omega arith
 loop-again : tie.Need-loop-preserved invariant-loop decreases-loop
 loop-again c = omega arith
 
-returns-2 : tie.Need-returns-2 invariant-loop decreases-loop
-returns-2 c = search rules
+returns_2 : tie.Need-returns-2 invariant-loop decreases-loop
+returns_2 c = search rules
 
 pub print-pieces-spec : {M : Type 1} → statement M
 print-pieces-spec =
@@ -62,4 +62,4 @@ print-pieces-spec =
     add-i
     loop-less
     loop-again
-    returns-2)
+    returns_2)

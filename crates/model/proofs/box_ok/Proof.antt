@@ -4,20 +4,20 @@ use Prim.Native.Nat.{◌≤◌, ◌-◌}
 use native.Mathlib.Omega.{arith}
 use lib.IntN.{pos}
 use borrow.Author.Rules.{rules}
-use Rattle.integers.proofs.Signed.{fits64, got64, as-signed}
-use Rattle.plant.specs.Questions.{boxOk}
-use Rattle.model.proofs.Turns.{limit-fits, limit-back, box-none, box-more}
+use Rattle.integers.proofs.Signed.{fits64, got64, as_signed}
+use Rattle.plant.specs.Questions.{box_ok}
+use Rattle.model.proofs.Turns.{limit_fits, limit_back, box_none, box_more}
 use Rattle.model.proofs.box_ok.Statement.{statement}
 use Rattle.model.proofs.box_ok.Tie as tie
 
 abbrev invariant-loop : tie.invariant-loop
-invariant-loop b n most ok₀ i₀ ok i = (i ≤ n) × (ok ≡ boxOk i most b)
+invariant-loop b n most ok₀ i₀ ok i = (i ≤ n) × (ok ≡ box_ok i most b)
 
 abbrev decreases-loop : tie.decreases-loop
 decreases-loop b n most ok₀ i₀ ok i = n - i
 
 loop-holds : tie.Need-loop-init invariant-loop decreases-loop
-loop-holds c = (omega arith, box-none _ _)
+loop-holds c = (omega arith, box_none _ _)
 
 mul-word : tie.Need-overflow-mul-word invariant-loop decreases-loop
 mul-word c = omega arith
@@ -38,7 +38,7 @@ cast-range-ok : tie.Need-overflow-cast-range-ok invariant-loop decreases-loop
 cast-range-ok c = fits64 {z = pos c.before.before.before.before.args.most} (omega arith)
 
 sub-range-ok : tie.Need-overflow-sub-range-ok invariant-loop decreases-loop
-sub-range-ok c = limit-fits c.before.before.before.before.args.most (omega arith)
+sub-range-ok c = limit_fits c.before.before.before.before.args.most (omega arith)
 
 cast-range-ok-2 : tie.Need-overflow-cast-range-ok-2 invariant-loop decreases-loop
 cast-range-ok-2 c = fits64 {z = pos c.before.before.before.before.args.most} (omega arith)
@@ -55,7 +55,7 @@ loop-less c = omega arith
 loop-again : tie.Need-loop-preserved invariant-loop decreases-loop
 loop-again c =
     let s = c.before.before.before.before.before in
-    (omega arith, box-more s.args.most s.args.b.now c.before.before.before.before.loop.i c.before.before.before.before.loop.invariant.1 (rw (got64 c.before.before.word.result c.before.before.word.type-inv, got64 c.before.word2.result c.before.word2.type-inv, limit-back s.args.most (omega arith), as-signed s.args.most (omega arith), c.before.before.word.ensures, c.before.word2.ensures) at c.range-ok.ensures))
+    (omega arith, box_more s.args.most s.args.b.now c.before.before.before.before.loop.i c.before.before.before.before.loop.invariant.1 (rw (got64 c.before.before.word.result c.before.before.word.type-inv, got64 c.before.word2.result c.before.word2.type-inv, limit_back s.args.most (omega arith), as_signed s.args.most (omega arith), c.before.before.word.ensures, c.before.word2.ensures) at c.range-ok.ensures))
 
 returns : tie.Need-returns invariant-loop decreases-loop
 returns c =

@@ -3,13 +3,13 @@ use mathlib.Core.Path.{ap}
 use native.Mathlib.Omega.{arith}
 use lib.ListN.{length}
 use borrow.Author.Rules.{rules}
-use Rattle.plant.specs.Questions.{boxesOk}
+use Rattle.plant.specs.Questions.{boxes_ok}
 use Rattle.plant.proofs.Positions as at
 use Rattle.model.proofs.boxes_ok.Statement.{statement}
 use Rattle.model.proofs.boxes_ok.Tie as tie
 
-variables-requires : tie.Need-variables-requires
-variables-requires c κs = search rules
+variables_requires : tie.Need-variables-requires
+variables_requires c κs = search rules
 
 guard-requires : tie.Need-guard-requires
 guard-requires c κs = search rules
@@ -28,14 +28,14 @@ box-ok-requires-2 c κs =
     omega (arith, ap length c.reset.ensures, at.length-reset s.args.model.now s.requires.0 s.args.e s.requires.1)
 
 returns : tie.Need-returns
-unfolding boxesOk
+unfolding boxes_ok
 returns c = cc
 
 pub boxes-ok-spec : {M : Type 1} → statement M
 boxes-ok-spec =
     tie.close
     (tie.spec
-    variables-requires
+    variables_requires
     guard-requires
     box-ok-requires
     reset-requires

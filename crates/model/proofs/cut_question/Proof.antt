@@ -24,7 +24,7 @@ ask-requires : tie.Need-ask-requires
 ask-requires c κs = search rules
 
 returns : tie.Need-returns
-unfolding Q.cutQuestion Q.cutOk
+unfolding Q.cut_question Q.cut_ok
 returns c =
     let v = c.before.before.before.before.before.cut-variable in
     let x = c.before.before.before.cut-value in

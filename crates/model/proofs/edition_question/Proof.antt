@@ -3,7 +3,7 @@ use borrow.Author.Rules.{rules, sfits_of}
 use mir.Syntax.{w32}
 use mir.Facts.{to_z-of_z}
 use Rattle.integers.proofs.Signed.{got32, widened}
-use Rattle.plant.specs.Questions.{editionQuestion}
+use Rattle.plant.specs.Questions.{edition_question}
 use Rattle.model.proofs.edition_question.Statement.{statement}
 use Rattle.model.proofs.edition_question.Tie as tie
 
@@ -20,7 +20,7 @@ ask-requires : tie.Need-ask-requires
 ask-requires c κs = search rules
 
 returns : tie.Need-returns
-unfolding editionQuestion
+unfolding edition_question
 returns c =
     let e = c.before.before.edition in
     rw (c.before.within.ensures, got32 e.result e.type-inv, to_z-of_z (widened e.result e.type-inv), e.ensures) at c.ask.ensures

@@ -3,14 +3,14 @@ use mathlib.Core.Path.{◌≡◌}
 use Prim.Native.Nat.{◌≤◌, ◌-◌}
 use native.Mathlib.Omega.{arith}
 use borrow.Author.Rules.{rules}
-use Rattle.plant.specs.Questions.{forbiddenQuestion}
+use Rattle.plant.specs.Questions.{forbidden_question}
 use Rattle.plant.specs.Ask.{first}
-use Rattle.plant.proofs.Asks.{first-none, run-stop, run_more, run_end}
+use Rattle.plant.proofs.Asks.{first_none, run_stop, run_more, run_end}
 use Rattle.model.proofs.forbidden_questions.Statement.{statement}
 use Rattle.model.proofs.forbidden_questions.Tie as tie
 
 abbrev invariant-loop : tie.invariant-loop
-invariant-loop model count b₀ b = (b ≤ count) × (first b (forbiddenQuestion model) ≡ 0)
+invariant-loop model count b₀ b = (b ≤ count) × (first b (forbidden_question model) ≡ 0)
 
 abbrev decreases-loop : tie.decreases-loop
 decreases-loop model count b₀ b = count - b
@@ -19,7 +19,7 @@ forbidden-boxes-requires : tie.Need-forbidden-boxes-requires invariant-loop decr
 forbidden-boxes-requires c κs = search rules
 
 loop-holds : tie.Need-loop-init invariant-loop decreases-loop
-loop-holds c = (omega arith, first-none _)
+loop-holds c = (omega arith, first_none _)
 
 forbidden-question-requires : tie.Need-forbidden-question-requires invariant-loop decreases-loop
 forbidden-question-requires c κs = (c.before.before.before.requires, omega arith)
@@ -27,7 +27,7 @@ forbidden-question-requires c κs = (c.before.before.before.requires, omega arit
 returns : tie.Need-returns invariant-loop decreases-loop
 returns c =
     let s = c.before.before.before.before.before in
-    run-stop (forbiddenQuestion s.args.model.now) _ c.before.before.before.loop.b c.before.forbidden-question.ensures c.if1.true c.before.before.before.loop.invariant.1 (omega arith)
+    run_stop (forbidden_question s.args.model.now) _ c.before.before.before.loop.b c.before.forbidden-question.ensures c.if1.true c.before.before.before.loop.invariant.1 (omega arith)
 
 add-b : tie.Need-overflow-add-b invariant-loop decreases-loop
 add-b c = omega arith
@@ -38,12 +38,12 @@ loop-less c = omega arith
 loop-again : tie.Need-loop-preserved invariant-loop decreases-loop
 loop-again c =
     let s = c.before.before.before.before.before in
-    (omega arith, run_more (forbiddenQuestion s.args.model.now) c.before.before.before.loop.b c.before.forbidden-question.ensures c.if1.false c.before.before.before.loop.invariant.1)
+    (omega arith, run_more (forbidden_question s.args.model.now) c.before.before.before.loop.b c.before.forbidden-question.ensures c.if1.false c.before.before.before.loop.invariant.1)
 
-returns-2 : tie.Need-returns-2 invariant-loop decreases-loop
-returns-2 c =
+returns_2 : tie.Need-returns-2 invariant-loop decreases-loop
+returns_2 c =
     let s = c.before.before.before in
-    run_end (forbiddenQuestion s.args.model.now) _ c.before.loop.b c.before.loop.invariant.1 (omega arith)
+    run_end (forbidden_question s.args.model.now) _ c.before.loop.b c.before.loop.invariant.1 (omega arith)
 
 pub forbidden-questions-spec : {M : Type 1} → statement M
 forbidden-questions-spec =
@@ -58,4 +58,4 @@ forbidden-questions-spec =
     add-b
     loop-less
     loop-again
-    returns-2)
+    returns_2)

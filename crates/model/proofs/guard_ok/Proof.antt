@@ -51,7 +51,7 @@ same-requires-2 : tie.Need-same-requires-2
 same-requires-2 c κs = search rules
 
 returns : tie.Need-returns
-unfolding Q.guardOk low high
+unfolding Q.guard_ok low high
 returns c =
     let w = c.before.before.before.before.source-wall in
     let e = rw (got32 w.result w.type-inv, got32 _ c.before.before.before.same-arg.given) at c.before.before.same.ensures in

@@ -4,19 +4,19 @@ use Prim.Native.Nat.{◌≤◌, ◌-◌}
 use native.Mathlib.Omega.{arith}
 use borrow.Author.Rules.{rules}
 use Rattle.integers.proofs.Signed.{got64}
-use Rattle.plant.specs.Questions.{insideOk}
-use Rattle.model.proofs.Turns.{inside-none, inside-more}
+use Rattle.plant.specs.Questions.{inside_ok}
+use Rattle.model.proofs.Turns.{inside_none, inside_more}
 use Rattle.model.proofs.inside_ok.Statement.{statement}
 use Rattle.model.proofs.inside_ok.Tie as tie
 
 abbrev invariant-loop : tie.invariant-loop
-invariant-loop b c n ok₀ i₀ ok i = (i ≤ n) × (ok ≡ insideOk i b c)
+invariant-loop b c n ok₀ i₀ ok i = (i ≤ n) × (ok ≡ inside_ok i b c)
 
 abbrev decreases-loop : tie.decreases-loop
 decreases-loop b c n ok₀ i₀ ok i = n - i
 
 loop-holds : tie.Need-loop-init invariant-loop decreases-loop
-loop-holds c = (omega arith, inside-none _ _)
+loop-holds c = (omega arith, inside_none _ _)
 
 mul-word : tie.Need-overflow-mul-word invariant-loop decreases-loop
 mul-word c = omega arith
@@ -61,7 +61,7 @@ loop-again : tie.Need-loop-preserved invariant-loop decreases-loop
 loop-again c =
     let s = c.before.before.before.before.before.before.before in
     let p = c.before.before.before.before.before.before.loop in
-    (omega arith, inside-more s.args.b.now s.args.c.now p.i p.invariant.1 (rw (got64 c.before.before.before.before.word.result c.before.before.before.before.word.type-inv, got64 c.before.before.before.word2.result c.before.before.before.word2.type-inv, got64 c.before.before.word3.result c.before.before.word3.type-inv, got64 c.before.word4.result c.before.word4.type-inv, c.before.before.before.before.word.ensures, c.before.before.before.word2.ensures, c.before.before.word3.ensures, c.before.word4.ensures) at c.range-ok.ensures))
+    (omega arith, inside_more s.args.b.now s.args.c.now p.i p.invariant.1 (rw (got64 c.before.before.before.before.word.result c.before.before.before.before.word.type-inv, got64 c.before.before.before.word2.result c.before.before.before.word2.type-inv, got64 c.before.before.word3.result c.before.before.word3.type-inv, got64 c.before.word4.result c.before.word4.type-inv, c.before.before.before.before.word.ensures, c.before.before.before.word2.ensures, c.before.before.word3.ensures, c.before.word4.ensures) at c.range-ok.ensures))
 
 returns : tie.Need-returns invariant-loop decreases-loop
 returns c =

@@ -1,7 +1,7 @@
 -- Both levels are words.
 use borrow.Author.Rules.{rules}
 use Rattle.integers.proofs.Signed.{got32}
-use Rattle.plant.specs.Questions.{landsOk}
+use Rattle.plant.specs.Questions.{lands_ok}
 use Rattle.model.proofs.lands_ok.Statement.{statement}
 use Rattle.model.proofs.lands_ok.Tie as tie
 
@@ -15,7 +15,7 @@ same-requires : tie.Need-same-requires
 same-requires c κs = search rules
 
 returns : tie.Need-returns
-unfolding landsOk
+unfolding lands_ok
 returns c =
     let l = c.before.level-after in
     let w = c.before.before.target-wall in

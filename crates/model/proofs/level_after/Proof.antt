@@ -4,7 +4,7 @@ use native.Mathlib.Omega.{arith}
 use lib.ListN.{length}
 use borrow.Author.Rules.{rules}
 use Rattle.integers.proofs.Signed.{got32}
-use Rattle.model.proofs.Switch.{after-set, after_kept}
+use Rattle.model.proofs.Switch.{after_set, after_kept}
 use Rattle.plant.proofs.Positions as at
 use Rattle.model.proofs.level_after.Statement.{statement}
 use Rattle.model.proofs.level_after.Tie as tie
@@ -38,10 +38,10 @@ source-wall-requires c κs = search rules
 returns : tie.Need-returns
 returns c =
     let s = c.before.before.before.before.before.before in
-    got32 _ c.result.given ∙ after-set s.args.model.now s.args.e c.before.before.before.before.before.wall-variable.ensures c.before.before.before.before.reset-mask.ensures c.before.before.before.masked.ensures c.before.before.if1.true c.before.reset.ensures
+    got32 _ c.result.given ∙ after_set s.args.model.now s.args.e c.before.before.before.before.before.wall-variable.ensures c.before.before.before.before.reset-mask.ensures c.before.before.before.masked.ensures c.before.before.if1.true c.before.reset.ensures
 
-returns-2 : tie.Need-returns-2
-returns-2 c =
+returns_2 : tie.Need-returns-2
+returns_2 c =
     let s = c.before.before.before.before.before in
     got32 _ c.source-wall.type-inv ∙ after_kept s.args.model.now s.args.e c.before.before.before.before.wall-variable.ensures c.before.before.before.reset-mask.ensures c.before.before.masked.ensures c.before.if1.false c.source-wall.ensures
 
@@ -58,4 +58,4 @@ level-after-spec =
     shared-slice-copy-out-result
     source-wall-requires
     returns
-    returns-2)
+    returns_2)

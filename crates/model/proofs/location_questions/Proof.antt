@@ -9,11 +9,11 @@ use Rattle.plant.proofs.Positions as at
 use Rattle.model.proofs.location_questions.Statement.{statement}
 use Rattle.model.proofs.location_questions.Tie as tie
 
-variables-requires : tie.Need-variables-requires
-variables-requires c κs = search rules
+variables_requires : tie.Need-variables-requires
+variables_requires c κs = search rules
 
-invariant-requires : tie.Need-invariant-requires
-invariant-requires c κs = search rules
+invariant_requires : tie.Need-invariant-requires
+invariant_requires c κs = search rules
 
 box-ok-requires : tie.Need-box-ok-requires
 box-ok-requires c κs =
@@ -47,7 +47,7 @@ or-else-requires-2 : tie.Need-or-else-requires-2
 or-else-requires-2 c κs = search rules
 
 returns : tie.Need-returns
-unfolding Q.locationQuestions
+unfolding Q.location_questions
 returns c =
     both c.or-else2.ensures (rw (c.before.before.before.before.before.before.before.before.box-ok.ensures, c.before.before.before.before.before.before.before.before.before.invariant.ensures, c.before.before.before.before.before.before.before.before.before.before.variables.ensures) at c.before.before.before.before.before.before.before.ask.ensures)
     (both c.before.or_else.ensures (rw (c.before.before.before.before.before.box-ok2.ensures, c.before.before.before.before.before.before.rate.ensures, c.before.before.before.before.before.before.before.before.before.before.variables.ensures) at c.before.before.before.before.ask2.ensures)
@@ -57,8 +57,8 @@ pub location-questions-spec : {M : Type 1} → statement M
 location-questions-spec =
     tie.close
     (tie.spec
-    variables-requires
-    invariant-requires
+    variables_requires
+    invariant_requires
     box-ok-requires
     ask-requires
     rate-requires

@@ -9,8 +9,8 @@ returns : tie.Need-returns
 unfolding ◌then◌
 returns c = rw c.if1.true
 
-returns-2 : tie.Need-returns-2
-returns-2 c = halt _ refl c.if1.false
+returns_2 : tie.Need-returns-2
+returns_2 c = halt _ refl c.if1.false
 
 pub or-else-spec : {M : Type 1} → statement M
-or-else-spec = tie.close (tie.spec returns returns-2)
+or-else-spec = tie.close (tie.spec returns returns_2)

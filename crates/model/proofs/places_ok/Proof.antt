@@ -5,8 +5,8 @@ use lib.ListN.{length}
 use borrow.Author.Rules.{rules}
 use Rattle.plant.specs.Questions as Q
 use Rattle.plant.proofs.Positions as at
-use Rattle.plant.proofs.Passing.{masks-small}
-use Rattle.model.proofs.Switch.{masks-shift}
+use Rattle.plant.proofs.Passing.{masks_small}
+use Rattle.model.proofs.Switch.{masks_shift}
 use Rattle.model.proofs.places_ok.Statement.{statement}
 use Rattle.model.proofs.places_ok.Tie as tie
 
@@ -15,43 +15,43 @@ module _ (c : tie.After-switch-at) where
   room : c.switch-at.result + 6 ≤ length c.before.before.before.args.model.now
   room =
       let s = c.before.before.before in
-      omega (arith, c.switch-at.ensures, at.switch-within s.args.model.now s.requires.0 s.args.e s.requires.1)
+      omega (arith, c.switch-at.ensures, at.switch_within s.args.model.now s.requires.0 s.args.e s.requires.1)
 
-  some-locations : 1 ≤ c.before.locations.result
-  some-locations = omega (arith, c.before.locations.ensures, c.before.before.before.requires.0.head)
+  some_locations : 1 ≤ c.before.locations.result
+  some_locations = omega (arith, c.before.locations.ensures, c.before.before.before.requires.0.head)
 
-  few-locations : c.before.locations.result ≤ 1000
-  few-locations = omega (arith, c.before.locations.ensures, c.before.before.before.requires.0.head)
+  few_locations : c.before.locations.result ≤ 1000
+  few_locations = omega (arith, c.before.locations.ensures, c.before.before.before.requires.0.head)
 
-  some-variables : 1 ≤ c.before.before.variables.result
-  some-variables = omega (arith, c.before.before.variables.ensures, c.before.before.before.requires.0.head)
+  some_variables : 1 ≤ c.before.before.variables.result
+  some_variables = omega (arith, c.before.before.variables.ensures, c.before.before.before.requires.0.head)
 
-  few-variables : c.before.before.variables.result ≤ 6
-  few-variables = omega (arith, c.before.before.variables.ensures, c.before.before.before.requires.0.head)
+  few_variables : c.before.before.variables.result ≤ 6
+  few_variables = omega (arith, c.before.before.variables.ensures, c.before.before.before.requires.0.head)
 
-variables-requires : tie.Need-variables-requires
-variables-requires c κs = search rules
+variables_requires : tie.Need-variables-requires
+variables_requires c κs = search rules
 
-locations-requires : tie.Need-locations-requires
-locations-requires c κs = search rules
+locations_requires : tie.Need-locations-requires
+locations_requires c κs = search rules
 
 switch-at-requires : tie.Need-switch-at-requires
 switch-at-requires c κs = search rules
 
 below-ok-requires : tie.Need-below-ok-requires
-below-ok-requires c κs = (omega (arith, room c), some-locations c, few-locations c)
+below-ok-requires c κs = (omega (arith, room c), some_locations c, few_locations c)
 
 add-below-ok : tie.Need-overflow-add-below-ok
 add-below-ok c = omega (arith, room c.before)
 
 below-ok-requires-2 : tie.Need-below-ok-requires-2
-below-ok-requires-2 c κs = let a = c.before in (omega (arith, room a), some-locations a, few-locations a)
+below-ok-requires-2 c κs = let a = c.before in (omega (arith, room a), some_locations a, few_locations a)
 
 add-below-ok-2 : tie.Need-overflow-add-below-ok-2
 add-below-ok-2 c = omega (arith, room c.before.before)
 
 below-ok-requires-3 : tie.Need-below-ok-requires-3
-below-ok-requires-3 c κs = let a = c.before.before in (omega (arith, room a), some-variables a, omega (arith, few-variables a))
+below-ok-requires-3 c κs = let a = c.before.before in (omega (arith, room a), some_variables a, omega (arith, few_variables a))
 
 add-below-ok-3 : tie.Need-overflow-add-below-ok-3
 add-below-ok-3 c = omega (arith, room c.before.before.before)
@@ -72,20 +72,20 @@ shl-below-ok : tie.Need-overflow-shl-below-ok
 shl-below-ok c = search rules
 
 below-ok-requires-6 : tie.Need-below-ok-requires-6
-below-ok-requires-6 c κs = let a = c.before.before.before.before.before in let k = masks-small a.before.before.variables.result (few-variables a) in (omega (arith, room a), omega (arith, k), omega (arith, k))
+below-ok-requires-6 c κs = let a = c.before.before.before.before.before in let k = masks_small a.before.before.variables.result (few_variables a) in (omega (arith, room a), omega (arith, k), omega (arith, k))
 
 returns : tie.Need-returns
-unfolding Q.placesOk
+unfolding Q.places_ok
 returns c =
     let a = c.before.before.before.before.before.before in
-    cc (masks-shift a.before.before.variables.result (few-variables a))
+    cc (masks_shift a.before.before.variables.result (few_variables a))
 
 pub places-ok-spec : {M : Type 1} → statement M
 places-ok-spec =
     tie.close
     (tie.spec
-    variables-requires
-    locations-requires
+    variables_requires
+    locations_requires
     switch-at-requires
     below-ok-requires
     add-below-ok

@@ -46,7 +46,7 @@ or-else-requires-2 : tie.Need-or-else-requires-2
 or-else-requires-2 c κs = search rules
 
 returns : tie.Need-returns
-unfolding Q.rangesQuestions
+unfolding Q.ranges_questions
 returns c =
     let k = c.before.before.before.before.before.before.before.before in
     let d = k.before.word4 in

@@ -27,7 +27,7 @@ or-else-requires-3 : tie.Need-or-else-requires-3
 or-else-requires-3 c κs = search rules
 
 returns : tie.Need-returns
-unfolding Q.recordsQuestions
+unfolding Q.records_questions
 returns c =
     both c.or-else3.ensures c.before.before.before.before.before.before.locations-questions.ensures
     (both c.before.or-else2.ensures c.before.before.before.before.before.switches-questions.ensures

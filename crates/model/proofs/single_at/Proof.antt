@@ -8,7 +8,7 @@ use borrow.Author.Rules.{rules}
 use Rattle.integers.specs.Words.{word}
 use Rattle.integers.proofs.Signed.{got32}
 use Rattle.plant.specs.Box.{low, high}
-use Rattle.plant.specs.Questions.{singleAt}
+use Rattle.plant.specs.Questions.{single_at}
 use Rattle.plant.proofs.Positions as at
 use Rattle.model.proofs.single_at.Statement.{statement}
 use Rattle.model.proofs.single_at.Tie as tie
@@ -51,7 +51,7 @@ masked-requires : tie.Need-masked-requires
 masked-requires c κs = search rules
 
 returns : tie.Need-returns
-unfolding singleAt low high
+unfolding single_at low high
 returns c =
     let s = c.before.before.before.before.before.before in
     let r = c.before.before.before.before.before.reset in

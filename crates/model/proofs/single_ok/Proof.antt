@@ -1,7 +1,7 @@
 -- By the edition: d alone, or all variables.
 use borrow.Author.Rules.{rules}
 use Rattle.integers.proofs.Signed.{got32}
-use Rattle.model.proofs.Switch.{single-d, single-all}
+use Rattle.model.proofs.Switch.{single_d, single_all}
 use Rattle.model.proofs.single_ok.Statement.{statement}
 use Rattle.model.proofs.single_ok.Tie as tie
 
@@ -24,14 +24,14 @@ returns : tie.Need-returns
 returns c =
     let s = c.before.before.before.before.before in
     let e = c.before.before.before.before.edition in
-    single-d s.args.model.now s.args.e (rw (got32 e.result e.type-inv, e.ensures) at c.before.before.before.same.ensures) c.before.before.if1.true
-    (rw c.before.wall-variable.ensures at c.single-at.ensures)
+    single_d s.args.model.now s.args.e (rw (got32 e.result e.type-inv, e.ensures) at c.before.before.before.same.ensures) c.before.before.if1.true
+    (rw c.before.wall-variable.ensures at c.single_at_lem.ensures)
 
-returns-2 : tie.Need-returns-2
-returns-2 c =
+returns_2 : tie.Need-returns-2
+returns_2 c =
     let s = c.before.before.before.before in
     let e = c.before.before.before.edition in
-    single-all s.args.model.now s.args.e (rw (got32 e.result e.type-inv, e.ensures) at c.before.before.same.ensures) c.before.if1.false
+    single_all s.args.model.now s.args.e (rw (got32 e.result e.type-inv, e.ensures) at c.before.before.same.ensures) c.before.if1.false
     c.all-single.ensures
 
 pub single-ok-spec : {M : Type 1} → statement M
@@ -44,4 +44,4 @@ single-ok-spec =
     single-at-requires
     all-single-requires
     returns
-    returns-2)
+    returns_2)

@@ -1,7 +1,7 @@
 -- The low and the high of variable i are words of the box.
 use borrow.Author.Rules.{rules}
 use Rattle.plant.specs.Box.{low, high}
-use Rattle.plant.specs.Questions.{strictlyInside}
+use Rattle.plant.specs.Questions.{strictly_inside}
 use Rattle.model.proofs.strictly_inside.Statement.{statement}
 use Rattle.model.proofs.strictly_inside.Tie as tie
 
@@ -27,7 +27,7 @@ shared-slice-copy-out-result-2 : tie.Need-shared-slice-copy-out-result-2
 shared-slice-copy-out-result-2 c = search rules
 
 returns : tie.Need-returns
-unfolding strictlyInside low high
+unfolding strictly_inside low high
 returns c = search rules
 
 pub strictly-inside-spec : {M : Type 1} → statement M

@@ -3,22 +3,22 @@ use mathlib.Core.Path.{refl, sym}
 use native.Mathlib.Omega.{arith}
 use borrow.Author.Rules.{rules}
 use Rattle.plant.specs.Questions as Q
-use Rattle.plant.proofs.Asks.{ask-intro, go, halt, both}
+use Rattle.plant.proofs.Asks.{ask_intro, go, halt, both}
 use Rattle.plant.proofs.Whole.{Placed}
 use Rattle.plant.proofs.Passing.{placed}
-use Rattle.model.proofs.Switch.{asked-no, asked-yes}
+use Rattle.model.proofs.Switch.{asked_no, asked_yes}
 use Rattle.model.proofs.switch_questions.Statement.{statement}
 use Rattle.model.proofs.switch_questions.Tie as tie
 
 at_places : (c : tie.Else1) → let a = c.before.before.args in Placed a.model.now a.e
-at_places c = let s = c.before.before in placed s.args.model.now s.args.e s.requires.0 s.requires.1 (asked-yes c.before.places-ok.ensures c.if1.false)
+at_places c = let s = c.before.before in placed s.args.model.now s.args.e s.requires.0 s.requires.1 (asked_yes c.before.places-ok.ensures c.if1.false)
 
 places-ok-requires : tie.Need-places-ok-requires
 places-ok-requires c κs = search rules
 
 returns : tie.Need-returns
-unfolding Q.switchQuestions
-returns c = halt _ (asked-no 14 c.before.places-ok.ensures c.if1.true) (λ z. omega arith)
+unfolding Q.switch_questions
+returns c = halt _ (asked_no 14 c.before.places-ok.ensures c.if1.true) (λ z. omega arith)
 
 boxes-ok-requires : tie.Need-boxes-ok-requires
 boxes-ok-requires c κs = search rules
@@ -53,13 +53,13 @@ or-else-requires-2 c κs = search rules
 or-else-requires-3 : tie.Need-or-else-requires-3
 or-else-requires-3 c κs = search rules
 
-returns-2 : tie.Need-returns-2
-unfolding Q.switchQuestions
-returns-2 c =
+returns_2 : tie.Need-returns-2
+unfolding Q.switch_questions
+returns_2 c =
     let x = c.before.before.before in
     let e = x.before.before.before.before.before.before.before.before in
     let a = e.before.before.args in
-    go {r = 0} (sym (ask-intro (Q.placesOk a.model.now a.e) 14 (asked-yes e.before.places-ok.ensures e.if1.false))) refl
+    go {r = 0} (sym (ask_intro (Q.places_ok a.model.now a.e) 14 (asked_yes e.before.places-ok.ensures e.if1.false))) refl
     (both c.or-else3.ensures (rw x.before.before.before.before.before.before.before.boxes-ok.ensures at x.before.before.before.before.before.before.ask.ensures)
     (both c.before.or-else2.ensures (rw x.before.before.before.before.before.single-ok.ensures at x.before.before.before.before.ask2.ensures)
     (both c.before.before.or_else.ensures (rw x.before.before.before.guard_ok.ensures at x.before.before.ask3.ensures)
@@ -82,4 +82,4 @@ switch-questions-spec =
     or-else-requires
     or-else-requires-2
     or-else-requires-3
-    returns-2)
+    returns_2)

@@ -4,19 +4,19 @@ use Prim.Native.Nat.{◌≤◌, ◌-◌}
 use native.Mathlib.Omega.{arith}
 use borrow.Author.Rules.{rules}
 use Rattle.integers.proofs.Signed.{got32}
-use Rattle.plant.specs.Questions.{zerosOk}
-use Rattle.model.proofs.Turns.{zeros-none, zeros-more}
+use Rattle.plant.specs.Questions.{zeros_ok}
+use Rattle.model.proofs.Turns.{zeros_none, zeros_more}
 use Rattle.model.proofs.zeros_ok.Statement.{statement}
 use Rattle.model.proofs.zeros_ok.Tie as tie
 
 abbrev invariant-loop : tie.invariant-loop
-invariant-loop s k ok₀ i₀ ok i = (i ≤ k) × (ok ≡ zerosOk i s)
+invariant-loop s k ok₀ i₀ ok i = (i ≤ k) × (ok ≡ zeros_ok i s)
 
 abbrev decreases-loop : tie.decreases-loop
 decreases-loop s k ok₀ i₀ ok i = k - i
 
 loop-holds : tie.Need-loop-init invariant-loop decreases-loop
-loop-holds c = (omega arith, zeros-none _)
+loop-holds c = (omega arith, zeros_none _)
 
 mul-same : tie.Need-overflow-mul-same invariant-loop decreases-loop
 mul-same c = omega arith
@@ -37,7 +37,7 @@ loop-again : tie.Need-loop-preserved invariant-loop decreases-loop
 loop-again c =
     let s = c.before.before.before.before in
     let p = c.before.before.before.loop in
-    (omega arith, zeros-more s.args.s.now p.i p.invariant.1 (rw (got32 _ c.before.same-arg.given) at c.same.ensures))
+    (omega arith, zeros_more s.args.s.now p.i p.invariant.1 (rw (got32 _ c.before.same-arg.given) at c.same.ensures))
 
 returns : tie.Need-returns invariant-loop decreases-loop
 returns c =

@@ -13,8 +13,8 @@ add-result c = omega (arith, c.before.before.requires c.before.if1.true, c.field
 returns : tie.Need-returns
 returns c = rw (c.before.if1.true, c.field-length.ensures)
 
-returns-2 : tie.Need-returns-2
-returns-2 c = search rules
+returns_2 : tie.Need-returns-2
+returns_2 c = search rules
 
 pub after-cut-spec : {M : Type 1} → statement M
-after-cut-spec = tie.close (tie.spec field-length-requires add-result returns returns-2)
+after-cut-spec = tie.close (tie.spec field-length-requires add-result returns returns_2)

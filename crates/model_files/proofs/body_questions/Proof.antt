@@ -1,17 +1,17 @@
 -- The three runs of fields, then the cuts' fields.
 use borrow.Author.Rules.{rules}
-use Rattle.files.proofs.ModelReading.{body-made}
+use Rattle.files.proofs.ModelReading.{body_made}
 use Rattle.model_files.proofs.body_questions.Statement.{statement}
 use Rattle.model_files.proofs.body_questions.Tie as tie
 
-variables-requires : tie.Need-variables-requires
-variables-requires c κs = search rules
+variables_requires : tie.Need-variables-requires
+variables_requires c κs = search rules
 
 locations-from-requires : tie.Need-locations-from-requires
 locations-from-requires c κs = search rules
 
-locations-requires : tie.Need-locations-requires
-locations-requires c κs = search rules
+locations_requires : tie.Need-locations-requires
+locations_requires c κs = search rules
 
 location-size-requires : tie.Need-location-size-requires
 location-size-requires c κs = search rules
@@ -65,7 +65,7 @@ returns : tie.Need-returns
 returns c =
     let a = c.before.before.before.before.before.before.before.before.before.before.before.before.before.before.before.before.before.before.before.before.args in
     let n = c.before.before.before.before.before.before.before.before.before.before.before.before.before.before.before.before.before.before.variables.ensures in
-    body-made a.file.now a.head.now
+    body_made a.file.now a.head.now
     (rw (c.before.before.before.before.before.before.before.before.before.before.before.before.before.before.before.before.before.locations-from.ensures, c.before.before.before.before.before.before.before.before.before.before.before.before.before.before.before.before.locations.ensures, c.before.before.before.before.before.before.before.before.before.before.before.before.before.before.before.location-size.ensures, n) at c.before.before.before.before.before.before.before.before.before.before.before.before.before.before.run-questions.ensures)
     (rw (c.before.before.before.before.before.before.before.before.before.before.before.before.before.switches-from.ensures, c.before.before.before.before.before.before.before.before.before.before.before.before.switches.ensures, c.before.before.before.before.before.before.before.before.before.before.before.switch-size.ensures, n) at c.before.before.before.before.before.before.before.before.before.before.run-questions2.ensures)
     (rw (c.before.before.before.before.before.before.before.before.before.forbiddens-from.ensures, c.before.before.before.before.before.before.before.before.forbidden-boxes.ensures, c.before.before.before.before.before.before.before.forbidden-size.ensures, n) at c.before.before.before.before.before.before.run-questions3.ensures)
@@ -76,9 +76,9 @@ pub body-questions-spec : {M : Type 1} → statement M
 body-questions-spec =
     tie.close
     (tie.spec
-    variables-requires
+    variables_requires
     locations-from-requires
-    locations-requires
+    locations_requires
     location-size-requires
     run-questions-requires
     switches-from-requires

@@ -2,30 +2,30 @@
 use mathlib.Core.List.{◌++◌}
 use mathlib.Core.Path.{◌≡◌, refl, sym, ◌∙◌}
 use Prim.Native.Nat.{◌+◌, ◌*◌, ◌-◌, ◌≤◌}
-use native.Mathlib.Nat.{add-mul}
+use native.Mathlib.Nat.{add_mul}
 use native.Mathlib.Omega.{arith}
 use borrow.Author.Rules.{rules}
 use lib.Dec.{T}
 use lib.ListN.{length, take}
 use Rattle.integers.specs.Words.{onto}
-use Rattle.files.specs.Fields.{headerSize, payloadLength, fieldLength, fieldPlace, fieldAt, isField}
-use Rattle.files.proofs.Fields.{due, due-given, due-whole}
+use Rattle.files.specs.Fields.{header_size, payload_length, field_length, field_place, field_at, is_field}
+use Rattle.files.proofs.Fields.{due, due_given, due_whole}
 use Rattle.plant.proofs.Positions.{row_within}
-use Rattle.files.specs.ModelFile.{runWords}
-use Rattle.files.proofs.ModelReading.{run-start, run-turn}
+use Rattle.files.specs.ModelFile.{run_words}
+use Rattle.files.proofs.ModelReading.{run_start, run_turn}
 use Rattle.model_files.proofs.copy_run.Statement.{statement}
 use Rattle.model_files.proofs.copy_run.Tie as tie
 
 abbrev invariant-loop : tie.invariant-loop
 invariant-loop file from count w words₀ to at₀ place₀ i₀ words at place i =
-    (i ≤ count) × (at ≡ fieldPlace from w i) × (place ≡ to + i * w) × (length words ≡ length words₀) × (words ≡ onto (take to words₀ ++ runWords file from i w) words₀)
+    (i ≤ count) × (at ≡ field_place from w i) × (place ≡ to + i * w) × (length words ≡ length words₀) × (words ≡ onto (take to words₀ ++ run_words file from i w) words₀)
 
 abbrev decreases-loop : tie.decreases-loop
 decreases-loop file from count w words₀ to at₀ place₀ i₀ words at place i = count - i
 
 -- field i is whole, and its words have room
-is-due : (c : tie.In-loop invariant-loop decreases-loop) → let a = c.before.before.before.args in T (isField (fieldAt a.file.now c.before.loop.at) c.before.before.before.requires.tag (payloadLength a.w))
-is-due c = let a = c.before.before.before.args in
+is_due : (c : tie.In-loop invariant-loop decreases-loop) → let a = c.before.before.before.args in T (is_field (field_at a.file.now c.before.loop.at) c.before.before.before.requires.tag (payload_length a.w))
+is_due c = let a = c.before.before.before.args in
     rw c.before.loop.invariant.1 (c.before.before.before.requires.whole c.before.loop.i c.loop-test.true)
 
 fits : (c : tie.In-loop invariant-loop decreases-loop) → let a = c.before.before.before.args in c.before.loop.place + a.w ≤ length a.words.now
@@ -35,24 +35,24 @@ fits c =
 
 -- the cursor gives where its payload starts, and where field i + 1 begins
 lies : (c : tie.After-known-told invariant-loop decreases-loop) → let a = c.before.before.before.before.before.before.before.args in let f = c.before.field.given.0.1 in
-    (f.0 ≡ c.before.before.before.before.before.loop.at + headerSize) × (f.1.0 ≡ payloadLength a.w) × (f.1.1.0 ≡ c.before.before.before.before.before.loop.at + headerSize + payloadLength a.w)
+    (f.0 ≡ c.before.before.before.before.before.loop.at + header_size) × (f.1.0 ≡ payload_length a.w) × (f.1.1.0 ≡ c.before.before.before.before.before.loop.at + header_size + payload_length a.w)
 lies c =
-    due-given _ _ _ _ _ _ _ _ (is-due c.before.before.before.before) (sym c.before.before.before.next_field.ensures ∙ c.before.field.given.1)
+    due_given _ _ _ _ _ _ _ _ (is_due c.before.before.before.before) (sym c.before.before.before.next_field.ensures ∙ c.before.field.given.1)
 
 there : (c : tie.After-known-told invariant-loop decreases-loop) → let a = c.before.before.before.before.before.before.before.args in
-    c.before.field.given.0.1.0 + payloadLength a.w ≤ length a.file.now
-there c = omega (arith, (due _ _ _ _ (is-due c.before.before.before.before)).there, (lies c).0)
+    c.before.field.given.0.1.0 + payload_length a.w ≤ length a.file.now
+there c = omega (arith, (due _ _ _ _ (is_due c.before.before.before.before)).there, (lies c).0)
 
 -- no field that is not whole
 no_other : (c : tie.At-match-keys2 invariant-loop decreases-loop) → ⊥
 no_other c =
     let s = c.before.before.before.before.before in
-    due-whole c.before.next_field.result s.requires.tag (payloadLength s.args.w) (rw (← c.before.next_field.ensures) at (is-due c.before.before)) c.match.keys2
+    due_whole c.before.next_field.result s.requires.tag (payload_length s.args.w) (rw (← c.before.next_field.ensures) at (is_due c.before.before)) c.match.keys2
 
 loop-holds : tie.Need-loop-init invariant-loop decreases-loop
 loop-holds c =
     let a = c.before.args in
-    (omega arith, omega arith, omega arith, refl, run-start a.file.now a.from a.w a.to a.words.now (omega (arith, c.before.requires.room)))
+    (omega arith, omega arith, omega arith, refl, run_start a.file.now a.from a.w a.to a.words.now (omega (arith, c.before.requires.room)))
 
 next-field-requires : tie.Need-next-field-requires invariant-loop decreases-loop
 next-field-requires c κs = search rules
@@ -84,17 +84,17 @@ loop-again c =
     let own = c.before.before.before.before.before.before.before.before.loop in
     let l = lies c.before.before.before in (
       omega arith,
-      omega (arith, l.2, own.invariant.1, add-mul own.i 1 (fieldLength a.w)),
-      omega (arith, own.invariant.2, add-mul own.i 1 a.w),
+      omega (arith, l.2, own.invariant.1, add_mul own.i 1 (field_length a.w)),
+      omega (arith, own.invariant.2, add_mul own.i 1 a.w),
       omega arith,
-      run-turn a.file.now a.from a.w a.to own.i _ own.place a.words.now own.words _ own.invariant.4 (omega (arith, c.before.before.before.before.before.before.before.before.before.before.requires.room)) (omega (arith, l.0, own.invariant.1)) own.invariant.2 c.before.copy-words.ensures,
+      run_turn a.file.now a.from a.w a.to own.i _ own.place a.words.now own.words _ own.invariant.4 (omega (arith, c.before.before.before.before.before.before.before.before.before.before.requires.room)) (omega (arith, l.0, own.invariant.1)) own.invariant.2 c.before.copy-words.ensures,
     )
 
 same-length-2 : tie.Need-same-length-2 invariant-loop decreases-loop
 same-length-2 c = omega arith
 
-returns-2 : tie.Need-returns-2 invariant-loop decreases-loop
-returns-2 c =
+returns_2 : tie.Need-returns-2 invariant-loop decreases-loop
+returns_2 c =
     let e : c.before.loop.i ≡ c.before.before.before.args.count = omega arith in
     rw (← e) c.before.loop.invariant.4
 
@@ -115,4 +115,4 @@ copy-run-spec =
     loop-less
     loop-again
     same-length-2
-    returns-2)
+    returns_2)

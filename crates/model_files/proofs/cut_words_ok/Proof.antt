@@ -3,7 +3,7 @@ use borrow.Author.Rules.{rules, sfits_of}
 use mir.Syntax.{w32}
 use mir.Facts.{to_z-of_z}
 use Rattle.integers.proofs.Signed.{widened}
-use Rattle.model_files.proofs.CutTurns.{words-asked}
+use Rattle.model_files.proofs.CutTurns.{words_asked}
 use Rattle.model_files.proofs.cut_words_ok.Statement.{statement}
 use Rattle.model_files.proofs.cut_words_ok.Tie as tie
 
@@ -42,7 +42,7 @@ returns c =
     let s = c.before.before.before.before.before in
     let v = c.before.before in
     let l = c.before.before.before in
-    words-asked s.args.file.now s.args.at c.before.within.ensures c.same.ensures l.word_at.type-inv l.word_at.ensures v.word-at2.type-inv v.word-at2.ensures s.requires.1 s.requires.3
+    words_asked s.args.file.now s.args.at c.before.within.ensures c.same.ensures l.word_at.type-inv l.word_at.ensures v.word-at2.type-inv v.word-at2.ensures s.requires.1 s.requires.3
 
 pub cut-words-ok-spec : {M : Type 1} → statement M
 cut-words-ok-spec =

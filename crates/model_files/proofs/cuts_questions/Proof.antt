@@ -3,8 +3,8 @@ use mathlib.Core.Path.{sym, ◌∙◌}
 use Prim.Native.Nat.{◌-◌}
 use native.Mathlib.Omega.{arith}
 use lib.ListN.{length}
-use Rattle.files.proofs.Cuts.{CutYes, cut-yes}
-use Rattle.model_files.proofs.CutTurns.{is-there, CutsAsked, asked-none, asked-stop, asked-more, asked-all}
+use Rattle.files.proofs.Cuts.{CutYes, cut_yes}
+use Rattle.model_files.proofs.CutTurns.{is_there, CutsAsked, asked_none, asked_stop, asked_more, asked_all}
 use Rattle.model_files.proofs.cuts_questions.Statement.{statement}
 use Rattle.model_files.proofs.cuts_questions.Tie as tie
 
@@ -18,10 +18,10 @@ decreases-loop file from count least₀ at₀ least at = length file - at
 passed : (c : tie.Else1 invariant-loop decreases-loop) → let a = c.before.before.before.before.before.args in CutYes a.file.now c.before.before.before.loop.at c.before.before.before.loop.least a.count
 passed c =
     let s = c.before.before.before.before.before in
-    cut-yes s.args.file.now c.before.before.before.loop.at c.before.before.before.loop.least s.args.count s.requires.0 (sym c.before.cut-questions.ensures ∙ c.if1.false)
+    cut_yes s.args.file.now c.before.before.before.loop.at c.before.before.before.loop.least s.args.count s.requires.0 (sym c.before.cut-questions.ensures ∙ c.if1.false)
 
 loop-holds : tie.Need-loop-init invariant-loop decreases-loop
-loop-holds c = asked-none _ _ _
+loop-holds c = asked_none _ _ _
 
 cut-questions-requires : tie.Need-cut-questions-requires invariant-loop decreases-loop
 cut-questions-requires c κs =
@@ -31,10 +31,10 @@ cut-questions-requires c κs =
 returns : tie.Need-returns invariant-loop decreases-loop
 returns c =
     let s = c.before.before.before.before.before in
-    asked-stop s.args.file.now s.args.from s.args.count c.before.before.before.loop.invariant (omega arith) c.before.cut-questions.ensures c.if1.true
+    asked_stop s.args.file.now s.args.from s.args.count c.before.before.before.loop.invariant (omega arith) c.before.cut-questions.ensures c.if1.true
 
 cut-location-requires : tie.Need-cut-location-requires invariant-loop decreases-loop
-cut-location-requires c κs = is-there _ _ (passed c)
+cut-location-requires c κs = is_there _ _ (passed c)
 
 add-least : tie.Need-overflow-add-least invariant-loop decreases-loop
 add-least c = omega (arith, (passed c.before).below, c.cut-location.ensures, c.before.before.before.before.before.before.requires.1)
@@ -51,12 +51,12 @@ loop-less c = omega (arith, (passed c.before.before).whole.there, c.field-length
 loop-again : tie.Need-loop-preserved invariant-loop decreases-loop
 loop-again c =
     let s = c.before.before.before.before.before.before.before in
-    asked-more s.args.file.now s.args.from s.args.count c.before.before.before.before.before.loop.invariant (omega arith) c.before.before.before.cut-questions.ensures c.before.before.if1.false (passed c.before.before) c.before.cut-location.ensures (omega (arith, c.field-length.ensures))
+    asked_more s.args.file.now s.args.from s.args.count c.before.before.before.before.before.loop.invariant (omega arith) c.before.before.before.cut-questions.ensures c.before.before.if1.false (passed c.before.before) c.before.cut-location.ensures (omega (arith, c.field-length.ensures))
 
-returns-2 : tie.Need-returns-2 invariant-loop decreases-loop
-returns-2 c =
+returns_2 : tie.Need-returns-2 invariant-loop decreases-loop
+returns_2 c =
     let s = c.before.before.before in
-    asked-all s.args.file.now s.args.from s.args.count c.before.loop.invariant (omega arith)
+    asked_all s.args.file.now s.args.from s.args.count c.before.loop.invariant (omega arith)
 
 pub cuts-questions-spec : {M : Type 1} → statement M
 cuts-questions-spec =
@@ -73,4 +73,4 @@ cuts-questions-spec =
     add_at
     loop-less
     loop-again
-    returns-2)
+    returns_2)

@@ -3,7 +3,7 @@ use native.Mathlib.Omega.{arith}
 use lib.IntN.{negsuc, pos}
 use lib.ListN.{length-set}
 use borrow.Author.Rules.{rules}
-use Rattle.model_files.proofs.CutTurns.{cut-words, two-stored}
+use Rattle.model_files.proofs.CutTurns.{cut_words_lem, two_stored}
 use Rattle.model_files.proofs.fill_cut.Statement.{statement}
 use Rattle.model_files.proofs.fill_cut.Tie as tie
 
@@ -37,15 +37,15 @@ same_length c = search rules
 returns : tie.Need-returns
 returns c =
     let s = c.before.before.before.before.before in
-    rw (c.before.before.before.if1.true, ← (cut-words s.args.file.now s.args.at)) c.before.copy-words.ensures
+    rw (c.before.before.before.if1.true, ← (cut_words_lem s.args.file.now s.args.at)) c.before.copy-words.ensures
 
 same-length-2 : tie.Need-same-length-2
 same-length-2 c = search rules
 
-returns-2 : tie.Need-returns-2
-returns-2 c =
+returns_2 : tie.Need-returns-2
+returns_2 c =
     let s = c.before.before in
-    rw c.if1.false (two-stored s.args.words.now s.args.to (negsuc 0) (pos 0) s.requires.1)
+    rw c.if1.false (two_stored s.args.words.now s.args.to (negsuc 0) (pos 0) s.requires.1)
 
 pub fill-cut-spec : {M : Type 1} → statement M
 fill-cut-spec =
@@ -62,4 +62,4 @@ fill-cut-spec =
     same_length
     returns
     same-length-2
-    returns-2)
+    returns_2)

@@ -4,7 +4,7 @@ use mathlib.Core.Path.{◌≡◌, refl}
 use Prim.Native.Nat.{◌+◌, ◌-◌, ◌≤◌}
 use native.Mathlib.Omega.{arith}
 use lib.ListN.{length}
-use Rattle.model_files.proofs.CutTurns.{CutsFilled, filled_none, next-there, named-there, filled_more, filled-all}
+use Rattle.model_files.proofs.CutTurns.{CutsFilled, filled_none, next_there, named_there, filled_more, filled_all}
 use Rattle.model_files.proofs.fill_cuts.Statement.{statement}
 use Rattle.model_files.proofs.fill_cuts.Tie as tie
 
@@ -18,7 +18,7 @@ decreases-loop file from count words₀ to at₀ place₀ l₀ words at place l 
 whole : (c : tie.After-names-location invariant-loop decreases-loop) → c.names-location.result ≡ true → c.before.before.loop.at + 15 ≤ length c.before.before.before.before.args.file.now
 whole c n =
     let s = c.before.before.before.before in
-    named-there s.args.file.now s.args.from s.args.count s.args.words.now s.args.to s.requires c.before.before.loop.invariant.2 c.before.loop-test.true c.names-location.ensures n
+    named_there s.args.file.now s.args.from s.args.count s.args.words.now s.args.to s.requires c.before.before.loop.invariant.2 c.before.loop-test.true c.names-location.ensures n
 
 loop-holds : tie.Need-loop-init invariant-loop decreases-loop
 loop-holds c =
@@ -28,16 +28,16 @@ loop-holds c =
 names-location-requires : tie.Need-names-location-requires invariant-loop decreases-loop
 names-location-requires c κs =
     let s = c.before.before.before in
-    next-there s.args.file.now s.args.from s.args.count s.args.words.now s.args.to s.requires c.before.loop.invariant.2 c.loop-test.true
+    next_there s.args.file.now s.args.from s.args.count s.args.words.now s.args.to s.requires c.before.loop.invariant.2 c.loop-test.true
 
 fill-cut-requires : tie.Need-fill-cut-requires invariant-loop decreases-loop
-fill-cut-requires c κs = (whole c.before, omega (arith, c.before.before.before.loop.invariant.2.is-place, c.before.before.before.loop.invariant.1, c.before.before.before.before.before.requires.room))
+fill-cut-requires c κs = (whole c.before, omega (arith, c.before.before.before.loop.invariant.2.is_place, c.before.before.before.loop.invariant.1, c.before.before.before.before.before.requires.room))
 
 after-cut-requires : tie.Need-after-cut-requires invariant-loop decreases-loop
 after-cut-requires c κs = λ n. omega (arith, whole c.before.before.before n)
 
 add-place : tie.Need-overflow-add-place invariant-loop decreases-loop
-add-place c = omega (arith, c.before.before.before.before.before.before.loop.invariant.2.is-place, c.before.before.before.before.before.before.before.before.requires.room)
+add-place c = omega (arith, c.before.before.before.before.before.before.loop.invariant.2.is_place, c.before.before.before.before.before.before.before.before.requires.room)
 
 add-l : tie.Need-overflow-add-l invariant-loop decreases-loop
 add-l c = omega arith
@@ -58,7 +58,7 @@ same_length : tie.Need-same-length invariant-loop decreases-loop
 same_length c = omega arith
 
 returns : tie.Need-returns invariant-loop decreases-loop
-returns c = filled-all c.before.loop.invariant.2 (omega arith)
+returns c = filled_all c.before.loop.invariant.2 (omega arith)
 
 pub fill-cuts-spec : {M : Type 1} → statement M
 fill-cuts-spec =

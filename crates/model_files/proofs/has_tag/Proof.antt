@@ -15,12 +15,12 @@ enum_told c = search rules
 returns : tie.Need-returns
 returns c = rw c.before.f.given.1
 
-returns-2 : tie.Need-returns-2
-returns-2 c = rw c.before.f2.given.1
+returns_2 : tie.Need-returns-2
+returns_2 c = rw c.before.f2.given.1
 
 returns-3 : tie.Need-returns-3
 returns-3 c = search rules
 
 pub has-tag-spec : {M : Type 1} → statement M
 has-tag-spec =
-    tie.close (tie.spec enum-known-f enum-known-f-2 enum_told returns returns-2 returns-3)
+    tie.close (tie.spec enum-known-f enum-known-f-2 enum_told returns returns_2 returns-3)

@@ -16,7 +16,7 @@ is-field-requires-2 c κs = search rules
 
 returns : tie.Need-returns
 returns c =
-    let len = c.before.before.payload-length.ensures in
+    let len = c.before.before.payload_length_lem.ensures in
     ap₂ (λ (x y : Bool). x || y) (rw len at c.before.is_field.ensures) (rw len at c.is-field2.ensures)
 
 pub is-head-spec : {M : Type 1} → statement M

@@ -8,10 +8,10 @@ use Rattle.model_files.proofs.read_head.Statement.{statement}
 use Rattle.model_files.proofs.read_head.Tie as tie
 
 copy-words-requires : tie.Need-copy-words-requires
-copy-words-requires c κs = (omega (arith, (first_field c.before.before.args.file.now c.before.before.requires.0).is-due.there), omega (arith, c.before.before.requires.1))
+copy-words-requires c κs = (omega (arith, (first_field c.before.before.args.file.now c.before.before.requires.0).is_due.there), omega (arith, c.before.before.requires.1))
 
 shared-slice-read-edition-of : tie.Need-shared-slice-read-edition-of
-shared-slice-read-edition-of c = omega (arith, (first_field c.before.before.before.before.before.args.file.now c.before.before.before.before.before.requires.0).is-due.there)
+shared-slice-read-edition-of c = omega (arith, (first_field c.before.before.before.before.before.args.file.now c.before.before.before.before.before.requires.0).is_due.there)
 
 edition-of-requires : tie.Need-edition-of-requires
 edition-of-requires c κs = search rules

@@ -18,9 +18,9 @@ size-requires c κs = head_passed _ c.before.before.requires (sym c.before.range
 ask-requires : tie.Need-ask-requires
 ask-requires c κs = search rules
 
-returns-2 : tie.Need-returns-2
-returns-2 c = go c.before.before.before.ranges-questions.ensures c.before.before.if1.false cc
+returns_2 : tie.Need-returns-2
+returns_2 c = go c.before.before.before.ranges-questions.ensures c.before.before.if1.false cc
 
 pub sizes-questions-spec : {M : Type 1} → statement M
 sizes-questions-spec =
-    tie.close (tie.spec ranges-questions-requires returns size-requires ask-requires returns-2)
+    tie.close (tie.spec ranges-questions-requires returns size-requires ask-requires returns_2)

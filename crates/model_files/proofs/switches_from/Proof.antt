@@ -6,14 +6,14 @@ use Rattle.model_files.proofs.switches_from.Tie as tie
 locations-from-requires : tie.Need-locations-from-requires
 locations-from-requires c κs = search rules
 
-variables-requires : tie.Need-variables-requires
-variables-requires c κs = search rules
+variables_requires : tie.Need-variables-requires
+variables_requires c κs = search rules
 
 location-size-requires : tie.Need-location-size-requires
 location-size-requires c κs = search rules
 
-locations-requires : tie.Need-locations-requires
-locations-requires c κs = search rules
+locations_requires : tie.Need-locations-requires
+locations_requires c κs = search rules
 
 field-place-requires : tie.Need-field-place-requires
 field-place-requires c κs = search rules
@@ -26,8 +26,8 @@ switches-from-spec =
     tie.close
     (tie.spec
     locations-from-requires
-    variables-requires
+    variables_requires
     location-size-requires
-    locations-requires
+    locations_requires
     field-place-requires
     returns)

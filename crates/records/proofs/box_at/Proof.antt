@@ -4,7 +4,7 @@ use Prim.Native.Nat.{ℕ, ◌+◌, ◌*◌, ◌-◌}
 use native.Mathlib.Omega.{arith}
 use lib.ListN.{take, drop}
 use borrow.Author.Rules.{rules}
-use Rattle.plant.specs.Box.{boxAt}
+use Rattle.plant.specs.Box.{box_at}
 use Rattle.records.proofs.box_at.Statement.{statement}
 use Rattle.records.proofs.box_at.Tie as tie
 
@@ -27,7 +27,7 @@ part-result-end : tie.Need-slice-bounds-result-end
 part-result-end c = search rules
 
 returns : tie.Need-returns
-unfolding boxAt
+unfolding box_at
 returns c =
     let a = c.before.args in
     let e : a.at + 2 * a.n - a.at ≡ 2 * a.n = omega arith in

@@ -2,7 +2,7 @@
 use native.Mathlib.Omega.{arith}
 use borrow.Author.Rules.{rules}
 use Rattle.plant.specs.Model.{cut_at}
-use Rattle.plant.proofs.Positions.{forbidden-small}
+use Rattle.plant.proofs.Positions.{forbidden_small}
 use Rattle.records.proofs.cut_at.Statement.{statement}
 use Rattle.records.proofs.cut_at.Tie as tie
 
@@ -18,7 +18,7 @@ mul-result c = search rules
 add-result : tie.Need-overflow-add-result
 add-result c =
     let s = c.before.before in
-    rw c.forbidden-at.ensures (record { fits = omega (arith, forbidden-small s.args.model.now s.requires.0 c.before.forbidden-boxes.result (omega arith)) })
+    rw c.forbidden-at.ensures (record { fits = omega (arith, forbidden_small s.args.model.now s.requires.0 c.before.forbidden-boxes.result (omega arith)) })
 
 returns : tie.Need-returns
 unfolding cut_at

@@ -29,10 +29,10 @@ shared-slice-copy-out-result c =
     omega (arith, cut-within s.args.model.now s.requires.0 s.args.l s.requires.1)
 
 returns : tie.Need-returns
-unfolding M.cutValue
+unfolding M.cut_value
 returns c =
     let s = c.before.before in
-    let e : word s.args.model.now (c.before.cut-at.result + 1) ≡ M.cutValue s.args.model.now s.args.l = cc in
+    let e : word s.args.model.now (c.before.cut_at.result + 1) ≡ M.cut_value s.args.model.now s.args.l = cc in
     got32 _ c.result.given ∙ e
 
 pub cut-value-spec : {M : Type 1} → statement M

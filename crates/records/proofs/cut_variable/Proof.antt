@@ -23,10 +23,10 @@ shared-slice-copy-out-result c =
     omega (arith, cut-within s.args.model.now s.requires.0 s.args.l s.requires.1)
 
 returns : tie.Need-returns
-unfolding M.cutVariable
+unfolding M.cut_variable
 returns c =
     let s = c.before.before in
-    let e : word s.args.model.now c.before.cut-at.result ≡ M.cutVariable s.args.model.now s.args.l = cc in
+    let e : word s.args.model.now c.before.cut_at.result ≡ M.cut_variable s.args.model.now s.args.l = cc in
     got32 _ c.result.given ∙ e
 
 pub cut-variable-spec : {M : Type 1} → statement M

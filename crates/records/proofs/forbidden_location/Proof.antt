@@ -2,7 +2,7 @@
 use native.Mathlib.Omega.{arith}
 use borrow.Author.Rules.{rules}
 use Rattle.plant.specs.Model as M
-use Rattle.plant.proofs.Positions.{forbidden-within}
+use Rattle.plant.proofs.Positions.{forbidden_within}
 use Rattle.records.proofs.forbidden_location.Statement.{statement}
 use Rattle.records.proofs.forbidden_location.Tie as tie
 
@@ -12,10 +12,10 @@ forbidden-at-requires c κs = search rules
 number-requires : tie.Need-number-requires
 number-requires c κs =
     let s = c.before in
-    rw c.forbidden-at.ensures (omega (arith, forbidden-within s.args.model.now s.requires.0 s.args.b s.requires.1), s.requires.2)
+    rw c.forbidden-at.ensures (omega (arith, forbidden_within s.args.model.now s.requires.0 s.args.b s.requires.1), s.requires.2)
 
 returns : tie.Need-returns
-unfolding M.forbiddenLocation
+unfolding M.forbidden_location
 returns c = cc
 
 pub forbidden-location-spec : {M : Type 1} → statement M

@@ -2,12 +2,12 @@
 use native.Mathlib.Omega.{arith}
 use borrow.Author.Rules.{rules}
 use Rattle.plant.specs.Model as M
-use Rattle.plant.proofs.Positions.{switch-within}
+use Rattle.plant.proofs.Positions.{switch_within}
 use Rattle.records.proofs.reset.Statement.{statement}
 use Rattle.records.proofs.reset.Tie as tie
 
-variables-requires : tie.Need-variables-requires
-variables-requires c κs = search rules
+variables_requires : tie.Need-variables-requires
+variables_requires c κs = search rules
 
 switch-at-requires : tie.Need-switch-at-requires
 switch-at-requires c κs = search rules
@@ -21,12 +21,12 @@ add-box-at c = search rules
 add-box-at-2 : tie.Need-overflow-add-box-at-2
 add-box-at-2 c =
     let s = c.before.before in
-    omega (arith, switch-within s.args.model.now s.requires.0 s.args.e s.requires.1)
+    omega (arith, switch_within s.args.model.now s.requires.0 s.args.e s.requires.1)
 
 box-at-requires : tie.Need-box-at-requires
 box-at-requires c κs =
     let s = c.before.before in
-    omega (arith, switch-within s.args.model.now s.requires.0 s.args.e s.requires.1)
+    omega (arith, switch_within s.args.model.now s.requires.0 s.args.e s.requires.1)
 
 returns : tie.Need-returns
 unfolding M.reset
@@ -36,7 +36,7 @@ pub reset-spec : {M : Type 1} → statement M
 reset-spec =
     tie.close
     (tie.spec
-    variables-requires
+    variables_requires
     switch-at-requires
     mul-box-at
     add-box-at

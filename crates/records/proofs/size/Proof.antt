@@ -1,18 +1,18 @@
 -- Where the cuts end.
 use borrow.Author.Rules.{rules}
-use Rattle.plant.specs.Model.{modelSize}
+use Rattle.plant.specs.Model.{model_size}
 use Rattle.records.proofs.size.Statement.{statement}
 use Rattle.records.proofs.size.Tie as tie
 
-locations-requires : tie.Need-locations-requires
-locations-requires c κs = search rules
+locations_requires : tie.Need-locations-requires
+locations_requires c κs = search rules
 
 cut-at-requires : tie.Need-cut-at-requires
 cut-at-requires c κs = search rules
 
 returns : tie.Need-returns
-unfolding modelSize
+unfolding model_size
 returns c = cc
 
 pub size-spec : {M : Type 1} → statement M
-size-spec = tie.close (tie.spec locations-requires cut-at-requires returns)
+size-spec = tie.close (tie.spec locations_requires cut-at-requires returns)

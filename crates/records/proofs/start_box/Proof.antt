@@ -2,12 +2,12 @@
 use native.Mathlib.Omega.{arith}
 use borrow.Author.Rules.{rules}
 use Rattle.plant.specs.Model as M
-use Rattle.plant.proofs.Positions.{location-within}
+use Rattle.plant.proofs.Positions.{location_within}
 use Rattle.records.proofs.start_box.Statement.{statement}
 use Rattle.records.proofs.start_box.Tie as tie
 
-variables-requires : tie.Need-variables-requires
-variables-requires c κs = search rules
+variables_requires : tie.Need-variables-requires
+variables_requires c κs = search rules
 
 location-at-requires : tie.Need-location-at-requires
 location-at-requires c κs = search rules
@@ -21,22 +21,22 @@ add-box-at c = search rules
 add-box-at-2 : tie.Need-overflow-add-box-at-2
 add-box-at-2 c =
     let s = c.before.before in
-    omega (arith, location-within s.args.model.now s.requires.0 s.args.l s.requires.1)
+    omega (arith, location_within s.args.model.now s.requires.0 s.args.l s.requires.1)
 
 box-at-requires : tie.Need-box-at-requires
 box-at-requires c κs =
     let s = c.before.before in
-    omega (arith, location-within s.args.model.now s.requires.0 s.args.l s.requires.1)
+    omega (arith, location_within s.args.model.now s.requires.0 s.args.l s.requires.1)
 
 returns : tie.Need-returns
-unfolding M.startBox
+unfolding M.start_box
 returns c = cc
 
 pub start-box-spec : {M : Type 1} → statement M
 start-box-spec =
     tie.close
     (tie.spec
-    variables-requires
+    variables_requires
     location-at-requires
     mul-box-at
     add-box-at

@@ -2,7 +2,7 @@
 use native.Mathlib.Omega.{arith}
 use borrow.Author.Rules.{rules}
 use Rattle.plant.specs.Model as M
-use Rattle.plant.proofs.Positions.{switch-within}
+use Rattle.plant.proofs.Positions.{switch_within}
 use Rattle.records.proofs.target_side.Statement.{statement}
 use Rattle.records.proofs.target_side.Tie as tie
 
@@ -12,15 +12,15 @@ switch-at-requires c κs = search rules
 add-number : tie.Need-overflow-add-number
 add-number c =
     let s = c.before in
-    omega (arith, switch-within s.args.model.now s.requires.whole s.args.e s.requires.below)
+    omega (arith, switch_within s.args.model.now s.requires.whole s.args.e s.requires.below)
 
 number-requires : tie.Need-number-requires
 number-requires c κs =
     let s = c.before in
-    rw c.switch-at.ensures (omega (arith, switch-within s.args.model.now s.requires.whole s.args.e s.requires.below), s.requires.not_negative 4 (omega arith))
+    rw c.switch-at.ensures (omega (arith, switch_within s.args.model.now s.requires.whole s.args.e s.requires.below), s.requires.not_negative 4 (omega arith))
 
 returns : tie.Need-returns
-unfolding M.targetSide
+unfolding M.target_side
 returns c = cc
 
 pub target-side-spec : {M : Type 1} → statement M

@@ -12,8 +12,8 @@ use Rattle.records.proofs.target_wall.Tie as tie
 target-requires : tie.Need-target-requires
 target-requires c κs = search rules
 
-invariant-requires : tie.Need-invariant-requires
-invariant-requires c κs = search rules
+invariant_requires : tie.Need-invariant-requires
+invariant_requires c κs = search rules
 
 wall-variable-requires : tie.Need-wall-variable-requires
 wall-variable-requires c κs = search rules
@@ -27,10 +27,10 @@ wall-requires c κs =
     (omega (arith, ap length c.before.before.invariant.ensures, at.length-invariant s.args.model.now s.requires.numbered.whole c.before.before.before.target.result (omega arith)), omega arith)
 
 returns : tie.Need-returns
-unfolding Q.targetWall
+unfolding Q.target_wall
 returns c =
     let s = c.before.before.before.before.before in
-    let e : c.wall.result ≡ Q.targetWall s.args.model.now s.args.e = cc in
+    let e : c.wall.result ≡ Q.target_wall s.args.model.now s.args.e = cc in
     got32 c.wall.result c.wall.type-inv ∙ e
 
 pub target-wall-spec : {M : Type 1} → statement M
@@ -38,7 +38,7 @@ target-wall-spec =
     tie.close
     (tie.spec
     target-requires
-    invariant-requires
+    invariant_requires
     wall-variable-requires
     target-side-requires
     wall-requires

@@ -2,7 +2,7 @@
 use mathlib.Core.Path.{◌∙◌}
 use borrow.Author.Rules.{rules}
 use Rattle.integers.proofs.Signed.{got32}
-use Rattle.records.proofs.Walls.{wall-at}
+use Rattle.records.proofs.Walls.{wall_at}
 use Rattle.records.proofs.wall.Statement.{statement}
 use Rattle.records.proofs.wall.Tie as tie
 
@@ -21,7 +21,7 @@ shared-slice-copy-out-result c = search rules
 returns : tie.Need-returns
 returns c =
     let a = c.before.args in
-    got32 _ c.result.given ∙ wall-at a.inv.now a.d a.s c.before.requires.1
+    got32 _ c.result.given ∙ wall_at a.inv.now a.d a.s c.before.requires.1
 
 pub wall-spec : {M : Type 1} → statement M
 wall-spec =

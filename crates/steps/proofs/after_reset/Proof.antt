@@ -6,8 +6,8 @@ use Rattle.steps.proofs.after_reset.Tie as tie
 returns : tie.Need-returns
 returns c = simp (to_z-of_z c.before.ranges.reset, c.if1.true)
 
-returns-2 : tie.Need-returns-2
-returns-2 c = simp (to_z-of_z c.before.ranges.before, c.if1.false)
+returns_2 : tie.Need-returns-2
+returns_2 c = simp (to_z-of_z c.before.ranges.before, c.if1.false)
 
 pub after-reset-spec : {M : Type 1} → statement M
-after-reset-spec = tie.close (tie.spec returns returns-2)
+after-reset-spec = tie.close (tie.spec returns returns_2)

@@ -12,20 +12,20 @@ use borrow.Author.Rules.{rules}
 use Rattle.integers.specs.Words.{onto}
 use Rattle.integers.specs.Counted.{all_below}
 use Rattle.integers.proofs.Signed.{got64, back32, fits32}
-use Rattle.plant.specs.Box.{boxBy}
-use Rattle.plant.specs.Steps.{lowAfter, highAfter}
-use Rattle.delays.proofs.Small.{in-levels}
-use Rattle.steps.proofs.Bounds.{Word, low-after-word, high-after-word}
-use Rattle.steps.proofs.Written.{none_written, next-written, none-tested, next-tested, le-by}
-use Rattle.steps.proofs.Faces.{after-all, after-left}
+use Rattle.plant.specs.Box.{box_by}
+use Rattle.plant.specs.Steps.{low_after, high_after}
+use Rattle.delays.proofs.Small.{in_levels}
+use Rattle.steps.proofs.Bounds.{Word, low_after_word, high_after_word}
+use Rattle.steps.proofs.Written.{none_written, next_written, none_tested, next_tested, le_by}
+use Rattle.steps.proofs.Faces.{after_all, after_left}
 use Rattle.steps.proofs.box_after.Statement.{statement}
 use Rattle.steps.proofs.box_after.Tie as tie
 
 abbrev invariant-loop : tie.invariant-loop
 invariant-loop n inv rate part d b t out₀ i₀ out i =
-    let lo = lowAfter n inv rate part d (to_z w64 b) t in
-    let hi = highAfter n inv rate part d (to_z w64 b) t in
-    (i ≤ n) × (length out ≡ length out₀) × (out ≡ onto (boxBy i lo hi) out₀) × (true ≡ all_below i (λ j. le_z (lo j) (hi j)))
+    let lo = low_after n inv rate part d (to_z w64 b) t in
+    let hi = high_after n inv rate part d (to_z w64 b) t in
+    (i ≤ n) × (length out ≡ length out₀) × (out ≡ onto (box_by i lo hi) out₀) × (true ≡ all_below i (λ j. le_z (lo j) (hi j)))
 
 abbrev decreases-loop : tie.decreases-loop
 decreases-loop n inv rate part d b t out₀ i₀ out i = n - i
@@ -38,8 +38,8 @@ module _ (c : tie.After-high-after invariant-loop decreases-loop) where
       let a = s.args in
       let i = c.before.before.before.loop.i in
       rw (c.before.low-after.ensures a.n)
-      (low-after-word a.n a.inv.now a.rate.now a.part.now a.d (to_z w64 (of_z w64 a.b)) a.t i
-      (s.requires.0.inv-in i (omega arith)) (s.requires.0.rate-in i (omega arith)) (in-levels s.requires.0.inv-in s.requires.0.part_in i (omega arith)) (simp (to_z-of_z s.ranges.b) s.requires.0.wall-in) s.requires.1)
+      (low_after_word a.n a.inv.now a.rate.now a.part.now a.d (to_z w64 (of_z w64 a.b)) a.t i
+      (s.requires.0.inv_in i (omega arith)) (s.requires.0.rate_in i (omega arith)) (in_levels s.requires.0.inv_in s.requires.0.part_in_lem i (omega arith)) (simp (to_z-of_z s.ranges.b) s.requires.0.wall_in) s.requires.1)
 
   high_word : Word c.high_after.result
   high_word =
@@ -47,33 +47,33 @@ module _ (c : tie.After-high-after invariant-loop decreases-loop) where
       let a = s.args in
       let i = c.before.before.before.loop.i in
       rw (c.high_after.ensures a.n)
-      (high-after-word a.n a.inv.now a.rate.now a.part.now a.d (to_z w64 (of_z w64 a.b)) a.t i
-      (s.requires.0.inv-in i (omega arith)) (s.requires.0.rate-in i (omega arith)) (in-levels s.requires.0.inv-in s.requires.0.part_in i (omega arith)) (simp (to_z-of_z s.ranges.b) s.requires.0.wall-in) s.requires.1)
+      (high_after_word a.n a.inv.now a.rate.now a.part.now a.d (to_z w64 (of_z w64 a.b)) a.t i
+      (s.requires.0.inv_in i (omega arith)) (s.requires.0.rate_in i (omega arith)) (in_levels s.requires.0.inv_in s.requires.0.part_in_lem i (omega arith)) (simp (to_z-of_z s.ranges.b) s.requires.0.wall_in) s.requires.1)
 
 loop-holds : tie.Need-loop-init invariant-loop decreases-loop
-loop-holds c = (search rules, refl, none_written _ _ _, none-tested _)
+loop-holds c = (search rules, refl, none_written _ _ _, none_tested _)
 
 low-after-requires : tie.Need-low-after-requires invariant-loop decreases-loop
 low-after-requires c κs =
     let s = c.before.before in
     let i = c.before.loop.i in
-    (s.requires.0.inv-in i (omega arith), s.requires.0.rate-in i (omega arith), in-levels s.requires.0.inv-in s.requires.0.part_in i (omega arith), s.requires.1, s.requires.0.part_in.inside.lower i (omega arith))
+    (s.requires.0.inv_in i (omega arith), s.requires.0.rate_in i (omega arith), in_levels s.requires.0.inv_in s.requires.0.part_in_lem i (omega arith), s.requires.1, s.requires.0.part_in_lem.inside.lower i (omega arith))
 
 high-after-requires : tie.Need-high-after-requires invariant-loop decreases-loop
 high-after-requires c κs =
     let s = c.before.before.before in
     let i = c.before.before.loop.i in
-    (s.requires.0.inv-in i (omega arith), s.requires.0.rate-in i (omega arith), in-levels s.requires.0.inv-in s.requires.0.part_in i (omega arith), s.requires.1, s.requires.0.part_in.inside.higher i (omega arith))
+    (s.requires.0.inv_in i (omega arith), s.requires.0.rate_in i (omega arith), in_levels s.requires.0.inv_in s.requires.0.part_in_lem i (omega arith), s.requires.1, s.requires.0.part_in_lem.inside.higher i (omega arith))
 
 -- the ends of a turn, as the test has them
-ordered-is : (c : tie.After-high-after invariant-loop decreases-loop) {t : Bool} → lt_z (to_z w64 (of_z w64 c.high_after.result)) (to_z w64 (of_z w64 c.before.low-after.result)) ≡ t
+ordered_is : (c : tie.After-high-after invariant-loop decreases-loop) {t : Bool} → lt_z (to_z w64 (of_z w64 c.high_after.result)) (to_z w64 (of_z w64 c.before.low-after.result)) ≡ t
     → let s = c.before.before.before.before in let a = s.args in let i = c.before.before.before.loop.i in
-    le_z (lowAfter a.n a.inv.now a.rate.now a.part.now a.d (to_z w64 (of_z w64 a.b)) a.t i) (highAfter a.n a.inv.now a.rate.now a.part.now a.d (to_z w64 (of_z w64 a.b)) a.t i) ≡ not t
-ordered-is c {t} e =
+    le_z (low_after a.n a.inv.now a.rate.now a.part.now a.d (to_z w64 (of_z w64 a.b)) a.t i) (high_after a.n a.inv.now a.rate.now a.part.now a.d (to_z w64 (of_z w64 a.b)) a.t i) ≡ not t
+ordered_is c {t} e =
     let a = c.before.before.before.before.args in
     let x = c.before.low-after in
     let y = c.high_after in
-    rw (← (x.ensures a.n), ← (y.ensures a.n)) (le-by x.result y.result (simp (got64 x.result x.type-inv, got64 y.result y.type-inv) at e))
+    rw (← (x.ensures a.n), ← (y.ensures a.n)) (le_by x.result y.result (simp (got64 x.result x.type-inv, got64 y.result y.type-inv) at e))
 
 same_length : tie.Need-same-length invariant-loop decreases-loop
 same_length c = search rules
@@ -83,7 +83,7 @@ returns c =
     let s = c.before.before.before.before.before in
     let l = c.before.before.before.before.loop in
     let b = to_z-of_z s.ranges.b in
-    after-left s.args.n s.args.inv.now s.args.rate.now s.args.part.now s.args.d s.args.b s.args.t l.i (omega arith) (simp b at (ordered-is c.before c.if1.true)) s.requires.0.room (simp b at l.invariant.2)
+    after_left s.args.n s.args.inv.now s.args.rate.now s.args.part.now s.args.d s.args.b s.args.t l.i (omega arith) (simp b at (ordered_is c.before c.if1.true)) s.requires.0.room (simp b at l.invariant.2)
 
 mul-k : tie.Need-overflow-mul-k invariant-loop decreases-loop
 mul-k c = search rules
@@ -129,20 +129,20 @@ loop-again c =
     let room : 2 * l.i + 1 < length a.out.now = omega arith in (
       omega arith,
       simp length-set l.invariant.1,
-      simp (x64, y64, x32, y32) (rw (x.ensures a.n, y.ensures a.n, l.invariant.2) (next-written _ _ l.i a.out.now room)),
-      rw (← (next-tested _ l.i)) (ap₂ (λ (p q : Bool). p && q) l.invariant.3 (sym (ordered-is d c.if1.false))),
+      simp (x64, y64, x32, y32) (rw (x.ensures a.n, y.ensures a.n, l.invariant.2) (next_written _ _ l.i a.out.now room)),
+      rw (← (next_tested _ l.i)) (ap₂ (λ (p q : Bool). p && q) l.invariant.3 (sym (ordered_is d c.if1.false))),
     )
 
 same-length-2 : tie.Need-same-length-2 invariant-loop decreases-loop
 same-length-2 c = search rules
 
-returns-2 : tie.Need-returns-2 invariant-loop decreases-loop
-returns-2 c =
+returns_2 : tie.Need-returns-2 invariant-loop decreases-loop
+returns_2 c =
     let s = c.before.before in
     let l = c.before.loop in
     let e : l.i ≡ s.args.n = omega arith in
     let b = to_z-of_z s.ranges.b in
-    after-all s.args.n s.args.inv.now s.args.rate.now s.args.part.now s.args.d s.args.b s.args.t (sym (simp (b, e) at l.invariant.3)) (simp (b, e) at l.invariant.2)
+    after_all s.args.n s.args.inv.now s.args.rate.now s.args.part.now s.args.d s.args.b s.args.t (sym (simp (b, e) at l.invariant.3)) (simp (b, e) at l.invariant.2)
 
 pub box-after-spec : {M : Type 1} → statement M
 box-after-spec =
@@ -167,4 +167,4 @@ box-after-spec =
     loop-less
     loop-again
     same-length-2
-    returns-2)
+    returns_2)

@@ -3,7 +3,7 @@ use mir.Facts.{to_z-of_z}
 use borrow.Author.Tests.{eq-eqb, ne_eqb}
 use Rattle.integers.proofs.Signed.{got64}
 use Rattle.plant.specs.Box.{high}
-use Rattle.plant.specs.Steps.{highAfter}
+use Rattle.plant.specs.Steps.{high_after}
 use borrow.Author.Rules.{rules}
 use Rattle.steps.proofs.high_after.Statement.{statement}
 use Rattle.steps.proofs.high_after.Tie as tie
@@ -34,19 +34,19 @@ high-cut-requires c κs =
     let p = c.before.word2 in
     let a = c.word3 in
     simp (got64 v.result v.type-inv, got64 p.result p.type-inv, got64 a.result a.type-inv)
-    (rw p.ensures s.requires.2.high-in, rw a.ensures s.requires.1.high-in, s.requires.3, rw v.ensures s.requires.0.high-in, rw (v.ensures, p.ensures) s.requires.4)
+    (rw p.ensures s.requires.2.high_in, rw a.ensures s.requires.1.high_in, s.requires.3, rw v.ensures s.requires.0.high_in, rw (v.ensures, p.ensures) s.requires.4)
 
 returns : tie.Need-returns
-unfolding high highAfter
+unfolding high high_after
 returns c n =
     let s = c.before.before.before in
     let v = c.before.before.word in
     let e = simp v.ensures at (simp (got64 v.result v.type-inv, to_z-of_z s.ranges.b) at c.smaller.ensures) in
     simp (got64 c.smaller.result c.smaller.type-inv, eq-eqb s.args.i s.args.d c.before.if1.true) e
 
-returns-2 : tie.Need-returns-2
-unfolding high highAfter
-returns-2 c n =
+returns_2 : tie.Need-returns-2
+unfolding high high_after
+returns_2 c n =
     let s = c.before.before.before.before.before in
     let v = c.before.before.before.before.word in
     let p = c.before.before.word2 in
@@ -66,4 +66,4 @@ high-after-spec =
     word-requires-3
     high-cut-requires
     returns
-    returns-2)
+    returns_2)

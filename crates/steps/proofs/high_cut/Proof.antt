@@ -3,7 +3,7 @@ use mathlib.Core.Path.{sym, subst, ◌∙◌}
 use mir.Facts.{to_z-of_z}
 use Rattle.integers.proofs.Signed.{got64}
 use Rattle.delays.specs.Ranges.{SmallEnd}
-use Rattle.steps.proofs.Cuts.{high-kept}
+use Rattle.steps.proofs.Cuts.{high_kept}
 use borrow.Author.Rules.{rules}
 use Rattle.steps.proofs.high_cut.Statement.{statement}
 use Rattle.steps.proofs.high_cut.Tie as tie
@@ -18,7 +18,7 @@ high-within-requires : tie.Need-high-within-requires
 high-within-requires c κs =
     let s = c.before.before.before.before in
     simp (to_z-of_z s.ranges.q, to_z-of_z s.ranges.c, to_z-of_z s.ranges.hi)
-    (s.requires.0, s.requires.1, subst SmallEnd c.before.latest.given.1 s.requires.2.latest-small, s.requires.3)
+    (s.requires.0, s.requires.1, subst SmallEnd c.before.latest.given.1 s.requires.2.latest_small, s.requires.3)
 
 high-at-requires : tie.Need-high-at-requires
 high-at-requires c κs = search rules
@@ -28,8 +28,8 @@ returns c =
     let f = c.before.before.before.ranges in
     simp (to_z-of_z f.hi, simp (to_z-of_z f.c) at c.before.before.if1.true, c.enum_told.given.1)
 
-returns-2 : tie.Need-returns-2
-returns-2 c =
+returns_2 : tie.Need-returns-2
+returns_2 c =
     let f = c.before.before.before.before.before.ranges in
     let t = simp (to_z-of_z f.c) at c.before.before.before.before.if1.true in
     got64 c.high-within.result c.high-within.type-inv ∙ simp (c.high-within.ensures, to_z-of_z f.q, to_z-of_z f.c, to_z-of_z f.hi, t, c.before.before.latest.given.1)
@@ -40,7 +40,7 @@ returns-3 c =
     let f = s.ranges in
     let a = s.args in
     let t = simp (to_z-of_z f.c) at c.before.before.if1.false in
-    rw t (got64 c.high-at.result c.high-at.type-inv ∙ simp (to_z-of_z f.q, to_z-of_z f.c) at c.high-at.ensures ∙ sym (high-kept a.q a.c a.hi a.t.earliest s.requires.2.earliest-small.den-positive s.requires.4 t))
+    rw t (got64 c.high_at_lem.result c.high_at_lem.type-inv ∙ simp (to_z-of_z f.q, to_z-of_z f.c) at c.high_at_lem.ensures ∙ sym (high_kept a.q a.c a.hi a.t.earliest s.requires.2.earliest_small.den_positive s.requires.4 t))
 
 pub high-cut-spec : {M : Type 1} → statement M
 high-cut-spec =
@@ -51,5 +51,5 @@ high-cut-spec =
     high-within-requires
     high-at-requires
     returns
-    returns-2
+    returns_2
     returns-3)

@@ -3,7 +3,7 @@ use mir.Facts.{to_z-of_z}
 use borrow.Author.Tests.{eq-eqb, ne_eqb}
 use Rattle.integers.proofs.Signed.{got64}
 use Rattle.plant.specs.Box.{low}
-use Rattle.plant.specs.Steps.{lowAfter}
+use Rattle.plant.specs.Steps.{low_after}
 use borrow.Author.Rules.{rules}
 use Rattle.steps.proofs.low_after.Statement.{statement}
 use Rattle.steps.proofs.low_after.Tie as tie
@@ -31,25 +31,25 @@ low-cut-requires c κs =
     let p = c.before.word2 in
     let a = c.word3 in
     simp (got64 v.result v.type-inv, got64 p.result p.type-inv, got64 a.result a.type-inv)
-    (rw p.ensures s.requires.2.low-in, rw a.ensures s.requires.1.low-in, s.requires.3, rw v.ensures s.requires.0.low-in, rw (v.ensures, p.ensures) s.requires.4)
+    (rw p.ensures s.requires.2.low_in, rw a.ensures s.requires.1.low_in, s.requires.3, rw v.ensures s.requires.0.low_in, rw (v.ensures, p.ensures) s.requires.4)
 
 returns : tie.Need-returns
-unfolding low lowAfter
+unfolding low low_after
 returns c n =
     let s = c.before.before.before in
     let v = c.before.before.word in
     let e = simp v.ensures at (simp (got64 v.result v.type-inv, to_z-of_z s.ranges.b) at c.larger.ensures) in
     simp (got64 c.larger.result c.larger.type-inv, eq-eqb s.args.i s.args.d c.before.if1.true) e
 
-returns-2 : tie.Need-returns-2
-unfolding low lowAfter
-returns-2 c n =
+returns_2 : tie.Need-returns-2
+unfolding low low_after
+returns_2 c n =
     let s = c.before.before.before.before.before in
     let v = c.before.before.before.before.word in
     let p = c.before.before.word2 in
     let a = c.before.word3 in
-    let e = simp (v.ensures, p.ensures, a.ensures) at (simp (got64 v.result v.type-inv, got64 p.result p.type-inv, got64 a.result a.type-inv) at c.low-cut.ensures) in
-    simp (got64 c.low-cut.result c.low-cut.type-inv, ne_eqb s.args.i s.args.d c.before.before.before.if1.false) e
+    let e = simp (v.ensures, p.ensures, a.ensures) at (simp (got64 v.result v.type-inv, got64 p.result p.type-inv, got64 a.result a.type-inv) at c.low_cut.ensures) in
+    simp (got64 c.low_cut.result c.low_cut.type-inv, ne_eqb s.args.i s.args.d c.before.before.before.if1.false) e
 
 pub low-after-spec : {M : Type 1} → statement M
 low-after-spec =
@@ -62,4 +62,4 @@ low-after-spec =
     word-requires-3
     low-cut-requires
     returns
-    returns-2)
+    returns_2)

@@ -3,7 +3,7 @@ use mathlib.Core.Path.{sym, subst, ◌∙◌}
 use mir.Facts.{to_z-of_z}
 use Rattle.integers.proofs.Signed.{got64}
 use Rattle.delays.specs.Ranges.{SmallEnd}
-use Rattle.steps.proofs.Cuts.{low-kept}
+use Rattle.steps.proofs.Cuts.{low_kept}
 use borrow.Author.Rules.{rules}
 use Rattle.steps.proofs.low_cut.Statement.{statement}
 use Rattle.steps.proofs.low_cut.Tie as tie
@@ -18,7 +18,7 @@ low-within-requires : tie.Need-low-within-requires
 low-within-requires c κs =
     let s = c.before.before.before.before in
     simp (to_z-of_z s.ranges.p, to_z-of_z s.ranges.a, to_z-of_z s.ranges.lo)
-    (s.requires.0, s.requires.1, subst SmallEnd c.before.latest.given.1 s.requires.2.latest-small, s.requires.3)
+    (s.requires.0, s.requires.1, subst SmallEnd c.before.latest.given.1 s.requires.2.latest_small, s.requires.3)
 
 low-at-requires : tie.Need-low-at-requires
 low-at-requires c κs = search rules
@@ -28,8 +28,8 @@ returns c =
     let f = c.before.before.before.ranges in
     simp (to_z-of_z f.lo, simp (to_z-of_z f.a) at c.before.before.if1.true, c.enum_told.given.1)
 
-returns-2 : tie.Need-returns-2
-returns-2 c =
+returns_2 : tie.Need-returns-2
+returns_2 c =
     let f = c.before.before.before.before.before.ranges in
     let t = simp (to_z-of_z f.a) at c.before.before.before.before.if1.true in
     got64 c.low-within.result c.low-within.type-inv ∙ simp (c.low-within.ensures, to_z-of_z f.p, to_z-of_z f.a, to_z-of_z f.lo, t, c.before.before.latest.given.1)
@@ -40,7 +40,7 @@ returns-3 c =
     let f = s.ranges in
     let a = s.args in
     let t = simp (to_z-of_z f.a) at c.before.before.if1.false in
-    rw t (got64 c.low-at.result c.low-at.type-inv ∙ simp (to_z-of_z f.p, to_z-of_z f.a) at c.low-at.ensures ∙ sym (low-kept a.p a.a a.lo a.t.earliest s.requires.2.earliest-small.den-positive s.requires.4 t))
+    rw t (got64 c.low_at_lem.result c.low_at_lem.type-inv ∙ simp (to_z-of_z f.p, to_z-of_z f.a) at c.low_at_lem.ensures ∙ sym (low_kept a.p a.a a.lo a.t.earliest s.requires.2.earliest_small.den_positive s.requires.4 t))
 
 pub low-cut-spec : {M : Type 1} → statement M
 low-cut-spec =
@@ -51,5 +51,5 @@ low-cut-spec =
     low-within-requires
     low-at-requires
     returns
-    returns-2
+    returns_2
     returns-3)

@@ -3,8 +3,8 @@ use mathlib.Core.Path.{sym, ◌∙◌}
 use native.Mathlib.Omega.{arith}
 use lib.IntN.{pos, ◌-ℤ◌, ◌*ℤ◌}
 use mir.Facts.{to_z-of_z}
-use Rattle.integers.proofs.Signed.{as-signed, fits64, back64, got64, abs-minus, scaled}
-use Rattle.steps.proofs.Cuts.{room_small, low-past, low-before}
+use Rattle.integers.proofs.Signed.{as_signed, fits64, back64, got64, abs_minus, scaled}
+use Rattle.steps.proofs.Cuts.{room_small, low_past, low_before}
 use borrow.Author.Rules.{rules}
 use Rattle.steps.proofs.low_within.Statement.{statement}
 use Rattle.steps.proofs.low_within.Tie as tie
@@ -16,11 +16,11 @@ mul-way : tie.Need-overflow-mul-way
 mul-way c =
     let a = c.args.a in
     let n = c.args.t.num in
-    simp (to_z-of_z c.ranges.a, as-signed n (omega (arith, c.requires))) (fits64 (omega (arith, scaled a n c.requires.1 c.requires.2.num-small)))
+    simp (to_z-of_z c.ranges.a, as_signed n (omega (arith, c.requires))) (fits64 (omega (arith, scaled a n c.requires.1 c.requires.2.num_small)))
 
 sub-room : tie.Need-overflow-sub-room
 sub-room c =
-    simp (to_z-of_z c.ranges.p, to_z-of_z c.ranges.lo) (fits64 (omega (arith, abs-minus c.args.lo c.args.p, c.requires)))
+    simp (to_z-of_z c.ranges.p, to_z-of_z c.ranges.lo) (fits64 (omega (arith, abs_minus c.args.lo c.args.p, c.requires)))
 
 cast-room : tie.Need-overflow-cast-room
 cast-room c = search rules
@@ -30,8 +30,8 @@ mul-room c =
     let p = c.args.p in
     let v = c.args.lo in
     let d = c.args.t.den in
-    simp (to_z-of_z c.ranges.p, to_z-of_z c.ranges.lo, as-signed d (omega (arith, c.requires)), back64 (v -ℤ p) (omega (arith, abs-minus v p, c.requires)))
-    (fits64 (omega (arith, room_small v p d c.requires.3 c.requires.0 c.requires.2.den-small)))
+    simp (to_z-of_z c.ranges.p, to_z-of_z c.ranges.lo, as_signed d (omega (arith, c.requires)), back64 (v -ℤ p) (omega (arith, abs_minus v p, c.requires)))
+    (fits64 (omega (arith, room_small v p d c.requires.3 c.requires.0 c.requires.2.den_small)))
 
 low-at-requires : tie.Need-low-at-requires
 low-at-requires c κs = search rules
@@ -45,11 +45,11 @@ returns c =
     let v = s.args.lo in
     let way = a *ℤ pos f.num in
     let room = (v -ℤ p) *ℤ pos f.den in
-    let t = simp (to_z-of_z s.ranges.p, to_z-of_z s.ranges.a, to_z-of_z s.ranges.lo, as-signed f.num (omega (arith, s.requires)), as-signed f.den (omega (arith, s.requires)), back64 (v -ℤ p) (omega (arith, abs-minus v p, s.requires)), back64 way (omega (arith, scaled a f.num s.requires.1 s.requires.2.num-small)), back64 room (omega (arith, room_small v p f.den s.requires.3 s.requires.0 s.requires.2.den-small))) at c.if1.true in
-    simp (to_z-of_z s.ranges.lo) (sym (low-past p a v f s.requires.2.den-positive t))
+    let t = simp (to_z-of_z s.ranges.p, to_z-of_z s.ranges.a, to_z-of_z s.ranges.lo, as_signed f.num (omega (arith, s.requires)), as_signed f.den (omega (arith, s.requires)), back64 (v -ℤ p) (omega (arith, abs_minus v p, s.requires)), back64 way (omega (arith, scaled a f.num s.requires.1 s.requires.2.num_small)), back64 room (omega (arith, room_small v p f.den s.requires.3 s.requires.0 s.requires.2.den_small))) at c.if1.true in
+    simp (to_z-of_z s.ranges.lo) (sym (low_past p a v f s.requires.2.den_positive t))
 
-returns-2 : tie.Need-returns-2
-returns-2 c =
+returns_2 : tie.Need-returns-2
+returns_2 c =
     let s = c.before.before in
     let p = s.args.p in
     let a = s.args.a in
@@ -57,8 +57,8 @@ returns-2 c =
     let v = s.args.lo in
     let way = a *ℤ pos f.num in
     let room = (v -ℤ p) *ℤ pos f.den in
-    let t = simp (to_z-of_z s.ranges.p, to_z-of_z s.ranges.a, to_z-of_z s.ranges.lo, as-signed f.num (omega (arith, s.requires)), as-signed f.den (omega (arith, s.requires)), back64 (v -ℤ p) (omega (arith, abs-minus v p, s.requires)), back64 way (omega (arith, scaled a f.num s.requires.1 s.requires.2.num-small)), back64 room (omega (arith, room_small v p f.den s.requires.3 s.requires.0 s.requires.2.den-small))) at c.before.if1.false in
-    got64 c.low-at.result c.low-at.type-inv ∙ simp (to_z-of_z s.ranges.p, to_z-of_z s.ranges.a) at c.low-at.ensures ∙ sym (low-before p a v f s.requires.2.den-positive t)
+    let t = simp (to_z-of_z s.ranges.p, to_z-of_z s.ranges.a, to_z-of_z s.ranges.lo, as_signed f.num (omega (arith, s.requires)), as_signed f.den (omega (arith, s.requires)), back64 (v -ℤ p) (omega (arith, abs_minus v p, s.requires)), back64 way (omega (arith, scaled a f.num s.requires.1 s.requires.2.num_small)), back64 room (omega (arith, room_small v p f.den s.requires.3 s.requires.0 s.requires.2.den_small))) at c.before.if1.false in
+    got64 c.low_at_lem.result c.low_at_lem.type-inv ∙ simp (to_z-of_z s.ranges.p, to_z-of_z s.ranges.a) at c.low_at_lem.ensures ∙ sym (low_before p a v f s.requires.2.den_positive t)
 
 pub low-within-spec : {M : Type 1} → statement M
 low-within-spec =
@@ -71,4 +71,4 @@ low-within-spec =
     mul-room
     low-at-requires
     returns
-    returns-2)
+    returns_2)

@@ -2,27 +2,27 @@
 use Prim.Native.Nat.{◌-◌, ◌≤◌}
 use native.Mathlib.Omega.{arith}
 use borrow.Author.Rules.{rules}
-use Rattle.files.proofs.PlaceWords.{noneCut, none-cut, none_more, cut-found, none-all}
+use Rattle.files.proofs.PlaceWords.{none_cut, none_cut_lem, none_more, cut_found, none_all}
 use Rattle.table_files.proofs.place_size.Statement.{statement}
 use Rattle.table_files.proofs.place_size.Tie as tie
 
 abbrev invariant-loop : tie.invariant-loop
-invariant-loop model locations l₀ l = (l ≤ locations) × noneCut model l
+invariant-loop model locations l₀ l = (l ≤ locations) × none_cut model l
 
 abbrev decreases-loop : tie.decreases-loop
 decreases-loop model locations l₀ l = locations - l
 
-locations-requires : tie.Need-locations-requires invariant-loop decreases-loop
-locations-requires c κs = search rules
+locations_requires : tie.Need-locations-requires invariant-loop decreases-loop
+locations_requires c κs = search rules
 
 loop-holds : tie.Need-loop-init invariant-loop decreases-loop
-loop-holds c = (omega arith, none-cut _)
+loop-holds c = (omega arith, none_cut_lem _)
 
 per-face-requires : tie.Need-per-face-requires invariant-loop decreases-loop
 per-face-requires c κs = (c.before.before.before.requires, omega (arith, c.before.before.locations.ensures))
 
 returns : tie.Need-returns invariant-loop decreases-loop
-returns c = cut-found _ _ c.before.per-face.ensures (omega (arith, c.before.before.before.before.locations.ensures)) c.if1.true
+returns c = cut_found _ _ c.before.per-face.ensures (omega (arith, c.before.before.before.before.locations.ensures)) c.if1.true
 
 add-l : tie.Need-overflow-add-l invariant-loop decreases-loop
 add-l c = omega arith
@@ -33,8 +33,8 @@ loop-less c = omega arith
 loop-again : tie.Need-loop-preserved invariant-loop decreases-loop
 loop-again c = (omega arith, none_more _ _ c.before.per-face.ensures c.before.before.before.loop.invariant.1 c.if1.false)
 
-returns-2 : tie.Need-returns-2 invariant-loop decreases-loop
-returns-2 c = none-all _ (omega (arith, c.before.loop.invariant.0, c.before.before.locations.ensures)) c.before.loop.invariant.1
+returns_2 : tie.Need-returns-2 invariant-loop decreases-loop
+returns_2 c = none_all _ (omega (arith, c.before.loop.invariant.0, c.before.before.locations.ensures)) c.before.loop.invariant.1
 
 pub place-size-spec : {M : Type 1} → statement M
 place-size-spec =
@@ -42,11 +42,11 @@ place-size-spec =
     (tie.spec
     invariant-loop
     decreases-loop
-    locations-requires
+    locations_requires
     loop-holds
     per-face-requires
     returns
     add-l
     loop-less
     loop-again
-    returns-2)
+    returns_2)

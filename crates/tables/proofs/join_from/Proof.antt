@@ -6,11 +6,11 @@ use Prim.Native.Nat.{◌+◌, ◌*◌, ◌<◌}
 use lib.IntN.{ℤ}
 use lib.Signed.{mag, le_z}
 use mir.Facts.{to_z-of_z}
-use Rattle.integers.specs.Rounding.{maxZ}
+use Rattle.integers.specs.Rounding.{max_z}
 use Rattle.integers.specs.Words.{word}
 use Rattle.integers.proofs.Signed.{got32, got64, widened}
-use Rattle.tables.proofs.Faces.{max-small, face-long}
-use Rattle.tables.proofs.Cutting.{from-joined, from-none}
+use Rattle.tables.proofs.Faces.{max_small, face_long}
+use Rattle.tables.proofs.Cutting.{from_joined, from_none}
 use borrow.Author.Rules.{rules}
 use Rattle.tables.proofs.join_from.Statement.{statement}
 use Rattle.tables.proofs.join_from.Tie as tie
@@ -44,25 +44,25 @@ larger-requires c κs = search rules
 
 -- the word that changes
 module _ (c : tie.After-larger) where
-  end_is : let a = c.before.before.before.before.args in c.larger.result ≡ maxZ (word a.from.now (2 * a.v)) a.x
+  end_is : let a = c.before.before.before.before.args in c.larger.result ≡ max_z (word a.from.now (2 * a.v)) a.x
   end_is =
       let s = c.before.before.before.before in
       let y = word s.args.from.now (2 * s.args.v) in
       let g = c.before.larger-arg.given in
       rw (got32 y g, to_z-of_z s.ranges.x, to_z-of_z (widened y g), to_z-of_z (widened s.args.x s.ranges.x.sfits)) at c.larger.ensures
 
-  end-small : mag c.larger.result < 2147483648
-  end-small = let s = c.before.before.before.before in subst (λ (z : ℤ). mag z < 2147483648) (sym end_is) (max-small _ _ c.before.larger-arg.given s.ranges.x.sfits)
+  end_small : mag c.larger.result < 2147483648
+  end_small = let s = c.before.before.before.before in subst (λ (z : ℤ). mag z < 2147483648) (sym end_is) (max_small _ _ c.before.larger-arg.given s.ranges.x.sfits)
 
 cast-join-with : tie.Need-overflow-cast-join-with
-cast-join-with c = rw (got64 c.larger.result c.larger.type-inv) (record { sfits = end-small c })
+cast-join-with c = rw (got64 c.larger.result c.larger.type-inv) (record { sfits = end_small c })
 
 join-with-requires : tie.Need-join-with-requires
 join-with-requires c κs =
     let s = c.before.before.before.before.before in
     let ok = s.requires.0 in
-    let h = ok.box-length in
-    (record { n-small = ok.n-small; box-there = omega (arith, h); face-length = face-long s.args.n s.requires.1 }, h, omega (arith, ok.variable))
+    let h = ok.box_length in
+    (record { n_small = ok.n_small; box_there = omega (arith, h); face_length = face_long s.args.n s.requires.1 }, h, omega (arith, ok.variable))
 
 same_length : tie.Need-same-length
 same_length c = search rules
@@ -76,13 +76,13 @@ returns c =
     let s = c.before.before.before.before.before.before.before in
     let a = s.args in
     let z = c.before.before.before.larger in
-    from-joined a.n a.v a.x a.from.now s.requires.0 a.piece.now (left c.before.before.before.before.before) (end_is c.before.before.before) (simp (got64 z.result z.type-inv, got32 z.result (end-small c.before.before.before)) at c.before.join-with.ensures)
+    from_joined a.n a.v a.x a.from.now s.requires.0 a.piece.now (left c.before.before.before.before.before) (end_is c.before.before.before) (simp (got64 z.result z.type-inv, got32 z.result (end_small c.before.before.before)) at c.before.join-with.ensures)
 
-returns-2 : tie.Need-returns-2
-returns-2 c =
+returns_2 : tie.Need-returns-2
+returns_2 c =
     let s = c.before.before in
     let a = s.args in
-    from-none a.n a.v a.x a.from.now s.requires.0 a.piece.now (simp (got32 (word s.args.from.now (2 * s.args.v + 1)) c.before.if12.given, to_z-of_z s.ranges.x) at c.if1.false) s.requires.1
+    from_none a.n a.v a.x a.from.now s.requires.0 a.piece.now (simp (got32 (word s.args.from.now (2 * s.args.v + 1)) c.before.if12.given, to_z-of_z s.ranges.x) at c.if1.false) s.requires.1
 
 pub join-from-spec : {M : Type 1} → statement M
 join-from-spec =
@@ -101,4 +101,4 @@ join-from-spec =
     join-with-requires
     same_length
     returns
-    returns-2)
+    returns_2)

@@ -8,8 +8,8 @@ use lib.Seq.{length-take-le}
 use mathlib.Core.List.{List}
 use mir.Facts.{to_z-of_z}
 use Rattle.plant.specs.Box.{present}
-use Rattle.tables.specs.Room.{joinedWith}
-use Rattle.tables.proofs.Cutting.{one-changed, copy-long, changed-long, changed-joinable}
+use Rattle.tables.specs.Room.{joined_with}
+use Rattle.tables.proofs.Cutting.{one_changed, copy_long, changed_long, changed_joinable}
 use borrow.Author.Rules.{rules}
 use Rattle.tables.proofs.join_with.Statement.{statement}
 use Rattle.tables.proofs.join_with.Tie as tie
@@ -36,19 +36,19 @@ array-share-prefix-part : tie.Need-array-share-prefix-part
 array-share-prefix-part c =
     let s = c.before.before.before in
     let a = s.args in
-    copy-long a.n a.at _ a.from.now _ _ c.before.copy.ensures s.requires.1
+    copy_long a.n a.at _ a.from.now _ _ c.before.copy.ensures s.requires.1
 
 slice-aggregate-join : tie.Need-slice-aggregate-join
 slice-aggregate-join c =
     let s = c.before.before.before.before in
     let a = s.args in
-    changed-long a.n a.at _ a.from.now _ _ c.before.before.copy.ensures s.requires.1 s.requires.2
+    changed_long a.n a.at _ a.from.now _ _ c.before.before.copy.ensures s.requires.1 s.requires.2
 
 join-requires : tie.Need-join-requires
 join-requires c κs =
     let s = c.before.before.before.before.before in
     let a = s.args in
-    changed-joinable a.n a.at _ a.from.now _ _ c.before.before.before.copy.ensures s.requires.1 s.requires.2 a.piece.now s.requires.0
+    changed_joinable a.n a.at _ a.from.now _ _ c.before.before.before.copy.ensures s.requires.1 s.requires.2 a.piece.now s.requires.0
 
 same_length : tie.Need-same-length
 same_length c = search rules
@@ -58,8 +58,8 @@ returns c =
     let s = c.before.before.before.before.before.before.before in
     let a = s.args in
     c.before.join.ensures
-    ∙ ap (λ (b : List ℤ). joinedWith a.n a.piece.now (present b)) (one-changed a.n a.at _ a.from.now _ _ c.before.before.before.before.before.copy.ensures s.requires.1 s.requires.2)
-    ∙ ap (λ (z : ℤ). joinedWith a.n a.piece.now (present (set a.from.now a.at z))) (to_z-of_z s.ranges.z)
+    ∙ ap (λ (b : List ℤ). joined_with a.n a.piece.now (present b)) (one_changed a.n a.at _ a.from.now _ _ c.before.before.before.before.before.copy.ensures s.requires.1 s.requires.2)
+    ∙ ap (λ (z : ℤ). joined_with a.n a.piece.now (present (set a.from.now a.at z))) (to_z-of_z s.ranges.z)
 
 pub join-with-spec : {M : Type 1} → statement M
 join-with-spec =

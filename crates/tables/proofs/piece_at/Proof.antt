@@ -3,13 +3,13 @@ use mathlib.Core.Path.{ap}
 use native.Mathlib.Omega.{arith}
 use native.Mathlib.Nat.{mul-le-mul}
 use Prim.Native.Nat.{ℕ, ◌+◌, ◌*◌, ◌≤◌}
-use Rattle.plant.specs.Tables.{faceSize}
+use Rattle.plant.specs.Tables.{face_size}
 use borrow.Author.Rules.{rules}
 use Rattle.tables.proofs.piece_at.Statement.{statement}
 use Rattle.tables.proofs.piece_at.Tie as tie
 
-small : (before q n : ℕ) → before ≤ 1536 → q ≤ 24 → n ≤ 6 → (before + q) * faceSize n ≤ 20280
-small before q n u v w = let a : before + q ≤ 1560 = omega arith in let b : faceSize n ≤ 13 = omega arith in let g : (before + q) * faceSize n ≤ 1560 * 13 = mul-le-mul a b in omega arith
+small : (before q n : ℕ) → before ≤ 1536 → q ≤ 24 → n ≤ 6 → (before + q) * face_size n ≤ 20280
+small before q n u v w = let a : before + q ≤ 1560 = omega arith in let b : face_size n ≤ 13 = omega arith in let g : (before + q) * face_size n ≤ 1560 * 13 = mul-le-mul a b in omega arith
 
 add-result : tie.Need-overflow-add-result
 add-result c = search rules

@@ -2,18 +2,18 @@
 use mathlib.Core.Path.{◌≡◌, ap₂, ◌∙◌}
 use native.Mathlib.Omega.{arith}
 use Prim.Native.Nat.{ℕ, ◌*◌}
-use Rattle.plant.specs.Tables.{pieceCount}
+use Rattle.plant.specs.Tables.{piece_count}
 use Rattle.plant.proofs.Tables.{count_most}
-use Rattle.tables.proofs.Sizes.{count-layers}
+use Rattle.tables.proofs.Sizes.{count_layers}
 use borrow.Author.Rules.{rules}
 use Rattle.tables.proofs.piece_count.Statement.{statement}
 use Rattle.tables.proofs.piece_count.Tie as tie
 
-product : (c : tie.After-layers) → 2 * c.before.variables.result * c.layers.result ≡ pieceCount c.before.before.args.model.now
-product c = ap₂ (λ (n k : ℕ). 2 * n * k) c.before.variables.ensures c.layers.ensures ∙ count-layers c.before.before.args.model.now
+product : (c : tie.After-layers) → 2 * c.before.variables.result * c.layers.result ≡ piece_count c.before.before.args.model.now
+product c = ap₂ (λ (n k : ℕ). 2 * n * k) c.before.variables.ensures c.layers.ensures ∙ count_layers c.before.before.args.model.now
 
-variables-requires : tie.Need-variables-requires
-variables-requires c κs = search rules
+variables_requires : tie.Need-variables-requires
+variables_requires c κs = search rules
 
 mul-result : tie.Need-overflow-mul-result
 mul-result c = search rules
@@ -24,11 +24,11 @@ layers-requires c κs = search rules
 mul-result-2 : tie.Need-overflow-mul-result-2
 mul-result-2 c =
     let s = c.before.before in
-    record { fits = omega (arith, product c, count_most s.args.model.now s.requires.head.n-small s.requires.head.L-small) }
+    record { fits = omega (arith, product c, count_most s.args.model.now s.requires.head.n_small s.requires.head.L_small) }
 
 returns : tie.Need-returns
 returns c = product c
 
 pub piece-count-spec : {M : Type 1} → statement M
 piece-count-spec =
-    tie.close (tie.spec variables-requires mul-result layers-requires mul-result-2 returns)
+    tie.close (tie.spec variables_requires mul-result layers-requires mul-result-2 returns)

@@ -9,7 +9,7 @@ use mir.Syntax.{w32}
 use mir.Facts.{to_z-of_z}
 use borrow.Author.Rules.{sfits_of}
 use Rattle.integers.specs.Words.{word, onto}
-use Rattle.tables.proofs.Faces.{place-start, place-turn, place_end}
+use Rattle.tables.proofs.Faces.{place_start, place_turn, place_end}
 use Rattle.tables.proofs.place.Statement.{statement}
 use Rattle.tables.proofs.place.Tie as tie
 
@@ -26,7 +26,7 @@ slice-set-of-face : tie.Need-slice-set-of-face invariant-loop decreases-loop
 slice-set-of-face c = omega arith
 
 loop-holds : tie.Need-loop-init invariant-loop decreases-loop
-loop-holds c = (omega arith, refl, place-start c.args.from.now c.args.face.now (omega arith))
+loop-holds c = (omega arith, refl, place_start c.args.from.now c.args.face.now (omega arith))
 
 add-j : tie.Need-overflow-add-j invariant-loop decreases-loop
 add-j c = omega arith
@@ -54,7 +54,7 @@ loop-again c =
     rw e (
       omega arith,
       length-set l.face (l.i + 1) (word a.from.now l.i) ∙ l.invariant.1,
-      place-turn a.from.now _ l.face l.i l.invariant.2 (omega arith) (omega (arith, length-set a.face.now 0 (pos 1))),
+      place_turn a.from.now _ l.face l.i l.invariant.2 (omega arith) (omega (arith, length-set a.face.now 0 (pos 1))),
     )
 
 same_length : tie.Need-same-length invariant-loop decreases-loop

@@ -7,22 +7,22 @@ use lib.IntN.{ℤ, pos}
 use lib.Signed.{mag}
 use lib.ListN.{length, set, length-set}
 use mir.Facts.{to_z-of_z}
-use Rattle.integers.specs.Rounding.{maxZ, minZ}
+use Rattle.integers.specs.Rounding.{max_z, min_z}
 use Rattle.integers.proofs.Signed.{got32, got64, widened}
 use Rattle.integers.specs.Words.{word, onto}
-use Rattle.plant.specs.Box.{hull, boxAt}
-use Rattle.tables.proofs.Faces.{min-small, max-small, widen-start, widen-turn, widen-end}
+use Rattle.plant.specs.Box.{hull, box_at}
+use Rattle.tables.proofs.Faces.{min_small, max_small, widen_start, widen_turn, widen_end}
 use Rattle.tables.proofs.widen.Statement.{statement}
 use Rattle.tables.proofs.widen.Tie as tie
 
 abbrev invariant-loop : tie.invariant-loop
-invariant-loop n from face₀ i₀ face i = (i ≤ n) × (length face ≡ length face₀) × (face ≡ onto (pos 1 ∷ hull i (boxAt n face₀ 1) from) face₀)
+invariant-loop n from face₀ i₀ face i = (i ≤ n) × (length face ≡ length face₀) × (face ≡ onto (pos 1 ∷ hull i (box_at n face₀ 1) from) face₀)
 
 abbrev decreases-loop : tie.decreases-loop
 decreases-loop n from face₀ i₀ face i = n - i
 
 loop-holds : tie.Need-loop-init invariant-loop decreases-loop
-loop-holds c = (omega arith, refl, widen-start (boxAt c.args.n c.args.face.now 1) c.args.from.now c.args.face.now (omega arith) c.requires.1)
+loop-holds c = (omega arith, refl, widen_start (box_at c.args.n c.args.face.now 1) c.args.from.now c.args.face.now (omega arith) c.requires.1)
 
 mul-k : tie.Need-overflow-mul-k invariant-loop decreases-loop
 mul-k c = omega arith
@@ -76,8 +76,8 @@ larger-requires : tie.Need-larger-requires invariant-loop decreases-loop
 larger-requires c κs = tt
 
 module _ (c : tie.After-smaller invariant-loop decreases-loop) where
-  low-is : let l = c.before.before.before.before.loop in c.smaller.result ≡ minZ (word l.face (2 * l.i + 1)) (word c.before.before.before.before.before.args.from.now (2 * l.i))
-  low-is =
+  low_is : let l = c.before.before.before.before.loop in c.smaller.result ≡ min_z (word l.face (2 * l.i + 1)) (word c.before.before.before.before.before.args.from.now (2 * l.i))
+  low_is =
       let l = c.before.before.before.before.loop in
       let x = word l.face (2 * l.i + 1) in
       let y = word c.before.before.before.before.before.args.from.now (2 * l.i) in
@@ -86,10 +86,10 @@ module _ (c : tie.After-smaller invariant-loop decreases-loop) where
       rw (got32 x g, got32 y h, to_z-of_z (widened x g), to_z-of_z (widened y h)) at c.smaller.ensures
 
   low_small : mag c.smaller.result < 2147483648
-  low_small = subst (λ (z : ℤ). mag z < 2147483648) (sym low-is) (min-small _ _ c.before.before.smaller-arg.given c.before.smaller-arg2.given)
+  low_small = subst (λ (z : ℤ). mag z < 2147483648) (sym low_is) (min_small _ _ c.before.before.smaller-arg.given c.before.smaller-arg2.given)
 
 module _ (c : tie.After-larger invariant-loop decreases-loop) where
-  high_is : let l = c.before.before.before.before.before.before.before.loop in c.larger.result ≡ maxZ (word l.face (2 * l.i + 2)) (word c.before.before.before.before.before.before.before.before.args.from.now (2 * l.i + 1))
+  high_is : let l = c.before.before.before.before.before.before.before.loop in c.larger.result ≡ max_z (word l.face (2 * l.i + 2)) (word c.before.before.before.before.before.before.before.before.args.from.now (2 * l.i + 1))
   high_is =
       let l = c.before.before.before.before.before.before.before.loop in
       let x = word l.face (2 * l.i + 2) in
@@ -99,7 +99,7 @@ module _ (c : tie.After-larger invariant-loop decreases-loop) where
       rw (got32 x g, got32 y h, to_z-of_z (widened x g), to_z-of_z (widened y h)) at c.larger.ensures
 
   high_small : mag c.larger.result < 2147483648
-  high_small = subst (λ (z : ℤ). mag z < 2147483648) (sym high_is) (max-small _ _ c.before.before.larger-arg.given c.before.larger-arg2.given)
+  high_small = subst (λ (z : ℤ). mag z < 2147483648) (sym high_is) (max_small _ _ c.before.before.larger-arg.given c.before.larger-arg2.given)
 
 cast-face : tie.Need-overflow-cast-face invariant-loop decreases-loop
 cast-face c = let x = c.before.before.before.smaller in rw (got64 x.result x.type-inv) (record { sfits = low_small c.before.before.before })
@@ -134,7 +134,7 @@ loop-again c =
     rw (got64 x.result x.type-inv, got64 y.result y.type-inv, got32 x.result (low_small c.before.before.before), got32 y.result (high_small c)) (
       omega arith,
       length-set (set l.face (2 * l.i + 1) x.result) (2 * l.i + 2) y.result ∙ length-set l.face (2 * l.i + 1) x.result ∙ l.invariant.1,
-      widen-turn a.n a.from.now a.face.now l.face l.i (omega arith) l.invariant.2 (omega arith) x.result y.result (low-is c.before.before.before) (high_is c),
+      widen_turn a.n a.from.now a.face.now l.face l.i (omega arith) l.invariant.2 (omega arith) x.result y.result (low_is c.before.before.before) (high_is c),
     )
 
 same_length : tie.Need-same-length invariant-loop decreases-loop
@@ -144,7 +144,7 @@ returns : tie.Need-returns invariant-loop decreases-loop
 returns c =
     let a = c.before.before.args in
     let e : c.before.loop.i ≡ a.n = omega arith in
-    widen-end a.n (boxAt a.n a.face.now 1) a.from.now a.face.now _ (c.before.loop.invariant.2 ∙ ap (λ (k : ℕ). onto (pos 1 ∷ hull k (boxAt a.n a.face.now 1) a.from.now) a.face.now) e) (omega arith)
+    widen_end a.n (box_at a.n a.face.now 1) a.from.now a.face.now _ (c.before.loop.invariant.2 ∙ ap (λ (k : ℕ). onto (pos 1 ∷ hull k (box_at a.n a.face.now 1) a.from.now) a.face.now) e) (omega arith)
 
 pub widen_spec : {M : Type 1} → statement M
 widen_spec =

@@ -10,14 +10,14 @@ use mir.Facts.{to_z-of_z}
 use mir.Syntax.{w32}
 use borrow.Author.Rules.{sfits_of}
 use Rattle.integers.specs.Words.{onto}
-use Rattle.files.specs.Bytes.{wordAt, wordsAt}
-use Rattle.integers.proofs.Buffers.{onto-start, onto-set}
-use Rattle.files.proofs.Words.{length-words, words_more, words-none}
+use Rattle.files.specs.Bytes.{word_at, words_at}
+use Rattle.integers.proofs.Buffers.{onto_start, onto-set}
+use Rattle.files.proofs.Words.{length_words, words_more, words_none}
 use Rattle.wire.proofs.copy_words.Statement.{statement}
 use Rattle.wire.proofs.copy_words.Tie as tie
 
 abbrev invariant-loop : tie.invariant-loop
-invariant-loop file from count words₀ to i₀ words i = (i ≤ count) × (length words ≡ length words₀) × (words ≡ onto (take to words₀ ++ wordsAt file from i) words₀)
+invariant-loop file from count words₀ to i₀ words i = (i ≤ count) × (length words ≡ length words₀) × (words ≡ onto (take to words₀ ++ words_at file from i) words₀)
 
 abbrev decreases-loop : tie.decreases-loop
 decreases-loop file from count words₀ to i₀ words i = count - i
@@ -27,7 +27,7 @@ loop-holds c =
     let a = c.before.args in (
       omega arith,
       refl,
-      onto-start a.to a.words.now (omega arith) ∙ ap (λ (l : List ℤ). onto (take a.to a.words.now ++ l) a.words.now) (sym (words-none a.file.now a.from)),
+      onto_start a.to a.words.now (omega arith) ∙ ap (λ (l : List ℤ). onto (take a.to a.words.now ++ l) a.words.now) (sym (words_none a.file.now a.from)),
     )
 
 mul-word-at : tie.Need-overflow-mul-word-at invariant-loop decreases-loop
@@ -60,12 +60,12 @@ loop-again c =
     let i = c.before.before.loop.i in
     let d = a.words.now in
     let f = a.file.now in
-    let e : length (take a.to d ++ wordsAt f a.from i) ≡ a.to + i = omega (arith, length-append (take a.to d) (wordsAt f a.from i), length-take-le a.to d (omega arith), length-words f a.from i) in (
+    let e : length (take a.to d ++ words_at f a.from i) ≡ a.to + i = omega (arith, length-append (take a.to d) (words_at f a.from i), length-take-le a.to d (omega arith), length_words f a.from i) in (
       omega arith,
       simp length-set c.before.before.loop.invariant.1,
       rw (c.before.before.loop.invariant.2, to_z-of_z {w = w32} (sfits_of c.word_at.type-inv), c.word_at.ensures)
-          (onto-set (take a.to d ++ wordsAt f a.from i) d (a.to + i) (wordAt f (a.from + 4 * i)) e (omega arith)
-          ∙ ap (λ (l : List ℤ). onto l d) (append_assoc (take a.to d) (wordsAt f a.from i) (wordAt f (a.from + 4 * i) ∷ []) ∙ ap (λ (l : List ℤ). take a.to d ++ l) (sym (words_more f a.from i)))),
+          (onto-set (take a.to d ++ words_at f a.from i) d (a.to + i) (word_at f (a.from + 4 * i)) e (omega arith)
+          ∙ ap (λ (l : List ℤ). onto l d) (append_assoc (take a.to d) (words_at f a.from i) (word_at f (a.from + 4 * i) ∷ []) ∙ ap (λ (l : List ℤ). take a.to d ++ l) (sym (words_more f a.from i)))),
     )
 
 same_length : tie.Need-same-length invariant-loop decreases-loop

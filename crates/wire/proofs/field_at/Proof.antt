@@ -1,18 +1,18 @@
 -- Each way out is a case of the definition.
 use native.Mathlib.Omega.{arith}
-use Rattle.files.proofs.Fields.{field-short, field_cut, field-whole}
+use Rattle.files.proofs.Fields.{field_short, field_cut, field_whole}
 use borrow.Author.Rules.{rules}
 use Rattle.wire.proofs.field_at.Statement.{statement}
 use Rattle.wire.proofs.field_at.Tie as tie
 
 returns : tie.Need-returns
-returns c = field-short _ _ (omega arith)
+returns c = field_short _ _ (omega arith)
 
 sub-if2 : tie.Need-overflow-sub-if2
 sub-if2 c = search rules
 
-returns-2 : tie.Need-returns-2
-returns-2 c = field-short _ _ (omega arith)
+returns_2 : tie.Need-returns-2
+returns_2 c = field_short _ _ (omega arith)
 
 shared-slice-read-tag : tie.Need-shared-slice-read-tag
 shared-slice-read-tag c = search rules
@@ -36,7 +36,7 @@ add-t6 : tie.Need-overflow-add-t6
 add-t6 c = search rules
 
 returns-4 : tie.Need-returns-4
-returns-4 c = rw c.before.length_at.ensures.0 (field-whole _ _ (omega arith))
+returns-4 c = rw c.before.length_at.ensures.0 (field_whole _ _ (omega arith))
 
 pub field-at-spec : {M : Type 1} → statement M
 field-at-spec =
@@ -44,7 +44,7 @@ field-at-spec =
     (tie.spec
     returns
     sub-if2
-    returns-2
+    returns_2
     shared-slice-read-tag
     length-at-requires
     sub-if3

@@ -2,13 +2,13 @@
 use Prim.Native.Nat.{◌*◌, ◌≤◌}
 use native.Mathlib.Omega.{arith}
 use borrow.Author.Rules.{rules}
-use Rattle.files.specs.Fields.{fieldLength}
-use Rattle.files.proofs.Fields.{place-small}
+use Rattle.files.specs.Fields.{field_length}
+use Rattle.files.proofs.Fields.{place_small}
 use Rattle.wire.proofs.field_place.Statement.{statement}
 use Rattle.wire.proofs.field_place.Tie as tie
 
-small : (c : tie.After-field-length) → c.before.args.i * c.field-length.result ≤ 1536 * fieldLength 37
-small c = rw c.field-length.ensures (place-small c.before.args.w c.before.args.i 37 1536 (omega arith) (omega arith))
+small : (c : tie.After-field-length) → c.before.args.i * c.field-length.result ≤ 1536 * field_length 37
+small c = rw c.field-length.ensures (place_small c.before.args.w c.before.args.i 37 1536 (omega arith) (omega arith))
 
 field-length-requires : tie.Need-field-length-requires
 field-length-requires c κs = search rules

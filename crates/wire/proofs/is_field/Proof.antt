@@ -15,11 +15,11 @@ enum-told-2 c = search rules
 returns : tie.Need-returns
 returns c = rw c.before.f.given.1
 
-returns-2 : tie.Need-returns-2
-returns-2 c = search rules
+returns_2 : tie.Need-returns-2
+returns_2 c = search rules
 
 returns-3 : tie.Need-returns-3
 returns-3 c = search rules
 
 pub is-field-spec : {M : Type 1} → statement M
-is-field-spec = tie.close (tie.spec enum-known-f enum_told enum-told-2 returns returns-2 returns-3)
+is-field-spec = tie.close (tie.spec enum-known-f enum_told enum-told-2 returns returns_2 returns-3)

@@ -1,7 +1,7 @@
 -- Four stores, each of a byte.
 use native.Mathlib.Omega.{arith}
 use lib.ListN.{length-set}
-use Rattle.integers.proofs.Filling.{set-four}
+use Rattle.integers.proofs.Filling.{set_four}
 use borrow.Author.Rules.{rules}
 use Rattle.wire.proofs.put_bits.Statement.{statement}
 use Rattle.wire.proofs.put_bits.Tie as tie
@@ -43,7 +43,7 @@ same_length : tie.Need-same-length
 same_length c = search rules
 
 returns : tie.Need-returns
-returns c = set-four c.args.out.now c.args.at _ _ _ _ (omega arith)
+returns c = set_four c.args.out.now c.args.at _ _ _ _ (omega arith)
 
 pub put-bits-spec : {M : Type 1} → statement M
 put-bits-spec =

@@ -1,7 +1,7 @@
 -- Three stores, each of a byte.
 use native.Mathlib.Omega.{arith}
 use lib.ListN.{length-set}
-use Rattle.integers.proofs.Filling.{set-three}
+use Rattle.integers.proofs.Filling.{set_three}
 use borrow.Author.Rules.{rules}
 use Rattle.wire.proofs.put_header.Statement.{statement}
 use Rattle.wire.proofs.put_header.Tie as tie
@@ -31,7 +31,7 @@ same_length : tie.Need-same-length
 same_length c = search rules
 
 returns : tie.Need-returns
-returns c = set-three c.args.out.now c.args.to _ _ _ (omega arith)
+returns c = set_three c.args.out.now c.args.to _ _ _ (omega arith)
 
 pub put-header-spec : {M : Type 1} → statement M
 put-header-spec =

@@ -9,14 +9,14 @@ use mir.Facts.{to_z-of_z}
 use mir.Syntax.{w32}
 use borrow.Author.Rules.{sfits_of}
 use Rattle.integers.specs.Words.{onto}
-use Rattle.files.specs.Bytes.{wordsBytes, part}
-use Rattle.integers.proofs.Buffers.{onto-start}
-use Rattle.files.proofs.Words.{bytes-none, put-turn}
+use Rattle.files.specs.Bytes.{words_bytes, part}
+use Rattle.integers.proofs.Buffers.{onto_start}
+use Rattle.files.proofs.Words.{bytes_none, put_turn}
 use Rattle.wire.proofs.put_words.Statement.{statement}
 use Rattle.wire.proofs.put_words.Tie as tie
 
 abbrev invariant-loop : tie.invariant-loop
-invariant-loop words from count out₀ to i₀ out i = (i ≤ count) × (length out ≡ length out₀) × (out ≡ onto (take to out₀ ++ wordsBytes (part words from i)) out₀)
+invariant-loop words from count out₀ to i₀ out i = (i ≤ count) × (length out ≡ length out₀) × (out ≡ onto (take to out₀ ++ words_bytes (part words from i)) out₀)
 
 abbrev decreases-loop : tie.decreases-loop
 decreases-loop words from count out₀ to i₀ out i = count - i
@@ -25,7 +25,7 @@ loop-holds : tie.Need-loop-init invariant-loop decreases-loop
 loop-holds c =
     let d = c.before.args.out.now in
     let to = c.before.args.to in
-    (omega arith, refl, onto-start to d (omega arith) ∙ ap (λ (l : List ℕ). onto (take to d ++ l) d) bytes-none)
+    (omega arith, refl, onto_start to d (omega arith) ∙ ap (λ (l : List ℕ). onto (take to d ++ l) d) bytes_none)
 
 mul-put-word : tie.Need-overflow-mul-put-word invariant-loop decreases-loop
 mul-put-word c = omega arith
@@ -58,7 +58,7 @@ loop-again c =
       omega arith,
       omega arith,
       rw (to_z-of_z {w = w32} {z = get_or a.words.now (a.from + l.i) (pos 0)} (sfits_of c.before.before.before.put-word-arg2.given)) at c.before.before.put_word.ensures
-          ∙ put-turn a.words.now a.from l.i a.out.now l.out a.to l.invariant.2 (omega arith) (omega arith),
+          ∙ put_turn a.words.now a.from l.i a.out.now l.out a.to l.invariant.2 (omega arith) (omega arith),
     )
 
 same_length : tie.Need-same-length invariant-loop decreases-loop

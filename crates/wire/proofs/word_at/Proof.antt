@@ -2,7 +2,7 @@
 use mir.Syntax.{w32}
 use mir.Facts.{to_z-of_z}
 use borrow.Author.Rules.{sfits_of}
-use Rattle.files.specs.Bytes.{wordAt}
+use Rattle.files.specs.Bytes.{word_at}
 use borrow.Author.Rules.{rules}
 use Rattle.wire.proofs.word_at.Statement.{statement}
 use Rattle.wire.proofs.word_at.Tie as tie
@@ -14,7 +14,7 @@ signed-requires : tie.Need-signed-requires
 signed-requires c κs = search rules
 
 returns : tie.Need-returns
-unfolding wordAt
+unfolding word_at
 returns c = cc (to_z-of_z {w = w32} (sfits_of c.signed.type-inv))
 
 pub word-at-spec : {M : Type 1} → statement M

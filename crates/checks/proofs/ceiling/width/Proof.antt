@@ -2,7 +2,7 @@
 use mathlib.Core.Path.{ap, ap₂, ◌∙◌}
 use native.Mathlib.Omega.{arith}
 use lib.IntN.{ℤ, nat_abs, ◌-ℤ◌}
-use Rattle.integers.proofs.Signed.{fits64, back64, got64, abs-minus}
+use Rattle.integers.proofs.Signed.{fits64, back64, got64, abs_minus}
 use Rattle.plant.specs.Box.{low, high}
 use Rattle.plant.specs.Tables as T
 use borrow.Author.Rules.{rules}
@@ -27,7 +27,7 @@ sub-magnitude c =
     let x = c.before.word in
     let y = c.word2 in
     simp (got64 x.result x.type-inv, got64 y.result y.type-inv)
-    (fits64 (omega (arith, abs-minus x.result y.result, ap nat_abs x.ensures, ap nat_abs y.ensures)))
+    (fits64 (omega (arith, abs_minus x.result y.result, ap nat_abs x.ensures, ap nat_abs y.ensures)))
 
 magnitude-requires : tie.Need-magnitude-requires
 magnitude-requires c κs = search rules
@@ -37,7 +37,7 @@ unfolding low high T.width
 returns c =
     let x = c.before.before.word in
     let y = c.before.word2 in
-    let back = back64 (x.result -ℤ y.result) (omega (arith, abs-minus x.result y.result, ap nat_abs x.ensures, ap nat_abs y.ensures)) in
+    let back = back64 (x.result -ℤ y.result) (omega (arith, abs_minus x.result y.result, ap nat_abs x.ensures, ap nat_abs y.ensures)) in
     let r = simp (got64 x.result x.type-inv, got64 y.result y.type-inv, back) at c.magnitude.ensures in
     r ∙ ap₂ (λ (a b : ℤ). nat_abs (a -ℤ b)) x.ensures y.ensures
 

@@ -7,8 +7,8 @@ use Rattle.checks.proofs.numbers.index_of.Tie as tie
 returns : tie.Need-returns
 returns c = rw c.if1.true (omega arith)
 
-returns-2 : tie.Need-returns-2
-returns-2 c = let e : c.before.args.c ≡ 2 = omega (arith, c.before.requires, c.if1.false) in rw e (omega arith)
+returns_2 : tie.Need-returns-2
+returns_2 c = let e : c.before.args.c ≡ 2 = omega (arith, c.before.requires, c.if1.false) in rw e (omega arith)
 
 pub index-of-spec : {M : Type 1} → statement M
-index-of-spec = tie.close (tie.spec returns returns-2)
+index-of-spec = tie.close (tie.spec returns returns_2)

@@ -1,7 +1,7 @@
 -- Part 0 is the start part, any other a piece.
 use mathlib.Core.Path.{◌∙◌}
 use native.Mathlib.Omega.{arith}
-use Rattle.checks.proofs.Parts.{part-0, part-piece, piece-fits}
+use Rattle.checks.proofs.Parts.{part_0, part_piece, piece_fits}
 use borrow.Author.Rules.{rules}
 use Rattle.checks.proofs.touch.part_at.Statement.{statement}
 use Rattle.checks.proofs.touch.part_at.Tie as tie
@@ -19,13 +19,13 @@ face-requires-2 : tie.Need-face-requires-2
 face-requires-2 c κs =
     let s = c.before.before in
     let a = s.args in
-    (s.requires.n-small, piece-fits a.n a.start.now a.table.now a.earlier a.p c.before.if1.false c.piece-at.ensures (s.requires.piece-there (omega (arith, c.before.if1.false))))
+    (s.requires.n_small, piece_fits a.n a.start.now a.table.now a.earlier a.p c.before.if1.false c.piece_at.ensures (s.requires.piece_there (omega (arith, c.before.if1.false))))
 
 returns : tie.Need-returns
-returns c = let a = c.before.before.args in c.face.ensures ∙ part-0 a.n a.start.now a.table.now a.earlier a.p c.before.if1.true
+returns c = let a = c.before.before.args in c.face.ensures ∙ part_0 a.n a.start.now a.table.now a.earlier a.p c.before.if1.true
 
-returns-2 : tie.Need-returns-2
-returns-2 c = let a = c.before.before.before.args in c.face2.ensures ∙ part-piece a.n a.start.now a.table.now a.earlier a.p c.before.before.if1.false c.before.piece-at.ensures
+returns_2 : tie.Need-returns-2
+returns_2 c = let a = c.before.before.before.args in c.face2.ensures ∙ part_piece a.n a.start.now a.table.now a.earlier a.p c.before.before.if1.false c.before.piece_at.ensures
 
 pub part-at-spec : {M : Type 1} → statement M
 part-at-spec =
@@ -36,4 +36,4 @@ part-at-spec =
     piece-at-requires
     face-requires-2
     returns
-    returns-2)
+    returns_2)

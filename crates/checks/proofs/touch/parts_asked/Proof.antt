@@ -14,8 +14,8 @@ add-result c = search rules
 returns : tie.Need-returns
 returns c = rw (eq-eqb c.before.args.last 0 c.if1.true) refl
 
-returns-2 : tie.Need-returns-2
-returns-2 c = rw (ne_eqb c.before.args.last 0 c.if1.false) refl
+returns_2 : tie.Need-returns-2
+returns_2 c = rw (ne_eqb c.before.args.last 0 c.if1.false) refl
 
 pub parts-asked-spec : {M : Type 1} → statement M
-parts-asked-spec = tie.close (tie.spec sub-result add-result returns returns-2)
+parts-asked-spec = tie.close (tie.spec sub-result add-result returns returns_2)

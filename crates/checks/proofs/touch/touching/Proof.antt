@@ -7,23 +7,23 @@ use native.Mathlib.Omega.{arith}
 use lib.IntN.{ℤ}
 use lib.ListN.{length, get_or}
 use borrow.Author.Rules.{rules}
-use Rattle.plant.specs.Box.{boxAt}
-use Rattle.plant.specs.Model.{n#, L#, B#, forbiddenLocation}
+use Rattle.plant.specs.Box.{box_at}
+use Rattle.plant.specs.Model.{n#, L#, B#, forbidden_location}
 use Rattle.plant.specs.Pieces.{pieces}
-use Rattle.plant.specs.Tables.{piecesBefore, part_of, partTouches}
+use Rattle.plant.specs.Tables.{pieces_before, part_of, part_touches}
 use Rattle.plant.proofs.PieceCases.{before_more}
 use Rattle.plant.proofs.Tables.{pieces-most}
-use Rattle.tables.proofs.Sizes.{before-most}
+use Rattle.tables.proofs.Sizes.{before_most}
 use Rattle.plant.proofs.Passed.{Passed}
 use Rattle.passes.specs.Checked.{Checked}
 use Rattle.plant.proofs.Passing.{whole}
-use Rattle.passes.proofs.Reading.{model-passed}
-use Rattle.checks.specs.Links.{lastBox}
+use Rattle.passes.proofs.Reading.{model_passed}
+use Rattle.checks.specs.Links.{last_box}
 use Rattle.checks.proofs.Links.{last_within}
 use Rattle.passes.specs.Parts.{IsPart}
-use Rattle.checks.proofs.Parts.{part-ready, part-is}
-use Rattle.checks.proofs.Search.{partsTouch, locationsTouch, search_is, no_part, no-location, parts-few, all_asked, BoxesLeft, asked-left, one_less, none_left, part-more, location-more, found}
-use Rattle.checks.proofs.Touched.{BoxRead, touch-ready, touched-is}
+use Rattle.checks.proofs.Parts.{part_ready, part_is}
+use Rattle.checks.proofs.Search.{parts_touch, locations_touch, search_is, no_part, no_location, parts_few, all_asked, BoxesLeft, asked_left, one_less, none_left, part_more, location_more, found}
+use Rattle.checks.proofs.Touched.{BoxRead, touch_ready, touched_is}
 use Rattle.checks.proofs.touch.touching.Statement.{statement}
 use Rattle.checks.proofs.touch.touching.Tie as tie
 
@@ -34,13 +34,13 @@ abbrev decreases-boxes : tie.decreases-boxes
 decreases-boxes model places last before table locations n found₀ l inv rate earlier parts p bounds b₀ found b = b
 
 abbrev invariant-parts : tie.invariant-parts
-invariant-parts model places last before table locations n start found₀ l inv rate earlier parts p₀ found p = (p ≤ parts) × (partsTouch model table l p ≡ false) × (found ≡ false)
+invariant-parts model places last before table locations n start found₀ l inv rate earlier parts p₀ found p = (p ≤ parts) × (parts_touch model table l p ≡ false) × (found ≡ false)
 
 abbrev decreases-parts : tie.decreases-parts
 decreases-parts model places last before table locations n start found₀ l inv rate earlier parts p₀ found p = parts - p
 
 abbrev invariant-search : tie.invariant-search
-invariant-search model places last before table locations n start₀ found₀ l₀ start found l = (length start ≡ 13) × (l ≤ L# model) × (locationsTouch model table l ≡ false) × (found ≡ false)
+invariant-search model places last before table locations n start₀ found₀ l₀ start found l = (length start ≡ 13) × (l ≤ L# model) × (locations_touch model table l ≡ false) × (found ≡ false)
 
 abbrev decreases-search : tie.decreases-search
 decreases-search model places last before table locations n start₀ found₀ l₀ start found l = L# model - l
@@ -50,14 +50,14 @@ decreases-search model places last before table locations n start₀ found₀ l�
 abbrev part-turn : tie.At-boxes invariant-boxes decreases-boxes invariant-parts decreases-parts invariant-search decreases-search → tie.In-parts invariant-boxes decreases-boxes invariant-parts decreases-parts invariant-search decreases-search
 part-turn c = c.before.before.before.before.before.before
 
-abbrev in-location : tie.After-parts-asked invariant-boxes decreases-boxes invariant-parts decreases-parts invariant-search decreases-search → tie.In-search invariant-boxes decreases-boxes invariant-parts decreases-parts invariant-search decreases-search
-in-location c = c.before.before.before.before.before.before
+abbrev in_location : tie.After-parts-asked invariant-boxes decreases-boxes invariant-parts decreases-parts invariant-search decreases-search → tie.In-search invariant-boxes decreases-boxes invariant-parts decreases-parts invariant-search decreases-search
+in_location c = c.before.before.before.before.before.before
 
 abbrev asked : tie.After-start2 invariant-boxes decreases-boxes invariant-parts decreases-parts invariant-search decreases-search → tie.After-parts-asked invariant-boxes decreases-boxes invariant-parts decreases-parts invariant-search decreases-search
 asked c = c.before.before.before
 
 abbrev location-turn : tie.At-parts invariant-boxes decreases-boxes invariant-parts decreases-parts invariant-search decreases-search → tie.In-search invariant-boxes decreases-boxes invariant-parts decreases-parts invariant-search decreases-search
-location-turn c = in-location (asked c.before)
+location-turn c = in_location (asked c.before)
 
 abbrev search-of : tie.At-boxes invariant-boxes decreases-boxes invariant-parts decreases-parts invariant-search decreases-search → tie.At-search invariant-boxes decreases-boxes invariant-parts decreases-parts invariant-search decreases-search
 search-of c = (location-turn (part-turn c).before).before
@@ -77,120 +77,120 @@ module _ (c : tie.At-search invariant-boxes decreases-boxes invariant-parts decr
   ok : Checked model table
   ok = record { ready = (start c).requires.0; valid = (start c).requires.2 }
 
-  model-ok : Passed model
-  model-ok = model-passed model table ok
+  model_ok : Passed model
+  model_ok = model_passed model table ok
 
-  n-is : c.before.variables.result ≡ n# model
-  n-is = c.before.variables.ensures
+  n_is : c.before.variables.result ≡ n# model
+  n_is = c.before.variables.ensures
 
-is-location : (c : tie.In-search invariant-boxes decreases-boxes invariant-parts decreases-parts invariant-search decreases-search) → c.before.search.l < L# (model c.before)
-is-location c = omega (arith, c.before.before.before.locations.ensures)
+is_location : (c : tie.In-search invariant-boxes decreases-boxes invariant-parts decreases-parts invariant-search decreases-search) → c.before.search.l < L# (model c.before)
+is_location c = omega (arith, c.before.before.before.locations.ensures)
 
-location-small : (c : tie.In-search invariant-boxes decreases-boxes invariant-parts decreases-parts invariant-search decreases-search) → c.before.search.l < 64
-location-small c = omega (arith, is-location c, (model-ok c.before).L-small)
+location_small : (c : tie.In-search invariant-boxes decreases-boxes invariant-parts decreases-parts invariant-search decreases-search) → c.before.search.l < 64
+location_small c = omega (arith, is_location c, (model_ok c.before).L_small)
 
 -- how many pieces stand before it, and before the next
-earlier-is : (c : tie.In-search invariant-boxes decreases-boxes invariant-parts decreases-parts invariant-search decreases-search) → get_or (start c.before).args.places.now c.before.search.l 0 ≡ piecesBefore (model c.before) c.before.search.l
-earlier-is c = (start c.before).pre.1.each c.before.search.l (omega (arith, is-location c))
+earlier_is : (c : tie.In-search invariant-boxes decreases-boxes invariant-parts decreases-parts invariant-search decreases-search) → get_or (start c.before).args.places.now c.before.search.l 0 ≡ pieces_before (model c.before) c.before.search.l
+earlier_is c = (start c.before).pre.1.each c.before.search.l (omega (arith, is_location c))
 
-next-is : (c : tie.In-search invariant-boxes decreases-boxes invariant-parts decreases-parts invariant-search decreases-search) → get_or (start c.before).args.places.now (c.before.search.l + 1) 0 ≡ piecesBefore (model c.before) (c.before.search.l + 1)
-next-is c = (start c.before).pre.1.each (c.before.search.l + 1) (omega (arith, is-location c))
+next_is : (c : tie.In-search invariant-boxes decreases-boxes invariant-parts decreases-parts invariant-search decreases-search) → get_or (start c.before).args.places.now (c.before.search.l + 1) 0 ≡ pieces_before (model c.before) (c.before.search.l + 1)
+next_is c = (start c.before).pre.1.each (c.before.search.l + 1) (omega (arith, is_location c))
 
-place-there : (c : tie.In-search invariant-boxes decreases-boxes invariant-parts decreases-parts invariant-search decreases-search) → c.before.search.l + 1 < length (start c.before).args.places.now
-place-there c = omega (arith, location-small c, (start c.before).pre.1.long)
+place_there : (c : tie.In-search invariant-boxes decreases-boxes invariant-parts decreases-parts invariant-search decreases-search) → c.before.search.l + 1 < length (start c.before).args.places.now
+place_there c = omega (arith, location_small c, (start c.before).pre.1.long)
 
 -- the last box of the location
-last_of : (c : tie.In-search invariant-boxes decreases-boxes invariant-parts decreases-parts invariant-search decreases-search) → get_or (start c.before).args.last.now c.before.search.l 0 ≡ lastBox (model c.before) c.before.search.l (B# (model c.before))
-last_of c = (start c.before).pre.3.last-is c.before.search.l (location-small c)
+last_of : (c : tie.In-search invariant-boxes decreases-boxes invariant-parts decreases-parts invariant-search decreases-search) → get_or (start c.before).args.last.now c.before.search.l 0 ≡ last_box (model c.before) c.before.search.l (B# (model c.before))
+last_of c = (start c.before).pre.3.last_is c.before.search.l (location_small c)
 
-last-there : (c : tie.In-search invariant-boxes decreases-boxes invariant-parts decreases-parts invariant-search decreases-search) → c.before.search.l < length (start c.before).args.last.now
-last-there c = omega (arith, location-small c, (start c.before).pre.3.last-long)
+last_there : (c : tie.In-search invariant-boxes decreases-boxes invariant-parts decreases-parts invariant-search decreases-search) → c.before.search.l < length (start c.before).args.last.now
+last_there c = omega (arith, location_small c, (start c.before).pre.3.last_long)
 
 -- the words held for start parts stay 13
-start-long : (c : tie.After-start2 invariant-boxes decreases-boxes invariant-parts decreases-parts invariant-search decreases-search) → length c.before.start-words.new.1.1.1.0 ≡ 13
-start-long c = c.before.start-words.auto.1.1.1.0 ∙ (in-location (asked c)).before.search.inv.0
+start_long : (c : tie.After-start2 invariant-boxes decreases-boxes invariant-parts decreases-parts invariant-search decreases-search) → length c.before.start-words.new.1.1.1.0 ≡ 13
+start_long c = c.before.start-words.auto.1.1.1.0 ∙ (in_location (asked c)).before.search.inv.0
 
 -- the parts that are asked
-few : (c : tie.After-parts-asked invariant-boxes decreases-boxes invariant-parts decreases-parts invariant-search decreases-search) → let i = (in-location c).before in c.parts-asked.result ≤ suc (pieces (model i) i.search.l)
-few c = let i = in-location c in parts-few (model i.before) (table i.before) i.before.search.l (earlier-is i) (next-is i) (last_of i) c.parts-asked.ensures
+few : (c : tie.After-parts-asked invariant-boxes decreases-boxes invariant-parts decreases-parts invariant-search decreases-search) → let i = (in_location c).before in c.parts-asked.result ≤ suc (pieces (model i) i.search.l)
+few c = let i = in_location c in parts_few (model i.before) (table i.before) i.before.search.l (earlier_is i) (next_is i) (last_of i) c.parts-asked.ensures
 
-all-parts : (c : tie.After-parts-asked invariant-boxes decreases-boxes invariant-parts decreases-parts invariant-search decreases-search) → let i = (in-location c).before in (p : ℕ) → p ≤ c.parts-asked.result → c.parts-asked.result ≤ p → partsTouch (model i) (table i) i.search.l p ≡ false → partsTouch (model i) (table i) i.search.l (suc (pieces (model i) i.search.l)) ≡ false
-all-parts c = let i = in-location c in all_asked (model i.before) (table i.before) i.before.search.l (earlier-is i) (next-is i) (last_of i) c.parts-asked.ensures
+all_parts : (c : tie.After-parts-asked invariant-boxes decreases-boxes invariant-parts decreases-parts invariant-search decreases-search) → let i = (in_location c).before in (p : ℕ) → p ≤ c.parts-asked.result → c.parts-asked.result ≤ p → parts_touch (model i) (table i) i.search.l p ≡ false → parts_touch (model i) (table i) i.search.l (suc (pieces (model i) i.search.l)) ≡ false
+all_parts c = let i = in_location c in all_asked (model i.before) (table i.before) i.before.search.l (earlier_is i) (next_is i) (last_of i) c.parts-asked.ensures
 
-is-part : (c : tie.In-parts invariant-boxes decreases-boxes invariant-parts decreases-parts invariant-search decreases-search) → let i = (location-turn c.before).before in c.before.parts.p ≤ pieces (model i) i.search.l
-is-part c = omega (arith, c.parts-test.true, few (asked c.before.before))
+is_part : (c : tie.In-parts invariant-boxes decreases-boxes invariant-parts decreases-parts invariant-search decreases-search) → let i = (location-turn c.before).before in c.before.parts.p ≤ pieces (model i) i.search.l
+is_part c = omega (arith, c.parts-test.true, few (asked c.before.before))
 
 -- the box of the part
-bounds-are : (c : tie.After-box-at invariant-boxes decreases-boxes invariant-parts decreases-parts invariant-search decreases-search) → c.box-at.result.now ≡ boxAt (n# (model (location-turn c.before.before.before.before).before)) c.before.part_at.result.now 1
-bounds-are c = c.box-at.ensures ∙ ap (λ (n : ℕ). boxAt n c.before.part_at.result.now 1) (n-is (location-turn c.before.before.before.before).before)
+bounds_are : (c : tie.After-box-at invariant-boxes decreases-boxes invariant-parts decreases-parts invariant-search decreases-search) → c.box-at.result.now ≡ box_at (n# (model (location-turn c.before.before.before.before).before)) c.before.part_at.result.now 1
+bounds_are c = c.box-at.ensures ∙ ap (λ (n : ℕ). box_at n c.before.part_at.result.now 1) (n_is (location-turn c.before.before.before.before).before)
 
-is-box : (c : tie.In-boxes invariant-boxes decreases-boxes invariant-parts decreases-parts invariant-search decreases-search) → c.before.boxes.b - 1 < B# (model (search-of c.before))
-is-box c = omega (arith, c.before.boxes.invariant.0.within)
+is_box : (c : tie.In-boxes invariant-boxes decreases-boxes invariant-parts decreases-parts invariant-search decreases-search) → c.before.boxes.b - 1 < B# (model (search-of c.before))
+is_box c = omega (arith, c.before.boxes.invariant.0.within)
 
-box-small : (c : tie.In-boxes invariant-boxes decreases-boxes invariant-parts decreases-parts invariant-search decreases-search) → c.before.boxes.b - 1 < 64
-box-small c = omega (arith, is-box c, (model-ok (search-of c.before)).B-small)
+box_small : (c : tie.In-boxes invariant-boxes decreases-boxes invariant-parts decreases-parts invariant-search decreases-search) → c.before.boxes.b - 1 < 64
+box_small c = omega (arith, is_box c, (model_ok (search-of c.before)).B_small)
 
-before-there : (c : tie.In-boxes invariant-boxes decreases-boxes invariant-parts decreases-parts invariant-search decreases-search) → c.before.boxes.b - 1 < length (start (search-of c.before)).args.before.now
-before-there c = omega (arith, box-small c, (start (search-of c.before)).pre.3.before-long)
+before_there : (c : tie.In-boxes invariant-boxes decreases-boxes invariant-parts decreases-parts invariant-search decreases-search) → c.before.boxes.b - 1 < length (start (search-of c.before)).args.before.now
+before_there c = omega (arith, box_small c, (start (search-of c.before)).pre.3.before_long)
 
-box-before : (c : tie.In-boxes invariant-boxes decreases-boxes invariant-parts decreases-parts invariant-search decreases-search) → let i = search-of c.before in let b = c.before.boxes.b - 1 in get_or (start i).args.before.now b 0 ≡ lastBox (model i) (forbiddenLocation (model i) b) b
-box-before c = (start (search-of c.before)).pre.3.before-is (c.before.boxes.b - 1) (is-box c)
+box_before : (c : tie.In-boxes invariant-boxes decreases-boxes invariant-parts decreases-parts invariant-search decreases-search) → let i = search-of c.before in let b = c.before.boxes.b - 1 in get_or (start i).args.before.now b 0 ≡ last_box (model i) (forbidden_location (model i) b) b
+box_before c = (start (search-of c.before)).pre.3.before_is (c.before.boxes.b - 1) (is_box c)
 
 box_read : (c : tie.After-forbidden-box invariant-boxes decreases-boxes invariant-parts decreases-parts invariant-search decreases-search) → let j = (part-turn c.before.before).before in let i = search-of c.before.before in BoxRead (model i) i.search.l (c.before.before.boxes.b - 1) i.before.variables.result (asked j.before).before.before.before.before.before.invariant.result.now (asked j.before).before.before.before.before.rate.result.now c.forbidden-box.result.now
 box_read c = record {
-  n-is = n-is (search-of c.before.before);
-  inv-is = (asked (part-turn c.before.before).before.before).before.before.before.before.before.invariant.ensures;
-  rate-is = (asked (part-turn c.before.before).before.before).before.before.before.before.rate.ensures;
-  box-is = c.forbidden-box.ensures;
-  of-location = c.before.before.boxes.invariant.0.own (omega arith);
+  n_is = n_is (search-of c.before.before);
+  inv_is = (asked (part-turn c.before.before).before.before).before.before.before.before.before.invariant.ensures;
+  rate_is = (asked (part-turn c.before.before).before.before).before.before.before.before.rate.ensures;
+  box_is = c.forbidden-box.ensures;
+  of_location = c.before.before.boxes.invariant.0.own (omega arith);
 }
 
-touched : (c : tie.After-touches invariant-boxes decreases-boxes invariant-parts decreases-parts invariant-search decreases-search) → let k = c.before.before.before in let i = search-of k in c.touches.result ≡ partTouches (model i) i.search.l (k.boxes.b - 1) (part_of (model i) (table i) i.search.l (part-turn k).before.parts.p)
+touched : (c : tie.After-touches invariant-boxes decreases-boxes invariant-parts decreases-parts invariant-search decreases-search) → let k = c.before.before.before in let i = search-of k in c.touches.result ≡ part_touches (model i) i.search.l (k.boxes.b - 1) (part_of (model i) (table i) i.search.l (part-turn k).before.parts.p)
 touched c =
     let k = c.before.before.before in
     let i = search-of k in
-    touched-is (model i) (table i) i.search.l (k.boxes.b - 1) (part-turn k).before.parts.p (box_read c.before) (k.boxes.invariant.0.there (omega arith)) c.touches.ensures
+    touched_is (model i) (table i) i.search.l (k.boxes.b - 1) (part-turn k).before.parts.p (box_read c.before) (k.boxes.invariant.0.there (omega arith)) c.touches.ensures
 
-locations-requires :
+locations_requires :
     tie.Need-locations-requires invariant-boxes decreases-boxes invariant-parts decreases-parts invariant-search decreases-search
-locations-requires c κs = let s = c.before.before.before in (whole s.args.model.now s.requires.0.passes).head
+locations_requires c κs = let s = c.before.before.before in (whole s.args.model.now s.requires.0.passes).head
 
-variables-requires :
+variables_requires :
     tie.Need-variables-requires invariant-boxes decreases-boxes invariant-parts decreases-parts invariant-search decreases-search
-variables-requires c κs = let s = c.before.before.before.before in (whole s.args.model.now s.requires.0.passes).head
+variables_requires c κs = let s = c.before.before.before.before in (whole s.args.model.now s.requires.0.passes).head
 
 search-holds : tie.Need-search-init invariant-boxes decreases-boxes invariant-parts decreases-parts invariant-search decreases-search
-search-holds c = (refl, omega arith, no-location _ _, refl)
+search-holds c = (refl, omega arith, no_location _ _, refl)
 
-invariant-requires :
+invariant_requires :
     tie.Need-invariant-requires invariant-boxes decreases-boxes invariant-parts decreases-parts invariant-search decreases-search
-invariant-requires c κs = (whole _ (ok c.before).ready.passes, is-location c)
+invariant_requires c κs = (whole _ (ok c.before).ready.passes, is_location c)
 
 rate-requires : tie.Need-rate-requires invariant-boxes decreases-boxes invariant-parts decreases-parts invariant-search decreases-search
-rate-requires c κs = (whole _ (ok c.before.before).ready.passes, is-location c.before)
+rate-requires c κs = (whole _ (ok c.before.before).ready.passes, is_location c.before)
 
 mul-earlier : tie.Need-overflow-mul-earlier invariant-boxes decreases-boxes invariant-parts decreases-parts invariant-search decreases-search
-mul-earlier c = record { fits = omega (arith, location-small c.before.before) }
+mul-earlier c = record { fits = omega (arith, location_small c.before.before) }
 
-shared-slice-read-earlier :
+shared_slice_read_earlier :
     tie.Need-shared-slice-read-earlier invariant-boxes decreases-boxes invariant-parts decreases-parts invariant-search decreases-search
-shared-slice-read-earlier c = omega (arith, place-there c.before.before.before)
+shared_slice_read_earlier c = omega (arith, place_there c.before.before.before)
 
 add-parts-asked : tie.Need-overflow-add-parts-asked invariant-boxes decreases-boxes invariant-parts decreases-parts invariant-search decreases-search
-add-parts-asked c = record { fits = omega (arith, location-small c.before.before.before) }
+add-parts-asked c = record { fits = omega (arith, location_small c.before.before.before) }
 
 mul-parts-asked : tie.Need-overflow-mul-parts-asked invariant-boxes decreases-boxes invariant-parts decreases-parts invariant-search decreases-search
-mul-parts-asked c = record { fits = omega (arith, location-small c.before.before.before) }
+mul-parts-asked c = record { fits = omega (arith, location_small c.before.before.before) }
 
-shared-slice-read-parts-asked :
+shared_slice_read_parts_asked :
     tie.Need-shared-slice-read-parts-asked invariant-boxes decreases-boxes invariant-parts decreases-parts invariant-search decreases-search
-shared-slice-read-parts-asked c = place-there c.before.before.before.before
+shared_slice_read_parts_asked c = place_there c.before.before.before.before
 
-mul-parts-asked-2 :
+mul_parts_asked_2 :
     tie.Need-overflow-mul-parts-asked-2 invariant-boxes decreases-boxes invariant-parts decreases-parts invariant-search decreases-search
-mul-parts-asked-2 c = record { fits = omega (arith, location-small c.before.before.before.before) }
+mul_parts_asked_2 c = record { fits = omega (arith, location_small c.before.before.before.before) }
 
-shared-slice-read-parts-asked-2 :
+shared_slice_read_parts_asked_2 :
     tie.Need-shared-slice-read-parts-asked-2
     invariant-boxes
     decreases-boxes
@@ -198,107 +198,107 @@ shared-slice-read-parts-asked-2 :
     decreases-parts
     invariant-search
     decreases-search
-shared-slice-read-parts-asked-2 c = last-there c.before.before.before.before.before
+shared_slice_read_parts_asked_2 c = last_there c.before.before.before.before.before
 
-parts-asked-requires :
+parts_asked_requires :
     tie.Need-parts-asked-requires invariant-boxes decreases-boxes invariant-parts decreases-parts invariant-search decreases-search
-parts-asked-requires c κs =
+parts_asked_requires c κs =
     let i = c.before.before.before.before.before in
     let m = model i.before in
     let l = i.before.search.l in
-    (omega (arith, earlier-is i, next-is i, before_more m l), omega (arith, next-is i, before-most m (whole _ (ok i.before).ready.passes).head (l + 1) (omega (arith, is-location i))))
+    (omega (arith, earlier_is i, next_is i, before_more m l), omega (arith, next_is i, before_most m (whole _ (ok i.before).ready.passes).head (l + 1) (omega (arith, is_location i))))
 
-slice-aggregate-start-words :
+slice_aggregate_start_words :
     tie.Need-slice-aggregate-start-words invariant-boxes decreases-boxes invariant-parts decreases-parts invariant-search decreases-search
-slice-aggregate-start-words c = search rules
+slice_aggregate_start_words c = search rules
 
-start-words-requires :
+start_words_requires :
     tie.Need-start-words-requires invariant-boxes decreases-boxes invariant-parts decreases-parts invariant-search decreases-search
-start-words-requires c κs = let i = in-location c.before in ((ok i.before).ready.passes, is-location i, i.before.search.inv.0)
+start_words_requires c κs = let i = in_location c.before in ((ok i.before).ready.passes, is_location i, i.before.search.inv.0)
 
 parts-holds : tie.Need-parts-init invariant-boxes decreases-boxes invariant-parts decreases-parts invariant-search decreases-search
-parts-holds c = (omega arith, no_part _ _ _, (in-location (asked c)).before.search.inv.3)
+parts-holds c = (omega arith, no_part _ _ _, (in_location (asked c)).before.search.inv.3)
 
-slice-aggregate-part-at :
+slice_aggregate_part_at :
     tie.Need-slice-aggregate-part-at invariant-boxes decreases-boxes invariant-parts decreases-parts invariant-search decreases-search
-slice-aggregate-part-at c = search rules
+slice_aggregate_part_at c = search rules
 
-part-at-requires :
+part_at_requires :
     tie.Need-part-at-requires invariant-boxes decreases-boxes invariant-parts decreases-parts invariant-search decreases-search
-part-at-requires c κs =
+part_at_requires c κs =
     let j = c.before.before in
     let i = location-turn j in
     let m = model i.before in
-    part-ready m (table i.before) i.before.search.l j.parts.p (is-location i) (is-part c.before) (ok i.before).ready.room (model-ok i.before).n-small j.before.before.start-words.new.1.1.1.0 (start-long j.before) (n-is i.before) (earlier-is i)
-    (omega (arith, earlier-is i, before-most m (whole _ (ok i.before).ready.passes).head i.before.search.l (omega (arith, is-location i))))
+    part_ready m (table i.before) i.before.search.l j.parts.p (is_location i) (is_part c.before) (ok i.before).ready.room (model_ok i.before).n_small j.before.before.start-words.new.1.1.1.0 (start_long j.before) (n_is i.before) (earlier_is i)
+    (omega (arith, earlier_is i, before_most m (whole _ (ok i.before).ready.passes).head i.before.search.l (omega (arith, is_location i))))
 
 -- the words of the part
-part-words : (c : tie.After-part-at invariant-boxes decreases-boxes invariant-parts decreases-parts invariant-search decreases-search) → let j = c.before.before.before in let i = location-turn j in IsPart (n# (model i.before)) c.part_at.result.now (part_of (model i.before) (table i.before) i.before.search.l j.parts.p)
-part-words c =
+part_words : (c : tie.After-part-at invariant-boxes decreases-boxes invariant-parts decreases-parts invariant-search decreases-search) → let j = c.before.before.before in let i = location-turn j in IsPart (n# (model i.before)) c.part_at.result.now (part_of (model i.before) (table i.before) i.before.search.l j.parts.p)
+part_words c =
     let j = c.before.before.before in
     let i = location-turn j in
     let m = model i.before in
-    part-is m (table i.before) i.before.search.l (is-location i) (ok i.before).ready.room (model-ok i.before).n-small _ (start-long j.before) (j.before.before.start-words.ensures (omega (arith, c.before.before.parts-test.true))) (n-is i.before) (earlier-is i) j.parts.p (is-part c.before.before) c.part_at.ensures
+    part_is m (table i.before) i.before.search.l (is_location i) (ok i.before).ready.room (model_ok i.before).n_small _ (start_long j.before) (j.before.before.start-words.ensures (omega (arith, c.before.before.parts-test.true))) (n_is i.before) (earlier_is i) j.parts.p (is_part c.before.before) c.part_at.ensures
 
 box-at-requires : tie.Need-box-at-requires invariant-boxes decreases-boxes invariant-parts decreases-parts invariant-search decreases-search
-box-at-requires c κs = let i = (location-turn c.before.before.before).before in omega (arith, n-is i, (part-words c).sized)
+box-at-requires c κs = let i = (location-turn c.before.before.before).before in omega (arith, n_is i, (part_words c).sized)
 
 mul-first-asked : tie.Need-overflow-mul-first-asked invariant-boxes decreases-boxes invariant-parts decreases-parts invariant-search decreases-search
-mul-first-asked c = record { fits = omega (arith, location-small (location-turn c.before.before.before.before)) }
+mul-first-asked c = record { fits = omega (arith, location_small (location-turn c.before.before.before.before)) }
 
-shared-slice-read-first-asked :
+shared_slice_read_first_asked :
     tie.Need-shared-slice-read-first-asked invariant-boxes decreases-boxes invariant-parts decreases-parts invariant-search decreases-search
-shared-slice-read-first-asked c = last-there (location-turn c.before.before.before.before.before)
+shared_slice_read_first_asked c = last_there (location-turn c.before.before.before.before.before)
 
-first-asked-requires :
+first_asked_requires :
     tie.Need-first-asked-requires invariant-boxes decreases-boxes invariant-parts decreases-parts invariant-search decreases-search
-first-asked-requires c κs = omega (arith, (part-words c.before.before).sized)
+first_asked_requires c κs = omega (arith, (part_words c.before.before).sized)
 
 boxes-holds : tie.Need-boxes-init invariant-boxes decreases-boxes invariant-parts decreases-parts invariant-search decreases-search
 boxes-holds c =
     let j = c.before.before.before.before.before.before in
     let i = location-turn j in
-    (asked-left (model i.before) (table i.before) i.before.search.l j.parts.p (part-words c.before.before.before) (bounds-are c.before.before) (last_of i) c.first-asked.ensures, j.parts.invariant.2)
+    (asked_left (model i.before) (table i.before) i.before.search.l j.parts.p (part_words c.before.before.before) (bounds_are c.before.before) (last_of i) c.first-asked.ensures, j.parts.invariant.2)
 
-sub-forbidden-box :
+sub_forbidden_box :
     tie.Need-overflow-sub-forbidden-box invariant-boxes decreases-boxes invariant-parts decreases-parts invariant-search decreases-search
-sub-forbidden-box c = omega arith
+sub_forbidden_box c = omega arith
 
-forbidden-box-requires :
+forbidden_box_requires :
     tie.Need-forbidden-box-requires invariant-boxes decreases-boxes invariant-parts decreases-parts invariant-search decreases-search
-forbidden-box-requires c κs = (whole _ (ok (search-of c.before)).ready.passes, is-box c)
+forbidden_box_requires c κs = (whole _ (ok (search-of c.before)).ready.passes, is_box c)
 
-touches-requires :
+touches_requires :
     tie.Need-touches-requires invariant-boxes decreases-boxes invariant-parts decreases-parts invariant-search decreases-search
-touches-requires c κs =
+touches_requires c κs =
     let k = c.before.before in
     let i = search-of k in
-    touch-ready (model i) (table i) i.search.l (k.boxes.b - 1) (part-turn k).before.parts.p (box_read c) (k.boxes.invariant.0.there (omega arith)) (ok i) (is-location (location-turn (part-turn k).before)) (is-box c.before) (is-part (part-turn k))
+    touch_ready (model i) (table i) i.search.l (k.boxes.b - 1) (part-turn k).before.parts.p (box_read c) (k.boxes.invariant.0.there (omega arith)) (ok i) (is_location (location-turn (part-turn k).before)) (is_box c.before) (is_part (part-turn k))
 
 sub-b : tie.Need-overflow-sub-b invariant-boxes decreases-boxes invariant-parts decreases-parts invariant-search decreases-search
 sub-b c = omega arith
 
 mul-b : tie.Need-overflow-mul-b invariant-boxes decreases-boxes invariant-parts decreases-parts invariant-search decreases-search
-mul-b c = record { fits = omega (arith, box-small c.before.before.before) }
+mul-b c = record { fits = omega (arith, box_small c.before.before.before) }
 
-shared-slice-read-b :
+shared_slice_read_b :
     tie.Need-shared-slice-read-b invariant-boxes decreases-boxes invariant-parts decreases-parts invariant-search decreases-search
-shared-slice-read-b c = before-there c.before.before.before.before
+shared_slice_read_b c = before_there c.before.before.before.before
 
 boxes-less : tie.Need-boxes-smaller invariant-boxes decreases-boxes invariant-parts decreases-parts invariant-search decreases-search
 boxes-less c =
     let k = c.before.before.before.before in
     let i = search-of k.before in
-    omega (arith, box-before k, last_within (model i) (forbiddenLocation (model i) (k.before.boxes.b - 1)) (k.before.boxes.b - 1))
+    omega (arith, box_before k, last_within (model i) (forbidden_location (model i) (k.before.boxes.b - 1)) (k.before.boxes.b - 1))
 
 boxes-again : tie.Need-boxes-preserved invariant-boxes decreases-boxes invariant-parts decreases-parts invariant-search decreases-search
 boxes-again c =
     let k = c.before.before.before.before in
     let i = search-of k.before in
-    (one_less (model i) (table i) i.search.l (part-turn k.before).before.parts.p k.before.boxes.invariant.0 (omega arith) (sym (touched c.before.before) ∙ c.before.if1.false) (box-before k), k.before.boxes.invariant.1)
+    (one_less (model i) (table i) i.search.l (part-turn k.before).before.parts.p k.before.boxes.invariant.0 (omega arith) (sym (touched c.before.before) ∙ c.before.if1.false) (box_before k), k.before.boxes.invariant.1)
 
 add-p : tie.Need-overflow-add-p invariant-boxes decreases-boxes invariant-parts decreases-parts invariant-search decreases-search
-add-p c = let j = part-turn c.before in let i = search-of c.before in record { fits = omega (arith, is-part j, pieces-most (model i) i.search.l (model-ok i).n-small) }
+add-p c = let j = part-turn c.before in let i = search-of c.before in record { fits = omega (arith, is_part j, pieces-most (model i) i.search.l (model_ok i).n_small) }
 
 parts-less : tie.Need-parts-smaller invariant-boxes decreases-boxes invariant-parts decreases-parts invariant-search decreases-search
 parts-less c = omega (arith, (part-turn c.before).parts-test.taken)
@@ -307,31 +307,31 @@ parts_again : tie.Need-parts-preserved invariant-boxes decreases-boxes invariant
 parts_again c =
     let j = (part-turn c.before).before in
     let i = search-of c.before in
-    (omega (arith, (part-turn c.before).parts-test.taken), part-more (model i) (table i) i.search.l j.parts.p j.parts.inv.1 (none_left (model i) (table i) i.search.l j.parts.p c.before.boxes.invariant.0 (omega arith)), c.before.boxes.invariant.1)
+    (omega (arith, (part-turn c.before).parts-test.taken), part_more (model i) (table i) i.search.l j.parts.p j.parts.inv.1 (none_left (model i) (table i) i.search.l j.parts.p c.before.boxes.invariant.0 (omega arith)), c.before.boxes.invariant.1)
 
 add-l : tie.Need-overflow-add-l invariant-boxes decreases-boxes invariant-parts decreases-parts invariant-search decreases-search
-add-l c = record { fits = omega (arith, location-small (location-turn c.before)) }
+add-l c = record { fits = omega (arith, location_small (location-turn c.before)) }
 
 search-less : tie.Need-search-smaller invariant-boxes decreases-boxes invariant-parts decreases-parts invariant-search decreases-search
-search-less c = omega (arith, is-location (location-turn c.before))
+search-less c = omega (arith, is_location (location-turn c.before))
 
 search-again : tie.Need-search-preserved invariant-boxes decreases-boxes invariant-parts decreases-parts invariant-search decreases-search
 search-again c =
     let i = (location-turn c.before).before in
-    (start-long c.before.before, omega (arith, is-location (location-turn c.before)), location-more (model i) (table i) i.search.l i.search.inv.2 (all-parts (asked c.before.before) c.before.parts.p c.before.parts.invariant.0 (omega (arith, c.parts-test.false)) c.before.parts.invariant.1), c.before.parts.invariant.2)
+    (start_long c.before.before, omega (arith, is_location (location-turn c.before)), location_more (model i) (table i) i.search.l i.search.inv.2 (all_parts (asked c.before.before) c.before.parts.p c.before.parts.invariant.0 (omega (arith, c.parts-test.false)) c.before.parts.invariant.1), c.before.parts.invariant.2)
 
 returns : tie.Need-returns invariant-boxes decreases-boxes invariant-parts decreases-parts invariant-search decreases-search
 returns c =
     let i = c.before in
     let all : i.search.l ≡ L# (model i) = omega (arith, i.before.before.locations.ensures) in
-    i.search.invariant.3 ∙ sym (subst (λ (k : ℕ). locationsTouch (model i) (table i) k ≡ false) all i.search.invariant.2) ∙ search_is (model i) (table i)
+    i.search.invariant.3 ∙ sym (subst (λ (k : ℕ). locations_touch (model i) (table i) k ≡ false) all i.search.invariant.2) ∙ search_is (model i) (table i)
 
-returns-2 : tie.Need-returns-2 invariant-boxes decreases-boxes invariant-parts decreases-parts invariant-search decreases-search
-returns-2 c =
+returns_2 : tie.Need-returns-2 invariant-boxes decreases-boxes invariant-parts decreases-parts invariant-search decreases-search
+returns_2 c =
     let k = c.before.before.before in
     let j = part-turn k.before in
     let i = search-of k.before in
-    sym (found (model i) (table i) i.search.l j.before.parts.p (k.before.boxes.b - 1) (is-location (location-turn j.before)) (omega (arith, is-part j)) (is-box k) (sym (touched c.before) ∙ c.if1.true))
+    sym (found (model i) (table i) i.search.l j.before.parts.p (k.before.boxes.b - 1) (is_location (location-turn j.before)) (omega (arith, is_part j)) (is_box k) (sym (touched c.before) ∙ c.if1.true))
 
 pub touching-spec : {M : Type 1} → statement M
 touching-spec =
@@ -343,35 +343,35 @@ touching-spec =
     decreases-parts
     invariant-search
     decreases-search
-    locations-requires
-    variables-requires
+    locations_requires
+    variables_requires
     search-holds
-    invariant-requires
+    invariant_requires
     rate-requires
     mul-earlier
-    shared-slice-read-earlier
+    shared_slice_read_earlier
     add-parts-asked
     mul-parts-asked
-    shared-slice-read-parts-asked
-    mul-parts-asked-2
-    shared-slice-read-parts-asked-2
-    parts-asked-requires
-    slice-aggregate-start-words
-    start-words-requires
+    shared_slice_read_parts_asked
+    mul_parts_asked_2
+    shared_slice_read_parts_asked_2
+    parts_asked_requires
+    slice_aggregate_start_words
+    start_words_requires
     parts-holds
-    slice-aggregate-part-at
-    part-at-requires
+    slice_aggregate_part_at
+    part_at_requires
     box-at-requires
     mul-first-asked
-    shared-slice-read-first-asked
-    first-asked-requires
+    shared_slice_read_first_asked
+    first_asked_requires
     boxes-holds
-    sub-forbidden-box
-    forbidden-box-requires
-    touches-requires
+    sub_forbidden_box
+    forbidden_box_requires
+    touches_requires
     sub-b
     mul-b
-    shared-slice-read-b
+    shared_slice_read_b
     boxes-less
     boxes-again
     add-p
@@ -381,4 +381,4 @@ touching-spec =
     search-less
     search-again
     returns
-    returns-2)
+    returns_2)

@@ -7,20 +7,20 @@ use lib.IntN.{ℤ}
 use Rattle.integers.specs.Counted.{all_below}
 use Rattle.integers.proofs.Signed.{got32}
 use Rattle.plant.specs.Pieces.{pieces}
-use Rattle.plant.specs.Tables.{piece_at, pieceOk}
+use Rattle.plant.specs.Tables.{piece_at, piece_ok}
 use Rattle.plant.proofs.Tables.{pieces-most}
-use Rattle.tables.proofs.Sizes.{before-most}
+use Rattle.tables.proofs.Sizes.{before_most}
 use Rattle.plant.proofs.Passed.{Passed, passed}
 use Rattle.plant.proofs.Passing.{whole}
-use Rattle.passes.proofs.PartWords.{place_is, piece-end, piece-part}
+use Rattle.passes.proofs.PartWords.{place_is, piece_end, piece_part}
 use Rattle.checks.proofs.Loops.{all_none, all_more}
-use Rattle.checks.proofs.Extents.{LocationRead, count-is, location-ready}
-use Rattle.checks.proofs.Pieces.{piece-asked}
+use Rattle.checks.proofs.Extents.{LocationRead, count_is, location_ready}
+use Rattle.checks.proofs.Pieces.{piece_asked}
 use Rattle.checks.proofs.valid.location_ok.Statement.{statement}
 use Rattle.checks.proofs.valid.location_ok.Tie as tie
 
 abbrev invariant-loop : tie.invariant-loop
-invariant-loop model table l earlier n inv c variable value count ok₀ q₀ ok q = (q ≤ pieces model l) × (ok ≡ all_below q (pieceOk model table l))
+invariant-loop model table l earlier n inv c variable value count ok₀ q₀ ok q = (q ≤ pieces model l) × (ok ≡ all_below q (piece_ok model table l))
 
 abbrev decreases-loop : tie.decreases-loop
 decreases-loop model table l earlier n inv c variable value count ok₀ q₀ ok q = count - q
@@ -40,29 +40,29 @@ module _ (c : Read) where
   abbrev model : List ℤ
   model = start.args.model.now
 
-  model-ok : Passed model
-  model-ok = passed model start.pre.0.passes
+  model_ok : Passed model
+  model_ok = passed model start.pre.0.passes
 
   read : LocationRead model start.args.l c.before.before.before.before.variables.result c.before.before.before.invariant.result.now c.before.before.per-face.result c.before.cut-variable.result c.cut-value.result
   read = record {
-    n-is = c.before.before.before.before.variables.ensures;
-    inv-is = c.before.before.before.invariant.ensures;
-    c-is = c.before.before.per-face.ensures;
-    variable-is = c.before.cut-variable.ensures;
-    value-is = c.cut-value.ensures;
+    n_is = c.before.before.before.before.variables.ensures;
+    inv_is = c.before.before.before.invariant.ensures;
+    c_is = c.before.before.per-face.ensures;
+    variable_is = c.before.cut-variable.ensures;
+    value_is = c.cut-value.ensures;
   }
 
-is-piece : (c : Piece) → c.before.loop.q < pieces (model c.before.before) (start c.before.before).args.l
-is-piece c = omega (arith, c.loop-test.true, count-is (read c.before.before))
+is_piece : (c : Piece) → c.before.loop.q < pieces (model c.before.before) (start c.before.before).args.l
+is_piece c = omega (arith, c.loop-test.true, count_is (read c.before.before))
 
-place : (c : tie.After-piece-at invariant-loop decreases-loop) → c.piece-at.result ≡ piece_at (model c.before.before.before) (start c.before.before.before).args.l c.before.before.loop.q
-place c = let r = c.before.before.before in place_is (model r) (start r).args.l _ (read r).n-is (start r).requires.2 c.piece-at.ensures
+place : (c : tie.After-piece-at invariant-loop decreases-loop) → c.piece_at.result ≡ piece_at (model c.before.before.before) (start c.before.before.before).args.l c.before.before.loop.q
+place c = let r = c.before.before.before in place_is (model r) (start r).args.l _ (read r).n_is (start r).requires.2 c.piece_at.ensures
 
-variables-requires : tie.Need-variables-requires invariant-loop decreases-loop
-variables-requires c κs = (whole c.args.model.now c.requires.0.passes).head
+variables_requires : tie.Need-variables-requires invariant-loop decreases-loop
+variables_requires c κs = (whole c.args.model.now c.requires.0.passes).head
 
-invariant-requires : tie.Need-invariant-requires invariant-loop decreases-loop
-invariant-requires c κs = let s = c.before in (whole s.args.model.now s.requires.0.passes, s.requires.1)
+invariant_requires : tie.Need-invariant-requires invariant-loop decreases-loop
+invariant_requires c κs = let s = c.before in (whole s.args.model.now s.requires.0.passes, s.requires.1)
 
 per-face-requires : tie.Need-per-face-requires invariant-loop decreases-loop
 per-face-requires c κs = let s = c.before.before in (whole s.args.model.now s.requires.0.passes, s.requires.1)
@@ -74,10 +74,10 @@ cut-value-requires : tie.Need-cut-value-requires invariant-loop decreases-loop
 cut-value-requires c κs = let s = c.before.before.before.before in (whole s.args.model.now s.requires.0.passes, s.requires.1)
 
 mul-count : tie.Need-overflow-mul-count invariant-loop decreases-loop
-mul-count c = record { fits = omega (arith, (read c).n-is, (model-ok c).n-small) }
+mul-count c = record { fits = omega (arith, (read c).n_is, (model_ok c).n_small) }
 
 mul-count-2 : tie.Need-overflow-mul-count-2 invariant-loop decreases-loop
-mul-count-2 c = record { fits = omega (arith, count-is (read c), pieces-most (model c) (start c).args.l (model-ok c).n-small) }
+mul-count-2 c = record { fits = omega (arith, count_is (read c), pieces-most (model c) (start c).args.l (model_ok c).n_small) }
 
 loop-holds : tie.Need-loop-init invariant-loop decreases-loop
 loop-holds c = (omega arith, all_none _)
@@ -86,24 +86,24 @@ piece-at-requires : tie.Need-piece-at-requires invariant-loop decreases-loop
 piece-at-requires c κs =
     let r = c.before.before in
     let h = (whole (model r) (start r).requires.0.passes).head in
-    (omega (arith, (start r).requires.2, before-most (model r) h (start r).args.l (omega (arith, (start r).requires.1))), omega (arith, is-piece c, pieces-most (model r) (start r).args.l h.n-small), omega (arith, (read r).n-is, h.n-small))
+    (omega (arith, (start r).requires.2, before_most (model r) h (start r).args.l (omega (arith, (start r).requires.1))), omega (arith, is_piece c, pieces-most (model r) (start r).args.l h.n_small), omega (arith, (read r).n_is, h.n_small))
 
 face-requires : tie.Need-face-requires invariant-loop decreases-loop
 face-requires c κs =
     let r = c.before.before.before in
-    (omega (arith, (read r).n-is, (model-ok r).n-small), piece-end (model r) (start r).args.l (start r).requires.1 (start r).args.table.now (start r).requires.0.room _ (is-piece c.before) (read r).n-is (place c))
+    (omega (arith, (read r).n_is, (model_ok r).n_small), piece_end (model r) (start r).args.l (start r).requires.1 (start r).args.table.now (start r).requires.0.room _ (is_piece c.before) (read r).n_is (place c))
 
 piece-ok-requires : tie.Need-piece-ok-requires invariant-loop decreases-loop
 piece-ok-requires c κs =
     let r = c.before.before.before.before in
-    let n = (read r).n-is in (
-      simp (got32 r.before.cut-variable.result r.before.cut-variable.type-inv) (location-ready (model r) (model-ok r) (start r).args.l (start r).requires.1 (read r)),
+    let n = (read r).n_is in (
+      simp (got32 r.before.cut-variable.result r.before.cut-variable.type-inv) (location_ready (model r) (model_ok r) (start r).args.l (start r).requires.1 (read r)),
       c.before.before.loop-test.true,
-      omega (arith, n, (piece-part (model r) (start r).args.l (start r).requires.1 (start r).args.table.now (start r).requires.0.room _ (is-piece c.before.before) n (place c.before) c.face.ensures).sized),
+      omega (arith, n, (piece_part (model r) (start r).args.l (start r).requires.1 (start r).args.table.now (start r).requires.0.room _ (is_piece c.before.before) n (place c.before) c.face.ensures).sized),
     )
 
 add-q : tie.Need-overflow-add-q invariant-loop decreases-loop
-add-q c = let r = c.before.before.before.before.before in record { fits = omega (arith, is-piece c.before.before.before, pieces-most (model r) (start r).args.l (model-ok r).n-small) }
+add-q c = let r = c.before.before.before.before.before in record { fits = omega (arith, is_piece c.before.before.before, pieces-most (model r) (start r).args.l (model_ok r).n_small) }
 
 loop-less : tie.Need-loop-smaller invariant-loop decreases-loop
 loop-less c = omega (arith, c.before.before.before.loop-test.true)
@@ -114,15 +114,15 @@ loop-again c =
     let v = r.before.cut-variable in
     let x = r.cut-value in
     let q = c.before.before.before.before.loop in (
-      omega (arith, is-piece c.before.before.before),
-      all_more (pieceOk (model r) (start r).args.table.now (start r).args.l) q.q q.invariant.1
-          (piece-asked (model r) (start r).args.table.now (start r).args.l q.q (read r) (place c.before.before) c.before.face.ensures (simp (got32 v.result v.type-inv, got32 x.result x.type-inv) at c.piece-ok.ensures)),
+      omega (arith, is_piece c.before.before.before),
+      all_more (piece_ok (model r) (start r).args.table.now (start r).args.l) q.q q.invariant.1
+          (piece_asked (model r) (start r).args.table.now (start r).args.l q.q (read r) (place c.before.before) c.before.face.ensures (simp (got32 v.result v.type-inv, got32 x.result x.type-inv) at c.piece-ok.ensures)),
     )
 
 returns : tie.Need-returns invariant-loop decreases-loop
 returns c =
     let r = c.before.before in
-    let e : c.before.loop.q ≡ pieces (model r) (start r).args.l = omega (arith, c.loop-test.false, count-is (read r)) in
+    let e : c.before.loop.q ≡ pieces (model r) (start r).args.l = omega (arith, c.loop-test.false, count_is (read r)) in
     rw e at c.before.loop.invariant.1
 
 pub location-ok-spec : {M : Type 1} → statement M
@@ -131,8 +131,8 @@ location-ok-spec =
     (tie.spec
     invariant-loop
     decreases-loop
-    variables-requires
-    invariant-requires
+    variables_requires
+    invariant_requires
     per-face-requires
     cut-variable-requires
     cut-value-requires

@@ -1,6 +1,6 @@
 -- The answer has its reply, and both buffers are the analysis's.
 use borrow.Author.Rules.{rules}
-use Rattle.interface.proofs.ForC.{is-analysed}
+use Rattle.interface.proofs.ForC.{is_analysed}
 use Rattle.host.proofs.calls.qii_analyse.Statement.{statement}
 use Rattle.host.proofs.calls.qii_analyse.Tie as tie
 
@@ -17,7 +17,7 @@ same-length-2 : tie.Need-same-length-2
 same-length-2 c = search rules
 
 returns : tie.Need-returns
-returns c = is-analysed c.before.before.before.before.analyse.ensures c.answer-reply.ensures
+returns c = is_analysed c.before.before.before.before.analyse.ensures c.answer-reply.ensures
 
 pub qii-analyse-spec : {M : Type 1} → statement M
 qii-analyse-spec =

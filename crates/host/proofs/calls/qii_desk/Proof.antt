@@ -1,6 +1,6 @@
 -- The answer has its reply; both counters and both buffers are the desk call's.
 use borrow.Author.Rules.{rules}
-use Rattle.interface.proofs.ForC.{is-served}
+use Rattle.interface.proofs.ForC.{is_served}
 use Rattle.host.proofs.calls.qii_desk.Statement.{statement}
 use Rattle.host.proofs.calls.qii_desk.Tie as tie
 
@@ -17,7 +17,7 @@ same-length-2 : tie.Need-same-length-2
 same-length-2 c = search rules
 
 returns : tie.Need-returns
-returns c = is-served c.before.before.before.before.before.serve.ensures c.answer-reply.ensures
+returns c = is_served c.before.before.before.before.before.serve.ensures c.answer-reply.ensures
 
 pub qii-desk-spec : {M : Type 1} → statement M
 qii-desk-spec =

@@ -1,6 +1,6 @@
 -- The count has its reply, and the bytes are the writer's.
 use borrow.Author.Rules.{rules}
-use Rattle.interface.proofs.ForC.{is-written}
+use Rattle.interface.proofs.ForC.{is_written}
 use Rattle.host.proofs.calls.qii_write_model.Statement.{statement}
 use Rattle.host.proofs.calls.qii_write_model.Tie as tie
 
@@ -14,7 +14,7 @@ same_length : tie.Need-same-length
 same_length c = search rules
 
 returns : tie.Need-returns
-returns c = is-written c.before.before.before.before.write-model.ensures c.count-reply.ensures
+returns c = is_written c.before.before.before.before.write_model.ensures c.count-reply.ensures
 
 pub qii-write-model-spec : {M : Type 1} → statement M
 qii-write-model-spec =

@@ -1,8 +1,8 @@
 -- The records, then the cuts behind them.
 use mathlib.Core.Path.{sym, ◌∙◌}
 use borrow.Author.Rules.{rules}
-use Rattle.files.proofs.ModelLength.{file-length}
-use Rattle.model_files.proofs.ModelWriting.{file-put}
+use Rattle.files.proofs.ModelLength.{file_length_lem}
+use Rattle.model_files.proofs.ModelWriting.{file_put}
 use Rattle.model_files.proofs.writing.put_model.Statement.{statement}
 use Rattle.model_files.proofs.writing.put_model.Tie as tie
 
@@ -19,7 +19,7 @@ returns : tie.Need-returns
 returns c =
     let s = c.before.before.before.before.before.before.before.before.before in
     let w = s.requires.whole in
-    (file-put _ w _ _ _ c.before.before.before.before.before.before.put-records.ensures c.before.before.put-cuts.ensures.0, c.before.before.put-cuts.ensures.1 ∙ sym (file-length _ w))
+    (file_put _ w _ _ _ c.before.before.before.before.before.before.put-records.ensures c.before.before.put-cuts.ensures.0, c.before.before.put-cuts.ensures.1 ∙ sym (file_length_lem _ w))
 
 pub put-model-spec : {M : Type 1} → statement M
 put-model-spec = tie.close (tie.spec put-records-requires put-cuts-requires same_length returns)

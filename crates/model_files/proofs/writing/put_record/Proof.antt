@@ -1,7 +1,7 @@
 -- The header, and the words behind it.
 use native.Mathlib.Omega.{arith}
 use borrow.Author.Rules.{rules}
-use Rattle.model_files.proofs.ModelWriting.{record-put}
+use Rattle.model_files.proofs.ModelWriting.{record_put}
 use Rattle.model_files.proofs.writing.put_record.Statement.{statement}
 use Rattle.model_files.proofs.writing.put_record.Tie as tie
 
@@ -24,7 +24,7 @@ returns : tie.Need-returns
 returns c =
     let s = c.before.before.before.before.before.before.before.before.before.before in
     let a = s.args in
-    record-put a.model.now a.tag a.from a.w s.requires.0 a.file.now _ _ a.to (omega (arith, s.requires.1)) c.before.before.before.before.before.before.before.payload-length.ensures c.before.before.before.before.before.before.put-header.ensures c.before.before.put-words.ensures
+    record_put a.model.now a.tag a.from a.w s.requires.0 a.file.now _ _ a.to (omega (arith, s.requires.1)) c.before.before.before.before.before.before.before.payload_length_lem.ensures c.before.before.before.before.before.before.put-header.ensures c.before.before.put-words.ensures
 
 pub put-record-spec : {M : Type 1} → statement M
 put-record-spec =

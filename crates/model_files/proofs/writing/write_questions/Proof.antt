@@ -6,8 +6,8 @@ use lib.Dec.{leb}
 use Rattle.plant.specs.Ask.{ask}
 use Rattle.plant.proofs.Asks.{go, halt}
 use Rattle.plant.proofs.Passed.{passed}
-use Rattle.plant.proofs.Passing.{whole-passed}
-use Rattle.files.specs.ModelFile.{writeModelQuestions}
+use Rattle.plant.proofs.Passing.{whole_passed}
+use Rattle.files.specs.ModelFile.{write_model_questions}
 use Rattle.model_files.proofs.writing.write_questions.Statement.{statement}
 use Rattle.model_files.proofs.writing.write_questions.Tie as tie
 
@@ -15,21 +15,21 @@ questions-requires : tie.Need-questions-requires
 questions-requires c κs = search rules
 
 returns : tie.Need-returns
-unfolding writeModelQuestions
+unfolding write_model_questions
 returns c = halt _ c.before.questions.ensures c.if1.true
 
 file-length-requires : tie.Need-file-length-requires
-file-length-requires c κs = whole-passed _ (passed _ (sym c.before.questions.ensures ∙ c.if1.false))
+file-length-requires c κs = whole_passed _ (passed _ (sym c.before.questions.ensures ∙ c.if1.false))
 
 ask-requires : tie.Need-ask-requires
 ask-requires c κs = search rules
 
-returns-2 : tie.Need-returns-2
-unfolding writeModelQuestions
-returns-2 c =
+returns_2 : tie.Need-returns-2
+unfolding write_model_questions
+returns_2 c =
     let room = c.before.before.before.before.args.room in
-    go c.before.before.before.questions.ensures c.before.before.if1.false (c.ask.ensures ∙ ap (λ (k : ℕ). ask (leb k room) 40) c.before.file-length.ensures)
+    go c.before.before.before.questions.ensures c.before.before.if1.false (c.ask.ensures ∙ ap (λ (k : ℕ). ask (leb k room) 40) c.before.file_length_lem.ensures)
 
 pub write-questions-spec : {M : Type 1} → statement M
 write-questions-spec =
-    tie.close (tie.spec questions-requires returns file-length-requires ask-requires returns-2)
+    tie.close (tie.spec questions-requires returns file-length-requires ask-requires returns_2)

@@ -2,15 +2,15 @@
 use mathlib.Core.Path.{◌≡◌, sym, ◌∙◌}
 use lib.IntN.{pos}
 use borrow.Author.Rules.{rules}
-use Rattle.integers.specs.Words.{word, eqZ}
+use Rattle.integers.specs.Words.{word, eq_z}
 use Rattle.integers.proofs.Signed.{got32}
 use Rattle.plant.specs.Model.{n#}
-use Rattle.plant.proofs.FaceWords.{read-absent}
-use Rattle.passes.proofs.Landing.{nothing-landed}
+use Rattle.plant.proofs.FaceWords.{read_absent}
+use Rattle.passes.proofs.Landing.{nothing_landed}
 use Rattle.passes.proofs.switches.land.Statement.{statement}
 use Rattle.passes.proofs.switches.land.Tie as tie
 
-flag : (c : tie.After-same) → c.same.result ≡ eqZ (word c.before.before.source-piece.result.now 0) (pos 1)
+flag : (c : tie.After-same) → c.same.result ≡ eq_z (word c.before.before.source-piece.result.now 0) (pos 1)
 flag c = simp (got32 (word c.before.before.source-piece.result.now 0) c.before.same-arg.given) at c.same.ensures
 
 source-piece-requires : tie.Need-source-piece-requires
@@ -31,13 +31,13 @@ same_length c = search rules
 returns : tie.Need-returns
 returns c = search rules
 
-returns-2 : tie.Need-returns-2
-returns-2 c =
+returns_2 : tie.Need-returns-2
+returns_2 c =
     let s = c.before.before.before.before.before in
     let a = s.args in
     let piece = c.before.before.before.source-piece in
-    nothing-landed a.model.now a.table.now a.e a.k
-    (sym piece.ensures.gives ∙ read-absent (n# a.model.now) piece.result.now (sym (flag c.before) ∙ c.if1.false)) s.requires.4
+    nothing_landed a.model.now a.table.now a.e a.k
+    (sym piece.ensures.gives ∙ read_absent (n# a.model.now) piece.result.now (sym (flag c.before) ∙ c.if1.false)) s.requires.4
 
 pub land-spec : {M : Type 1} → statement M
 land-spec =
@@ -49,4 +49,4 @@ land-spec =
     land-present-requires
     same_length
     returns
-    returns-2)
+    returns_2)

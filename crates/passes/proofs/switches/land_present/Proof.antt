@@ -8,33 +8,33 @@ use lib.ListN.{get_or}
 use mir.Syntax.{w32}
 use mir.Val.{to_z, of_z}
 use mir.Facts.{to_z-of_z}
-use Rattle.plant.specs.Model.{n#, L#, target, cutValue, cutFrom, cut_of}
-use Rattle.plant.specs.Pieces.{piecesPerFace, perFace}
-use Rattle.plant.specs.Tables.{faceSize, tableSize, piecesBefore, piece_at, targetFace}
+use Rattle.plant.specs.Model.{n#, L#, target, cut_value, cut_from, cut_of}
+use Rattle.plant.specs.Pieces.{pieces_per_face, per_face}
+use Rattle.plant.specs.Tables.{face_size, table_size, pieces_before, piece_at, target_face}
 use Rattle.plant.proofs.Whole.{Whole, Placed}
 use Rattle.passes.specs.Joining.{LandsOn}
 use Rattle.passes.proofs.PartWords.{place_is}
-use Rattle.passes.proofs.Reading.{whole, placed, target-face, place-small, table-small}
-use Rattle.passes.proofs.Landing.{targetFirst, first_small, lands-inside, out-long, target-are-pieces, landed}
+use Rattle.passes.proofs.Reading.{whole, placed, target_face_lem, place_small, table_small}
+use Rattle.passes.proofs.Landing.{target_first, first_small, lands_inside, out_long, target_are_pieces, landed}
 use borrow.Author.Rules.{rules}
 use Rattle.passes.proofs.switches.land_present.Statement.{statement}
 use Rattle.passes.proofs.switches.land_present.Tie as tie
 
 module _ (c : tie.Start) where
-  whole-at : Whole c.args.model.now
-  whole-at = whole c.args.model.now c.args.table.now c.requires.0
+  whole_at : Whole c.args.model.now
+  whole_at = whole c.args.model.now c.args.table.now c.requires.0
 
   placed_at : Placed c.args.model.now c.args.e
-  placed_at = placed c.args.model.now c.args.table.now c.requires.0 c.args.e c.requires.2.is-switch
+  placed_at = placed c.args.model.now c.args.table.now c.requires.0 c.args.e c.requires.2.is_switch
 
-  face-below : targetFace c.args.model.now c.args.e < 2 * n# c.args.model.now
-  face-below = target-face c.args.model.now c.args.table.now c.requires.0 c.args.e c.requires.2.is-switch
+  face_below : target_face c.args.model.now c.args.e < 2 * n# c.args.model.now
+  face_below = target_face_lem c.args.model.now c.args.table.now c.requires.0 c.args.e c.requires.2.is_switch
 
-  inside : piece_at c.args.model.now (target c.args.model.now c.args.e) (targetFirst c.args.model.now c.args.e) + perFace c.args.model.now (target c.args.model.now c.args.e) * faceSize (n# c.args.model.now) ≤ tableSize c.args.model.now
-  inside = lands-inside c.args.model.now c.args.table.now c.args.e c.args.k placed_at.target_is face-below placed_at.target-side c.args.out.now c.requires.4
+  inside : piece_at c.args.model.now (target c.args.model.now c.args.e) (target_first c.args.model.now c.args.e) + per_face c.args.model.now (target c.args.model.now c.args.e) * face_size (n# c.args.model.now) ≤ table_size c.args.model.now
+  inside = lands_inside c.args.model.now c.args.table.now c.args.e c.args.k placed_at.target_is face_below placed_at.target_side_is c.args.out.now c.requires.4
 
-variables-requires : tie.Need-variables-requires
-variables-requires c κs = (whole-at c.before).head
+variables_requires : tie.Need-variables-requires
+variables_requires c κs = (whole_at c.before).head
 
 target-requires : tie.Need-target-requires
 target-requires c κs = (placed_at c.before.before).numbered
@@ -43,7 +43,7 @@ wall-variable-requires : tie.Need-wall-variable-requires
 wall-variable-requires c κs = (placed_at c.before.before.before).numbered
 
 mul-f : tie.Need-overflow-mul-f
-mul-f c = let s = c.before.before.before.before in omega (arith, c.wall-variable.ensures, (placed_at s).variable-is, (whole-at s).head.n-small)
+mul-f c = let s = c.before.before.before.before in omega (arith, c.wall-variable.ensures, (placed_at s).variable_is, (whole_at s).head.n_small)
 
 target-side-requires : tie.Need-target-side-requires
 target-side-requires c κs = (placed_at c.before.before.before.before).numbered
@@ -52,7 +52,7 @@ add-f : tie.Need-overflow-add-f
 add-f c =
     let s = c.before.before.before.before.before in
     let p = placed_at s in
-    omega (arith, c.before.wall-variable.ensures, c.target-side.ensures, p.variable-is, p.target-side, (whole-at s).head.n-small)
+    omega (arith, c.before.wall-variable.ensures, c.target_side_is.ensures, p.variable_is, p.target_side_is, (whole_at s).head.n_small)
 
 pieces-by-requires : tie.Need-pieces-by-requires
 pieces-by-requires c κs = tt
@@ -69,38 +69,38 @@ module _ (c : tie.After-pieces-by) where
   to = target model start.args.e
 
   abbrev first : ℕ
-  first = (2 * c.before.before.wall-variable.result + c.before.target-side.result) * c.pieces-by.result
+  first = (2 * c.before.before.wall-variable.result + c.before.target_side_is.result) * c.pieces-by.result
 
-  l-is : c.before.before.before.target.result ≡ to
-  l-is = c.before.before.before.target.ensures
+  l_is : c.before.before.before.target.result ≡ to
+  l_is = c.before.before.before.target.ensures
 
-  l-below : c.before.before.before.target.result < 64
-  l-below = omega (arith, l-is, (placed_at start).target_is, (whole-at start).head.L-small)
+  l_below : c.before.before.before.target.result < 64
+  l_below = omega (arith, l_is, (placed_at start).target_is, (whole_at start).head.L_small)
 
-  count-is : c.pieces-by.result ≡ perFace model to
-  unfolding perFace cut_of
-  count-is = c.pieces-by.ensures (cutValue model to) ∙ ap (λ (z : ℤ). piecesPerFace (cutFrom z (cutValue model to))) (to_z-of_z start.fits.variable ∙ start.pre.3.variable-is)
+  count_is : c.pieces-by.result ≡ per_face model to
+  unfolding per_face cut_of
+  count_is = c.pieces-by.ensures (cut_value model to) ∙ ap (λ (z : ℤ). pieces_per_face (cut_from z (cut_value model to))) (to_z-of_z start.fits.variable ∙ start.pre.3.variable_is)
 
-  first-is : first ≡ targetFirst model start.args.e
-  first-is = (λ i. (2 * c.before.before.wall-variable.ensures i + c.before.target-side.ensures i) * count-is i)
+  first_is : first ≡ target_first model start.args.e
+  first_is = (λ i. (2 * c.before.before.wall-variable.ensures i + c.before.target_side_is.ensures i) * count_is i)
 
   few : first ≤ 24
-  few = omega (arith, first-is, first_small model start.args.e (whole-at start).head.n-small (face-below start))
+  few = omega (arith, first_is, first_small model start.args.e (whole_at start).head.n_small (face_below start))
 
-  before-is : get_or start.args.places.now c.before.before.before.target.result 0 ≡ piecesBefore model to
-  before-is = ap (λ (l : ℕ). get_or start.args.places.now l 0) l-is ∙ start.pre.1.each to (omega (arith, (placed_at start).target_is))
+  before_is : get_or start.args.places.now c.before.before.before.target.result 0 ≡ pieces_before model to
+  before_is = ap (λ (l : ℕ). get_or start.args.places.now l 0) l_is ∙ start.pre.1.each to (omega (arith, (placed_at start).target_is))
 
-  n-is : c.before.before.before.before.variables.result ≡ n# model
-  n-is = c.before.before.before.before.variables.ensures
+  n_is : c.before.before.before.before.variables.result ≡ n# model
+  n_is = c.before.before.before.before.variables.ensures
 
-  n-small : c.before.before.before.before.variables.result ≤ 6
-  n-small = omega (arith, n-is, (whole-at start).head.n-small)
+  n_small : c.before.before.before.before.variables.result ≤ 6
+  n_small = omega (arith, n_is, (whole_at start).head.n_small)
 
 mul-piece-at : tie.Need-overflow-mul-piece-at
-mul-piece-at c = record { fits = omega (arith, l-below c) }
+mul-piece-at c = record { fits = omega (arith, l_below c) }
 
 shared-slice-read-piece-at : tie.Need-shared-slice-read-piece-at
-shared-slice-read-piece-at c = omega (arith, l-below c.before, (start c.before).pre.1.long)
+shared-slice-read-piece-at c = omega (arith, l_below c.before, (start c.before).pre.1.long)
 
 mul-piece-at-2 : tie.Need-overflow-mul-piece-at-2
 mul-piece-at-2 c = record { fits = omega (arith, few c.before) }
@@ -110,10 +110,10 @@ piece-at-requires c κs =
     let r = c.before in
     let s = start r in
     let u : to r ≤ L# (model r) = omega (arith, (placed_at s).target_is) in
-    (omega (arith, before-is r, s.pre.1.each (to r) u, place-small (model r) s.args.table.now s.pre.0 s.args.places.now s.pre.1 (to r) u), few r, n-small r)
+    (omega (arith, before_is r, s.pre.1.each (to r) u, place_small (model r) s.args.table.now s.pre.0 s.args.places.now s.pre.1 (to r) u), few r, n_small r)
 
 face-size-requires : tie.Need-face-size-requires
-face-size-requires c κs = omega (arith, n-small c.before.before)
+face-size-requires c κs = omega (arith, n_small c.before.before)
 
 -- where they stand
 module _ (c : tie.After-face-size) where
@@ -121,22 +121,22 @@ module _ (c : tie.After-face-size) where
   reading = c.before.before.before
 
   abbrev at : ℕ
-  at = c.before.piece-at.result
+  at = c.before.piece_at.result
 
-  at-is : at ≡ piece_at (model reading) (to reading) (targetFirst (model reading) (start reading).args.e)
-  at-is = place_is (model reading) (to reading) (first reading) (n-is reading) (before-is reading) c.before.piece-at.ensures ∙ ap (piece_at (model reading) (to reading)) (first-is reading)
+  at_is : at ≡ piece_at (model reading) (to reading) (target_first (model reading) (start reading).args.e)
+  at_is = place_is (model reading) (to reading) (first reading) (n_is reading) (before_is reading) c.before.piece_at.ensures ∙ ap (piece_at (model reading) (to reading)) (first_is reading)
 
-  size_is : reading.pieces-by.result * c.face-size.result ≡ perFace (model reading) (to reading) * faceSize (n# (model reading))
-  size_is = ap₂ (λ (k w : ℕ). k * w) (count-is reading) (c.face-size.ensures ∙ ap faceSize (n-is reading))
+  size_is : reading.pieces-by.result * c.face-size.result ≡ per_face (model reading) (to reading) * face_size (n# (model reading))
+  size_is = ap₂ (λ (k w : ℕ). k * w) (count_is reading) (c.face-size.ensures ∙ ap face_size (n_is reading))
 
-  part-is : at + reading.pieces-by.result * c.face-size.result - at ≡ perFace (model reading) (to reading) * faceSize (n# (model reading))
-  part-is = omega (arith, size_is)
+  part_is : at + reading.pieces-by.result * c.face-size.result - at ≡ per_face (model reading) (to reading) * face_size (n# (model reading))
+  part_is = omega (arith, size_is)
 
-  at-inside : at + reading.pieces-by.result * c.face-size.result ≤ tableSize (model reading)
-  at-inside = omega (arith, at-is, size_is, inside (start reading))
+  at_inside : at + reading.pieces-by.result * c.face-size.result ≤ table_size (model reading)
+  at_inside = omega (arith, at_is, size_is, inside (start reading))
 
   at_small : at + reading.pieces-by.result * c.face-size.result ≤ 19968
-  at_small = let s = start reading in omega (arith, at-inside, table-small (model reading) s.args.table.now s.pre.0)
+  at_small = let s = start reading in omega (arith, at_inside, table_small (model reading) s.args.table.now s.pre.0)
 
 mul-end : tie.Need-overflow-mul-end
 mul-end c = record { fits = omega (arith, at_small c) }
@@ -157,18 +157,18 @@ part-join-from-end : tie.Need-slice-bounds-join-from-end
 part-join-from-end c =
     let s = start (reading c) in
     let a = s.args in
-    omega (arith, at-inside c, out-long a.model.now a.table.now a.e a.k (placed_at s).target_is (face-below s) (placed_at s).target-side a.out.now s.pre.4)
+    omega (arith, at_inside c, out_long a.model.now a.table.now a.e a.k (placed_at s).target_is (face_below s) (placed_at s).target_side_is a.out.now s.pre.4)
 
 -- the cut of the target, by its words
 lands : (s : tie.Start) → LandsOn s.args.model.now s.args.e (to_z w32 (of_z w32 s.args.variable)) (to_z w32 (of_z w32 s.args.value))
-lands s = record { variable-is = to_z-of_z s.ranges.variable ∙ s.requires.3.variable-is; value-is = to_z-of_z s.ranges.value ∙ s.requires.3.value-is }
+lands s = record { variable_is = to_z-of_z s.ranges.variable ∙ s.requires.3.variable_is; value_is = to_z-of_z s.ranges.value ∙ s.requires.3.value_is }
 
 join-from-requires : tie.Need-join-from-requires
 join-from-requires c κs =
     let w = c.before in
     let s = start (reading w) in
     let a = s.args in
-    (s.pre.0, s.pre.1, s.pre.2, lands s, target-are-pieces a.model.now a.table.now a.e a.k (placed_at s).target_is (face-below s) (placed_at s).target-side a.out.now s.pre.4 (at-is w) (part-is w))
+    (s.pre.0, s.pre.1, s.pre.2, lands s, target_are_pieces a.model.now a.table.now a.e a.k (placed_at s).target_is (face_below s) (placed_at s).target_side_is a.out.now s.pre.4 (at_is w) (part_is w))
 
 same_length : tie.Need-same-length
 same_length c = search rules
@@ -178,13 +178,13 @@ returns c =
     let w = c.before.before.before in
     let s = start (reading w) in
     let a = s.args in
-    landed a.model.now a.table.now a.e a.k (placed_at s).target_is (face-below s) (placed_at s).target-side a.out.now s.pre.4 (at-is w) (part-is w) c.before.join-from.ensures
+    landed a.model.now a.table.now a.e a.k (placed_at s).target_is (face_below s) (placed_at s).target_side_is a.out.now s.pre.4 (at_is w) (part_is w) c.before.join-from.ensures
 
 pub land-present-spec : {M : Type 1} → statement M
 land-present-spec =
     tie.close
     (tie.spec
-    variables-requires
+    variables_requires
     target-requires
     wall-variable-requires
     mul-f

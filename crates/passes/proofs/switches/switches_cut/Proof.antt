@@ -4,56 +4,56 @@ use native.Mathlib.Omega.{arith}
 use Prim.Native.Nat.{ℕ, ◌-◌, ◌≤◌, ◌<◌}
 use lib.ListN.{length}
 use Rattle.plant.specs.Model.{E#}
-use Rattle.plant.specs.Tables.{tableBy, wallsJoined}
-use Rattle.plant.proofs.Tables.{table-length}
+use Rattle.plant.specs.Tables.{table_by, walls_joined}
+use Rattle.plant.proofs.Tables.{table_length}
 use Rattle.plant.proofs.Whole.{Whole}
-use Rattle.passes.specs.Joining.{joinedBelow}
+use Rattle.passes.specs.Joining.{joined_below}
 use Rattle.passes.proofs.Reading.{whole}
-use Rattle.passes.proofs.Landing.{switches-none, switches-all}
+use Rattle.passes.proofs.Landing.{switches_none, switches_all}
 use Rattle.passes.proofs.switches.switches_cut.Statement.{statement}
 use Rattle.passes.proofs.switches.switches_cut.Tie as tie
 
 abbrev invariant-loop : tie.invariant-loop
-invariant-loop model places table out₀ count e₀ out e = (e ≤ E# model) × (out ≡ tableBy model (joinedBelow model table e))
+invariant-loop model places table out₀ count e₀ out e = (e ≤ E# model) × (out ≡ table_by model (joined_below model table e))
 
 abbrev decreases-loop : tie.decreases-loop
 decreases-loop model places table out₀ count e₀ out e = count - e
 
-whole-at : (c : tie.Start invariant-loop decreases-loop) → Whole c.args.model.now
-whole-at c = whole c.args.model.now c.args.table.now c.requires.0
+whole_at : (c : tie.Start invariant-loop decreases-loop) → Whole c.args.model.now
+whole_at c = whole c.args.model.now c.args.table.now c.requires.0
 
 switches-requires : tie.Need-switches-requires invariant-loop decreases-loop
-switches-requires c κs = (whole-at c.before).head
+switches-requires c κs = (whole_at c.before).head
 
 loop-holds : tie.Need-loop-init invariant-loop decreases-loop
-loop-holds c = let s = c.before.before in (omega arith, s.requires.2 ∙ switches-none s.args.model.now s.args.table.now)
+loop-holds c = let s = c.before.before in (omega arith, s.requires.2 ∙ switches_none s.args.model.now s.args.table.now)
 
 -- switch e
 module _ (c : tie.In-loop invariant-loop decreases-loop) where
   abbrev start : tie.Start invariant-loop decreases-loop
   start = c.before.before.before.before
 
-  is-switch : c.before.loop.e < E# start.args.model.now
-  is-switch = omega (arith, c.loop-test.true, c.before.before.switches.ensures)
+  is_switch : c.before.loop.e < E# start.args.model.now
+  is_switch = omega (arith, c.loop-test.true, c.before.before.switches.ensures)
 
 land-each-requires : tie.Need-land-each-requires invariant-loop decreases-loop
-land-each-requires c κs = let w = c.before in let s = start w in (s.pre.0, s.pre.1, is-switch w, w.before.loop.invariant.1)
+land-each-requires c κs = let w = c.before in let s = start w in (s.pre.0, s.pre.1, is_switch w, w.before.loop.invariant.1)
 
 add-e : tie.Need-overflow-add-e invariant-loop decreases-loop
-add-e c = let w = c.before.before.before in omega (arith, is-switch w, (whole-at (start w)).head.E-small)
+add-e c = let w = c.before.before.before in omega (arith, is_switch w, (whole_at (start w)).head.E_small)
 
 loop-less : tie.Need-loop-smaller invariant-loop decreases-loop
 loop-less c = omega (arith, c.before.before.before.loop-test.true)
 
 loop-again : tie.Need-loop-preserved invariant-loop decreases-loop
-loop-again c = (omega (arith, is-switch c.before.before.before), c.before.land-each.ensures)
+loop-again c = (omega (arith, is_switch c.before.before.before), c.before.land-each.ensures)
 
 same_length : tie.Need-same-length invariant-loop decreases-loop
 same_length c =
     let s = c.before.before.before.before in
     let m = s.args.model.now in
     let t = s.args.table.now in
-    omega (arith, ap length c.before.loop.invariant.1, table-length m (joinedBelow m t c.before.loop.e), ap length s.requires.2, table-length m (wallsJoined m t))
+    omega (arith, ap length c.before.loop.invariant.1, table_length m (joined_below m t c.before.loop.e), ap length s.requires.2, table_length m (walls_joined m t))
 
 returns : tie.Need-returns invariant-loop decreases-loop
 returns c =
@@ -61,7 +61,7 @@ returns c =
     let m = s.args.model.now in
     let t = s.args.table.now in
     let e : c.before.loop.e ≡ E# m = omega (arith, c.before.loop.invariant.0, c.loop-test.false, c.before.before.switches.ensures) in
-    c.before.loop.invariant.1 ∙ ap (λ (k : ℕ). tableBy m (joinedBelow m t k)) e ∙ switches-all m t
+    c.before.loop.invariant.1 ∙ ap (λ (k : ℕ). table_by m (joined_below m t k)) e ∙ switches_all m t
 
 pub switches-cut-spec : {M : Type 1} → statement M
 switches-cut-spec =

@@ -5,44 +5,44 @@ use native.Mathlib.Omega.{arith}
 use Prim.Native.Nat.{ℕ, ◌-◌, ◌≤◌, ◌<◌}
 use lib.ListN.{length}
 use Rattle.plant.specs.Model.{E#, source}
-use Rattle.plant.specs.Pieces.{perFace}
-use Rattle.plant.specs.Tables.{tableBy, wallsJoined}
-use Rattle.plant.proofs.Tables.{table-length}
+use Rattle.plant.specs.Pieces.{per_face}
+use Rattle.plant.specs.Tables.{table_by, walls_joined}
+use Rattle.plant.proofs.Tables.{table_length}
 use Rattle.plant.proofs.Whole.{Whole}
-use Rattle.passes.specs.Joining.{joinedBelow}
-use Rattle.passes.proofs.Reading.{whole, placed, lands-uncut}
-use Rattle.passes.proofs.Landing.{switches-none, switches-all, from_one, is-table}
+use Rattle.passes.specs.Joining.{joined_below}
+use Rattle.passes.proofs.Reading.{whole, placed, lands_uncut}
+use Rattle.passes.proofs.Landing.{switches_none, switches_all, from_one, is_table}
 use Rattle.passes.proofs.switches.switches_uncut.Statement.{statement}
 use Rattle.passes.proofs.switches.switches_uncut.Tie as tie
 
 abbrev invariant-loop : tie.invariant-loop
-invariant-loop model places table out₀ count e₀ out e = (e ≤ E# model) × (out ≡ tableBy model (joinedBelow model table e))
+invariant-loop model places table out₀ count e₀ out e = (e ≤ E# model) × (out ≡ table_by model (joined_below model table e))
 
 abbrev decreases-loop : tie.decreases-loop
 decreases-loop model places table out₀ count e₀ out e = count - e
 
-whole-at : (c : tie.Start invariant-loop decreases-loop) → Whole c.args.model.now
-whole-at c = whole c.args.model.now c.args.table.now c.requires.0
+whole_at : (c : tie.Start invariant-loop decreases-loop) → Whole c.args.model.now
+whole_at c = whole c.args.model.now c.args.table.now c.requires.0
 
 switches-requires : tie.Need-switches-requires invariant-loop decreases-loop
-switches-requires c κs = (whole-at c.before).head
+switches-requires c κs = (whole_at c.before).head
 
 loop-holds : tie.Need-loop-init invariant-loop decreases-loop
-loop-holds c = let s = c.before.before in (omega arith, s.requires.2 ∙ switches-none s.args.model.now s.args.table.now)
+loop-holds c = let s = c.before.before in (omega arith, s.requires.2 ∙ switches_none s.args.model.now s.args.table.now)
 
 -- switch e
 module _ (c : tie.In-loop invariant-loop decreases-loop) where
   abbrev start : tie.Start invariant-loop decreases-loop
   start = c.before.before.before.before
 
-  is-switch : c.before.loop.e < E# start.args.model.now
-  is-switch = omega (arith, c.loop-test.true, c.before.before.switches.ensures)
+  is_switch : c.before.loop.e < E# start.args.model.now
+  is_switch = omega (arith, c.loop-test.true, c.before.before.switches.ensures)
 
-  one : perFace start.args.model.now (source start.args.model.now c.before.loop.e) ≡ 1
+  one : per_face start.args.model.now (source start.args.model.now c.before.loop.e) ≡ 1
   one =
       let s = start in
       let m = s.args.model.now in
-      s.pre.3.one_each (source m c.before.loop.e) (placed m s.args.table.now s.pre.0 c.before.loop.e is-switch).source_is
+      s.pre.3.one_each (source m c.before.loop.e) (placed m s.args.table.now s.pre.0 c.before.loop.e is_switch).source_is
 
 land-requires : tie.Need-land-requires invariant-loop decreases-loop
 land-requires c κs =
@@ -51,10 +51,10 @@ land-requires c κs =
     let m = s.args.model.now in
     let t = s.args.table.now in
     let e = w.before.loop.e in
-    (s.pre.0, s.pre.1, record { is-switch = is-switch w; count-is = sym (one w); is-piece = omega (arith, one w) }, lands-uncut m t s.pre.0 s.pre.3 e (is-switch w), is-table m t (joinedBelow m t e) w.before.loop.invariant.1)
+    (s.pre.0, s.pre.1, record { is_switch = is_switch w; count_is = sym (one w); is_piece = omega (arith, one w) }, lands_uncut m t s.pre.0 s.pre.3 e (is_switch w), is_table m t (joined_below m t e) w.before.loop.invariant.1)
 
 add-e : tie.Need-overflow-add-e invariant-loop decreases-loop
-add-e c = let w = c.before.before.before in omega (arith, is-switch w, (whole-at (start w)).head.E-small)
+add-e c = let w = c.before.before.before in omega (arith, is_switch w, (whole_at (start w)).head.E_small)
 
 loop-less : tie.Need-loop-smaller invariant-loop decreases-loop
 loop-less c = omega (arith, c.before.before.before.loop-test.true)
@@ -63,14 +63,14 @@ loop-again : tie.Need-loop-preserved invariant-loop decreases-loop
 loop-again c =
     let w = c.before.before.before in
     let s = start w in
-    (omega (arith, is-switch w), c.before.land.ensures ∙ from_one s.args.model.now s.args.table.now w.before.loop.e (one w) w.before.loop.invariant.1)
+    (omega (arith, is_switch w), c.before.land.ensures ∙ from_one s.args.model.now s.args.table.now w.before.loop.e (one w) w.before.loop.invariant.1)
 
 same_length : tie.Need-same-length invariant-loop decreases-loop
 same_length c =
     let s = c.before.before.before.before in
     let m = s.args.model.now in
     let t = s.args.table.now in
-    omega (arith, ap length c.before.loop.invariant.1, table-length m (joinedBelow m t c.before.loop.e), ap length s.requires.2, table-length m (wallsJoined m t))
+    omega (arith, ap length c.before.loop.invariant.1, table_length m (joined_below m t c.before.loop.e), ap length s.requires.2, table_length m (walls_joined m t))
 
 returns : tie.Need-returns invariant-loop decreases-loop
 returns c =
@@ -78,7 +78,7 @@ returns c =
     let m = s.args.model.now in
     let t = s.args.table.now in
     let e : c.before.loop.e ≡ E# m = omega (arith, c.before.loop.invariant.0, c.loop-test.false, c.before.before.switches.ensures) in
-    c.before.loop.invariant.1 ∙ ap (λ (k : ℕ). tableBy m (joinedBelow m t k)) e ∙ switches-all m t
+    c.before.loop.invariant.1 ∙ ap (λ (k : ℕ). table_by m (joined_below m t k)) e ∙ switches_all m t
 
 pub switches-uncut-spec : {M : Type 1} → statement M
 switches-uncut-spec =

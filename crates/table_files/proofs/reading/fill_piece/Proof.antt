@@ -5,9 +5,9 @@ use native.Mathlib.Omega.{arith}
 use borrow.Author.Rules.{rules}
 use lib.IntN.{pos}
 use lib.ListN.{length-set}
-use Rattle.files.specs.Bytes.{wordsAt}
-use Rattle.files.proofs.Words.{length-words}
-use Rattle.table_files.proofs.TableReading.{piece-filled}
+use Rattle.files.specs.Bytes.{words_at}
+use Rattle.files.proofs.Words.{length_words}
+use Rattle.table_files.proofs.TableReading.{piece_filled}
 use Rattle.table_files.proofs.reading.fill_piece.Statement.{statement}
 use Rattle.table_files.proofs.reading.fill_piece.Tie as tie
 
@@ -27,7 +27,7 @@ returns : tie.Need-returns
 returns c =
     let s = c.before.before.before.before in
     let a = s.args in
-    piece-filled a.piece.now _ (wordsAt a.file.now a.from (2 * a.n)) (2 * a.n) s.requires.1 (length-words a.file.now a.from (2 * a.n)) c.before.copy-words.ensures
+    piece_filled a.piece.now _ (words_at a.file.now a.from (2 * a.n)) (2 * a.n) s.requires.1 (length_words a.file.now a.from (2 * a.n)) c.before.copy-words.ensures
 
 pub fill-piece-spec : {M : Type 1} → statement M
 fill-piece-spec =

@@ -3,16 +3,16 @@ use mathlib.Core.Path.{refl, sym, ap, ◌∙◌}
 use native.Mathlib.Omega.{arith}
 use borrow.Author.Tests.{not-true, not-false}
 use borrow.Author.Rules.{rules}
-use Rattle.plant.specs.Tables.{tableOk}
+use Rattle.plant.specs.Tables.{table_ok}
 use Rattle.table_files.specs.TableRoom.{FieldsReady}
 use Rattle.plant.proofs.Passing.{whole}
-use Rattle.table_files.proofs.TableReading.{prefix-length, front_length, table-front, table-onto, table-zeroed, fields-refused, table-refused, table-read}
+use Rattle.table_files.proofs.TableReading.{prefix_length, front_length, table_front, table_onto, table_zeroed, fields_refused, table_refused, table_read}
 use Rattle.table_files.proofs.reading.read_faces.Statement.{statement}
 use Rattle.table_files.proofs.reading.read_faces.Tie as tie
 
 -- the fields are read by how many pieces stand before each location and by the width of places
 ready : (c : tie.After-places2) → FieldsReady c.before.before.before.before.args.model.now c.places2.new.1.0 c.before.before.place-size.result
-ready c = record { whole = whole _ c.before.before.before.before.requires.passes; are-places = c.places2.ensures; width_is = c.before.before.place-size.ensures }
+ready c = record { whole = whole _ c.before.before.before.before.requires.passes; are_places = c.places2.ensures; width_is = c.before.before.place-size.ensures }
 
 place-size-requires : tie.Need-place-size-requires
 place-size-requires c κs = whole _ c.before.requires.passes
@@ -33,7 +33,7 @@ same_length : tie.Need-same-length
 same_length c = search rules
 
 returns : tie.Need-returns
-returns c = let a = c.before.before.before.before.before.before.before.before.before.before.args in fields-refused a.model.now a.file.now a.table.now c.before.before.before.before.fields-questions.ensures c.before.before.before.if1.true c.before.clear.ensures
+returns c = let a = c.before.before.before.before.before.before.before.before.before.before.args in fields_refused a.model.now a.file.now a.table.now c.before.before.before.before.fields-questions.ensures c.before.before.before.if1.true c.before.clear.ensures
 
 table-size-requires : tie.Need-table-size-requires
 table-size-requires c κs = whole _ c.before.before.before.before.before.before.before.requires.passes
@@ -45,10 +45,10 @@ slice-relend-prefix-fill : tie.Need-slice-relend-prefix-fill
 slice-relend-prefix-fill c = search rules
 
 slice-aggregate-fill-2 : tie.Need-slice-aggregate-fill-2
-slice-aggregate-fill-2 c = sym (prefix-length _ c.before.before.table-size.ensures c.before.before.before.before.before.before.before.before.before.before.requires.room)
+slice-aggregate-fill-2 c = sym (prefix_length _ c.before.before.table_size_lem.ensures c.before.before.before.before.before.before.before.before.before.before.requires.room)
 
 fill-requires : tie.Need-fill-requires
-fill-requires c κs = (ready c.before.before.before.before.before.before, sym c.before.before.before.before.fields-questions.ensures ∙ c.before.before.before.if1.false, prefix-length _ c.before.before.table-size.ensures c.before.before.before.before.before.before.before.before.before.before.requires.room ∙ c.before.before.table-size.ensures)
+fill-requires c κs = (ready c.before.before.before.before.before.before, sym c.before.before.before.before.fields-questions.ensures ∙ c.before.before.before.if1.false, prefix_length _ c.before.before.table_size_lem.ensures c.before.before.before.before.before.before.before.before.before.before.requires.room ∙ c.before.before.table_size_lem.ensures)
 
 slice-aggregate-table-ok : tie.Need-slice-aggregate-table-ok
 slice-aggregate-table-ok c = search rules
@@ -57,10 +57,10 @@ slice-reshare-prefix-table-ok : tie.Need-slice-reshare-prefix-table-ok
 slice-reshare-prefix-table-ok c = search rules
 
 slice-aggregate-table-ok-2 : tie.Need-slice-aggregate-table-ok-2
-slice-aggregate-table-ok-2 c = let a = c.before.before.before.before.before.before.before.before.before.before.before.before.before.before.args in sym (front_length a.model.now a.file.now a.table.now c.before.before.before.fill.new.1.1.1.1.0 c.before.before.before.before.before.before.table-size.ensures c.before.before.before.before.before.before.before.before.before.before.before.before.before.before.requires.room c.before.before.before.fill.ensures)
+slice-aggregate-table-ok-2 c = let a = c.before.before.before.before.before.before.before.before.before.before.before.before.before.before.args in sym (front_length a.model.now a.file.now a.table.now c.before.before.before.fill.new.1.1.1.1.0 c.before.before.before.before.before.before.table_size_lem.ensures c.before.before.before.before.before.before.before.before.before.before.before.before.before.before.requires.room c.before.before.before.fill.ensures)
 
 table-ok-requires : tie.Need-table-ok-requires
-table-ok-requires c κs = let a = c.before.before.before.before.before.before.before.before.before.before.before.before.before.before.args in (record { passes = c.before.before.before.before.before.before.before.before.before.before.before.before.before.before.requires.passes; room = omega (arith, front_length a.model.now a.file.now a.table.now c.before.before.before.fill.new.1.1.1.1.0 c.before.before.before.before.before.before.table-size.ensures c.before.before.before.before.before.before.before.before.before.before.before.before.before.before.requires.room c.before.before.before.fill.ensures, c.before.before.before.before.before.before.table-size.ensures) }, c.before.before.before.before.before.before.before.before.before.before.places2.ensures)
+table-ok-requires c κs = let a = c.before.before.before.before.before.before.before.before.before.before.before.before.before.before.args in (record { passes = c.before.before.before.before.before.before.before.before.before.before.before.before.before.before.requires.passes; room = omega (arith, front_length a.model.now a.file.now a.table.now c.before.before.before.fill.new.1.1.1.1.0 c.before.before.before.before.before.before.table_size_lem.ensures c.before.before.before.before.before.before.before.before.before.before.before.before.before.before.requires.room c.before.before.before.fill.ensures, c.before.before.before.before.before.before.table_size_lem.ensures) }, c.before.before.before.before.before.before.before.before.before.before.places2.ensures)
 
 clear-requires-2 : tie.Need-clear-requires-2
 clear-requires-2 c κs = search rules
@@ -68,13 +68,13 @@ clear-requires-2 c κs = search rules
 same-length-2 : tie.Need-same-length-2
 same-length-2 c = search rules
 
-returns-2 : tie.Need-returns-2
-returns-2 c =
+returns_2 : tie.Need-returns-2
+returns_2 c =
     let a = c.before.before.before.before.before.before.before.before.before.before.before.before.before.before.before.before.before.before.before.args in
-    let front = table-front a.model.now a.file.now a.table.now c.before.before.before.before.before.before.before.before.fill.new.1.1.1.1.0 c.before.before.before.before.before.before.before.before.before.before.before.table-size.ensures c.before.before.before.before.before.before.before.before.before.before.before.before.before.before.before.before.before.before.before.requires.room c.before.before.before.before.before.before.before.before.fill.ensures in
-    table-refused a.model.now a.file.now a.table.now c.before.before.before.before.before.before.before.before.before.before.before.before.before.fields-questions.ensures c.before.before.before.before.before.before.before.before.before.before.before.before.if1.false
-    (ap (tableOk _) (sym front) ∙ sym c.before.before.before.before.table-ok.ensures ∙ not-true _ c.before.before.before.if2.true)
-    (table-zeroed a.model.now a.file.now a.table.now c.before.before.before.before.before.before.before.before.fill.new.1.1.1.1.0 c.before.before.before.before.before.before.before.before.before.before.before.table-size.ensures c.before.before.before.before.before.before.before.before.before.before.before.before.before.before.before.before.before.before.before.requires.room c.before.before.before.before.before.before.before.before.fill.ensures c.before.clear2.ensures)
+    let front = table_front a.model.now a.file.now a.table.now c.before.before.before.before.before.before.before.before.fill.new.1.1.1.1.0 c.before.before.before.before.before.before.before.before.before.before.before.table_size_lem.ensures c.before.before.before.before.before.before.before.before.before.before.before.before.before.before.before.before.before.before.before.requires.room c.before.before.before.before.before.before.before.before.fill.ensures in
+    table_refused a.model.now a.file.now a.table.now c.before.before.before.before.before.before.before.before.before.before.before.before.before.fields-questions.ensures c.before.before.before.before.before.before.before.before.before.before.before.before.if1.false
+    (ap (table_ok _) (sym front) ∙ sym c.before.before.before.before.table-ok.ensures ∙ not-true _ c.before.before.before.if2.true)
+    (table_zeroed a.model.now a.file.now a.table.now c.before.before.before.before.before.before.before.before.fill.new.1.1.1.1.0 c.before.before.before.before.before.before.before.before.before.before.before.table_size_lem.ensures c.before.before.before.before.before.before.before.before.before.before.before.before.before.before.before.before.before.before.before.requires.room c.before.before.before.before.before.before.before.before.fill.ensures c.before.clear2.ensures)
 
 same-length-3 : tie.Need-same-length-3
 same-length-3 c = search rules
@@ -82,10 +82,10 @@ same-length-3 c = search rules
 returns-3 : tie.Need-returns-3
 returns-3 c =
     let a = c.before.before.before.before.before.before.before.before.before.before.before.before.before.before.before.before.args in
-    let front = table-front a.model.now a.file.now a.table.now c.before.before.before.before.before.fill.new.1.1.1.1.0 c.before.before.before.before.before.before.before.before.table-size.ensures c.before.before.before.before.before.before.before.before.before.before.before.before.before.before.before.before.requires.room c.before.before.before.before.before.fill.ensures in
-    table-read a.model.now a.file.now a.table.now c.before.before.before.before.before.before.before.before.before.before.fields-questions.ensures c.before.before.before.before.before.before.before.before.before.if1.false
-    (ap (tableOk _) (sym front) ∙ sym c.before.table-ok.ensures ∙ not-false _ c.if2.false) c.before.before.before.before.before.before.before.before.table-size.ensures
-    (table-onto a.model.now a.file.now a.table.now c.before.before.before.before.before.fill.new.1.1.1.1.0 c.before.before.before.before.before.before.before.before.table-size.ensures c.before.before.before.before.before.before.before.before.before.before.before.before.before.before.before.before.requires.room c.before.before.before.before.before.fill.ensures)
+    let front = table_front a.model.now a.file.now a.table.now c.before.before.before.before.before.fill.new.1.1.1.1.0 c.before.before.before.before.before.before.before.before.table_size_lem.ensures c.before.before.before.before.before.before.before.before.before.before.before.before.before.before.before.before.requires.room c.before.before.before.before.before.fill.ensures in
+    table_read a.model.now a.file.now a.table.now c.before.before.before.before.before.before.before.before.before.before.fields-questions.ensures c.before.before.before.before.before.before.before.before.before.if1.false
+    (ap (table_ok _) (sym front) ∙ sym c.before.table-ok.ensures ∙ not-false _ c.if2.false) c.before.before.before.before.before.before.before.before.table_size_lem.ensures
+    (table_onto a.model.now a.file.now a.table.now c.before.before.before.before.before.fill.new.1.1.1.1.0 c.before.before.before.before.before.before.before.before.table_size_lem.ensures c.before.before.before.before.before.before.before.before.before.before.before.before.before.before.before.before.requires.room c.before.before.before.before.before.fill.ensures)
 
 pub read-faces-spec : {M : Type 1} → statement M
 read-faces-spec =
@@ -109,6 +109,6 @@ read-faces-spec =
     table-ok-requires
     clear-requires-2
     same-length-2
-    returns-2
+    returns_2
     same-length-3
     returns-3)

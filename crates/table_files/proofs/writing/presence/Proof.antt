@@ -5,7 +5,7 @@ use native.Mathlib.Omega.{arith}
 use borrow.Author.Rules.{rules}
 use lib.IntN.{pos}
 use mir.Facts.{to_z-of_z}
-use Rattle.integers.specs.Words.{eqZ}
+use Rattle.integers.specs.Words.{eq_z}
 use Rattle.table_files.proofs.writing.presence.Statement.{statement}
 use Rattle.table_files.proofs.writing.presence.Tie as tie
 
@@ -13,10 +13,10 @@ same-requires : tie.Need-same-requires
 same-requires c κs = search rules
 
 returns : tie.Need-returns
-returns c = let e : eqZ c.before.before.args.flag (pos 1) ≡ true = simp (to_z-of_z c.before.before.ranges.flag) at (sym c.before.same.ensures ∙ c.if1.true) in (rw e refl, omega arith)
+returns c = let e : eq_z c.before.before.args.flag (pos 1) ≡ true = simp (to_z-of_z c.before.before.ranges.flag) at (sym c.before.same.ensures ∙ c.if1.true) in (rw e refl, omega arith)
 
-returns-2 : tie.Need-returns-2
-returns-2 c = let e : eqZ c.before.before.args.flag (pos 1) ≡ false = simp (to_z-of_z c.before.before.ranges.flag) at (sym c.before.same.ensures ∙ c.if1.false) in (rw e refl, omega arith)
+returns_2 : tie.Need-returns-2
+returns_2 c = let e : eq_z c.before.before.args.flag (pos 1) ≡ false = simp (to_z-of_z c.before.before.ranges.flag) at (sym c.before.same.ensures ∙ c.if1.false) in (rw e refl, omega arith)
 
 pub presence-spec : {M : Type 1} → statement M
-presence-spec = tie.close (tie.spec same-requires returns returns-2)
+presence-spec = tie.close (tie.spec same-requires returns returns_2)
