@@ -1,6 +1,8 @@
 // The ceiling, the checker and the analysis of a model's words (document 01, "Checker" and "Analysis"). Outsiders call ceiling,
 // check and analyse; questions, certificate_questions and analyse_passed serve the desk and the host, which ask for themselves
 // what these ask of their callers.
+#![tactic(auto)]
+
 ghost use Rattle.std.specs.Prelude.{◌≡◌, true};
 ghost use Rattle.integers.specs.Words.{equal};
 ghost use Rattle.plant.specs.Tables.{table_ok, pass};

@@ -1,4 +1,6 @@
 // The delays from a part to a wall or into a range, and whether a part touches a box (document 01, "Delays").
+#![tactic(auto)]
+
 ghost use Rattle.std.specs.Prelude.{◌≡◌, true, false, cond, ◌-ℤ◌};
 ghost use Rattle.integers.specs.Rounding.{max_z, min_z};
 ghost use Rattle.plant.specs.Box.{low, high};

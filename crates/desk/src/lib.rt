@@ -1,4 +1,6 @@
 // The order desk: two counters, and an analysis that moves them (document 01, "Desk and host").
+#![tactic(auto)]
+
 ghost use Rattle.std.specs.Prelude.{◌≡◌};
 ghost use Rattle.plant.specs.Calls.{passes_of};
 ghost use Rattle.orders.specs.Desks.{counters_ok, Served, desk_call};
@@ -7,7 +9,7 @@ use orders::Desk;
 use plant::Answer;
 
 // What a desk call by value hands back: the desk after it, and its answer.
-#[derive(Drop)]
+#[derive(Clone, Copy)]
 pub struct Receipt {
     pub desk: Desk,
     pub answer: Answer,

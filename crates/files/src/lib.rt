@@ -1,7 +1,8 @@
 // The type that the definitions of files and the code share.
+#![tactic(auto)]
 
 // The field that begins at a position of a file.
-#[derive(Drop)]
+#[derive(Clone, Copy)]
 pub enum Field {
     // the payload starts at `start` and ends before `next`
     Whole {

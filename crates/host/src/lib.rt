@@ -1,4 +1,6 @@
 // The host's calls, for C (document 01, "Desk and host"). Nothing is kept between calls: each holds its words on the stack.
+#![tactic(auto)]
+
 ghost use Rattle.std.specs.Prelude.{◌≡◌, ◌≤◌, length};
 ghost use Rattle.plant.specs.Questions.{model_questions};
 ghost use Rattle.plant.specs.Tables.{table_size, longest_table_file};

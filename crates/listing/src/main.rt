@@ -1,6 +1,8 @@
 // The listing program: reads a model file from standard input, and writes its answer and the pieces of the answer's table
 // (document 01, "Plant P and other cases"). Decide gives both, the table as a file. That file's fields are the lines, so which
 // pieces are present, how many and in which order is proved where the file is written.
+#![tactic(auto)]
+
 ghost use Rattle.std.specs.Prelude.{◌≡◌, ℕ, ◌+◌, ◌≤◌, ◌<◌, length};
 ghost use Rattle.files.specs.Fields.{payload_length, field_length};
 ghost use Rattle.interface.specs.Hosts.{packed, decide_call};

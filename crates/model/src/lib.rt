@@ -1,4 +1,6 @@
 // The questions of a model's words, 2 to 5, 43, 11 to 19 and 46. These functions serve the crates above and are no calls of outsiders.
+#![tactic(auto)]
+
 ghost use Rattle.std.specs.Prelude.{◌≡◌, ◌&&◌, ◌+◌, ◌*◌, ◌≤◌, ◌<◌, length, nat_abs};
 ghost use Rattle.std.specs.Int.Signed.{le_z};
 ghost use Rattle.integers.specs.Counted.{all_below};

@@ -1,5 +1,7 @@
 // Reading and writing a model's file (document 01, "Files"; document 02, T-01, T-10 and T-12). Outsiders call read_model and
 // write_model.
+#![tactic(auto)]
+
 ghost use Rattle.std.specs.Prelude.{◌≡◌, true, cond, [], ◌∷◌, ◌++◌, ◌+◌, ◌≤◌, ◌<◌, T, pos, negsuc, length, take};
 ghost use Rattle.integers.specs.Words.{word, num, onto};
 ghost use Rattle.files.specs.Fields.{field_length, field_at};

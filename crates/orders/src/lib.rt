@@ -1,14 +1,15 @@
 // The types that the definitions of orders and the code share.
+#![tactic(auto)]
 
 // The desk: jobs answered, and passes answered.
-#[derive(Drop)]
+#[derive(Clone, Copy)]
 pub struct Desk {
     pub jobs: u32,
     pub passes: u32,
 }
 
 // What an order may take at most: the words of its table, the bytes of a file of it, and passes.
-#[derive(Drop)]
+#[derive(Clone, Copy)]
 pub struct Figures {
     pub words: usize,
     pub bytes: usize,
@@ -16,7 +17,7 @@ pub struct Figures {
 }
 
 // What a model is quoted, or a refusal's number.
-#[derive(Drop)]
+#[derive(Clone, Copy)]
 pub enum Quote {
     AtMost(Figures),
     Refused(u32),

@@ -1,5 +1,7 @@
 // The pass over a table (document 01, "Pass, ceiling"), with pieces for faces (document 02, T-12), and the start part of a location,
 // from which it steps as from pieces (T-02). Both functions serve the crates above and are no calls of outsiders: model and table have passed their questions.
+#![tactic(auto)]
+
 ghost use Rattle.std.specs.Prelude.{◌≡◌, length};
 ghost use Rattle.plant.specs.Tables as T;
 ghost use Rattle.tables.specs.Places.{Places};

@@ -1,1 +1,2 @@
 // All that is promised, as one theorem. Definitions and laws alone.
+#![tactic(auto)]

@@ -1,4 +1,6 @@
 // Quoting an order: what any analysis of a model may take at most, from the model alone (document 02, T-07).
+#![tactic(auto)]
+
 ghost use Rattle.std.specs.Prelude.{◌≡◌};
 ghost use Rattle.orders.specs.Quotes.{quote_call};
 

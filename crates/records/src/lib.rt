@@ -1,6 +1,8 @@
 // Reading a model's words: its numbers of variables, locations, switches and forbidden boxes, its edition, where the records stand, and
 // what they hold. These functions serve the crates above and are no calls of outsiders: what they are lent has passed its questions so
 // far.
+#![tactic(auto)]
+
 ghost use Rattle.std.specs.Prelude.{◌≡◌, ◌+◌, ◌*◌, ◌≤◌, ◌<◌, T, length};
 ghost use Rattle.std.specs.Int.Signed.{non_neg};
 ghost use Rattle.integers.specs.Words as W;

@@ -1,5 +1,7 @@
 // The box of a wall step and the switch step, of n variables (document 01, "Wall step and switch step"), and the cut of a box.
 // Each writes the box of the face that it gives to the front of a lent list, and answers whether it gives one.
+#![tactic(auto)]
+
 ghost use Rattle.std.specs.Prelude.{◌≡◌, cond, ℕ, ◌≤ℤ◌};
 ghost use Rattle.integers.specs.Rounding.{max_z, min_z};
 ghost use Rattle.plant.specs.Box.{low, high, cut, present, unless_empty};

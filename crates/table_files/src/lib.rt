@@ -1,5 +1,7 @@
 // Reading and writing a table's file (document 01, "Files", with pieces for faces: document 02, T-12). Outsiders call read_table
 // and write_table. The other public functions serve the quote and the host, on a model that has passed its questions.
+#![tactic(auto)]
+
 ghost use Rattle.std.specs.Prelude.{◌≡◌, ◌+◌, ◌*◌, ◌≤◌, ◌<◌};
 ghost use Rattle.plant.specs.Model.{L#};
 ghost use Rattle.plant.specs.Pieces.{per_face};

@@ -1,5 +1,7 @@
 // The words of a table: faces, or their pieces, each a flag and a box (document 01, "Pass, ceiling"; document 02, T-12). These
 // functions serve the crates above and are no calls of outsiders: what they are lent has passed its questions.
+#![tactic(auto)]
+
 ghost use Rattle.std.specs.Prelude.{◌≡◌, ◌+◌, ◌*◌, ◌<◌, ◌≤◌, pos, length, take, drop, set};
 ghost use Rattle.integers.specs.Words.{word};
 ghost use Rattle.integers.specs.Counted.{sum_below};

@@ -1,4 +1,6 @@
 // Words and fields of a file's bytes, and a cursor over them.
+#![tactic(auto)]
+
 ghost use Rattle.std.specs.Prelude.{◌≡◌, ◌++◌, ◌+◌, ◌*◌, ◌≤◌, ◌<◌, length, take};
 ghost use Rattle.std.specs.Int.{w32};
 ghost use Rattle.std.proofs.Common.{to_z, of_z};
@@ -195,7 +197,7 @@ pub fn put_header(out: &mut [u8], to: usize, tag: u8, len: usize)
 // ---- the cursor
 
 // A place in a file.
-#[derive(Drop)]
+#[derive(Clone, Copy)]
 pub struct Cursor<'a> {
     pub file: &'a [u8],
     pub at: usize,
