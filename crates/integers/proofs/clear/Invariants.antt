@@ -1,0 +1,18 @@
+-- Filled from the front: after i turns the first i words are zero, the rest as they were.
+use lib.IntN.{ℤ}
+use mathlib.Core.List.{List}
+use Rattle.integers.proofs.Buffers.{onto_none, onto-set, onto_all, replicate_more}
+use lib.ListN.{length-set, length-replicate}
+use native.Mathlib.Omega.{arith}
+use mathlib.Core.Path.{◌≡◌, refl, ap, ◌∙◌}
+use Prim.Native.Nat.{ℕ, ◌-◌, ◌≤◌}
+use lib.ListN.{length, replicate}
+use lib.IntN.{pos}
+use Rattle.integers.specs.Words.{onto}
+use Rattle.integers.proofs.clear.Given as goal
+
+abbrev pub invariant-loop-i : goal.invariant-loop-i
+invariant-loop-i l = (l.i ≤ length l.initial.words) × (length l.words ≡ length l.initial.words) × (l.words ≡ onto (replicate l.i (pos 0)) l.initial.words)
+
+abbrev pub decreases-loop-i : goal.decreases-loop-i
+decreases-loop-i l = length l.initial.words - l.i
