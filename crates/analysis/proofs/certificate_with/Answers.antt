@@ -1,0 +1,26 @@
+-- Each return is one case of the two questions.
+use mathlib.Core.Path.{◌≡◌, sym, ◌∙◌}
+use mathlib.Core.Bool.{true}
+use borrow.Author.Rules.{rules}
+use borrow.Author.Tests.{not-true, not-false}
+use Rattle.integers.specs.Words.{equal}
+use Rattle.plant.specs.Tables.{pass}
+use Rattle.checks.proofs.Links.{none_linked}
+use Rattle.analysis.proofs.Calls.{changes, touches, certified}
+use Rattle.analysis.proofs.certificate_with.Goals as goal
+
+pub returns-then-not-fixpoint : goal.returns-then-not-fixpoint
+returns-then-not-fixpoint c = changes _ _ c.requires.0.size (sym c.fixpoint.ensures.0 ∙ not-true _ c.if-not-fixpoint.true-raw)
+
+pub link-requires : goal.link-requires
+link-requires c = let s = c.before.before.before.before.before.before.before in (s.requires.0.passes, none_linked s.args.model.now)
+
+-- after 33: a pass leaves the table as it is
+fixed : (c : goal.Else-not-fixpoint) → let a = c.args in equal (pass a.model.now a.table.now) a.table.now ≡ true
+fixed c = sym c.fixpoint.ensures.0 ∙ not-false _ c.if-not-fixpoint.false-raw
+
+pub returns-then-touching : goal.returns-then-touching
+returns-then-touching c = touches _ _ c.requires.0.size (fixed c.before.before.before.before.before.before.before) (sym c.touching.ensures ∙ c.if-touching.true)
+
+pub returns : goal.returns
+returns c = certified _ _ c.requires.0.size (fixed c.before.before.before.before.before.before.before) (sym c.touching.ensures ∙ c.if-touching.false)

@@ -1,0 +1,25 @@
+-- The places are made once; each return is one case of the three questions.
+use mathlib.Core.Path.{◌≡◌, refl, sym, ◌∙◌}
+use mathlib.Core.Bool.{true}
+use borrow.Author.Tests.{not-true, not-false}
+use Rattle.plant.specs.Tables.{table_ok}
+use Rattle.plant.proofs.Passing.{whole}
+use Rattle.analysis.proofs.Calls.{not_valid, valid_asked}
+use borrow.Author.Rules.{rules}
+use Rattle.analysis.proofs.table_questions.Goals as goal
+
+pub places-requires : goal.places-requires
+places-requires c = (whole _ c.requires.passes, refl)
+
+pub returns-then-not-table_ok : goal.returns-then-not-table_ok
+returns-then-not-table_ok c = not_valid _ _ (sym c.table_ok.ensures ∙ not-true _ c.if-not-table_ok.true-raw)
+
+-- after 32
+valid : (c : goal.Else-not-table_ok) → let a = c.args in table_ok a.model.now a.table.now ≡ true
+valid c = sym c.table_ok.ensures ∙ not-false _ c.if-not-table_ok.false-raw
+
+pub certificate_held-requires : goal.certificate_held-requires
+certificate_held-requires c = let i = c.before in (i.requires, i.places.ensures, valid i)
+
+pub returns : goal.returns
+returns c = valid_asked _ _ (valid c.before.before) c.certificate_held.ensures

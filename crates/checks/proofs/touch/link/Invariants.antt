@@ -1,0 +1,16 @@
+-- The boxes that the loop has passed are linked.
+use mathlib.Core.Path.{◌≡◌, subst}
+use Prim.Native.Nat.{ℕ, ◌-◌, ◌<◌, ◌≤◌}
+use native.Mathlib.Omega.{arith}
+use Rattle.plant.specs.Model.{B#}
+use Rattle.plant.proofs.Passed.{passed}
+use Rattle.plant.proofs.Passing.{whole}
+use Rattle.checks.specs.Links.{Linked}
+use Rattle.checks.proofs.Links.{one_linked}
+use Rattle.checks.proofs.touch.link.Given as goal
+
+abbrev pub invariant-loop-b : goal.invariant-loop-b
+invariant-loop-b l = (l.b ≤ B# l.model) × Linked l.model l.b l.last l.before
+
+abbrev pub decreases-loop-b : goal.decreases-loop-b
+decreases-loop-b l = l.boxes - l.b

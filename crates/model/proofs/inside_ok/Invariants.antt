@@ -1,0 +1,15 @@
+-- The flag is the test of the variables passed: the invariant is the definition itself, at i.
+use mathlib.Core.Path.{◌≡◌}
+use Prim.Native.Nat.{◌≤◌, ◌-◌}
+use native.Mathlib.Omega.{arith}
+use borrow.Author.Rules.{rules}
+use Rattle.integers.proofs.Signed.{got64}
+use Rattle.plant.specs.Questions.{inside_ok}
+use Rattle.model.proofs.Turns.{inside_none, inside_more}
+use Rattle.model.proofs.inside_ok.Given as goal
+
+abbrev pub invariant-loop-i : goal.invariant-loop-i
+invariant-loop-i l = (l.i ≤ l.n) × (l.ok ≡ inside_ok l.i l.b l.c)
+
+abbrev pub decreases-loop-i : goal.decreases-loop-i
+decreases-loop-i l = l.n - l.i

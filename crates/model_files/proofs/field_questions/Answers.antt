@@ -1,0 +1,6 @@
+-- The two questions, in their order.
+use borrow.Author.Rules.{rules}
+use Rattle.model_files.proofs.field_questions.Goals as goal
+
+pub returns : goal.returns
+returns c = cc

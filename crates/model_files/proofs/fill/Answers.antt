@@ -1,0 +1,21 @@
+-- The words of the records, then those of the cuts behind them.
+use mathlib.Core.Path.{ap, ◌∙◌}
+use native.Mathlib.Omega.{arith}
+use lib.ListN.{length}
+use borrow.Author.Rules.{rules}
+use Rattle.files.proofs.FirstField.{length_head}
+use Rattle.files.proofs.ModelReading.{body_passed, all_filled}
+use Rattle.model_files.proofs.Filling.{cuts_ready}
+use Rattle.model_files.proofs.fill.Goals as goal
+
+pub fill_cuts-requires : goal.fill_cuts-requires
+fill_cuts-requires c =
+    let p = c.requires in
+    rw (c.cuts_from.ensures, c.locations-count.ensures, c.cut_at-to.ensures) (cuts_ready _ _ p.0.head (body_passed _ _ p.1) _ (omega (arith, p.0.room)))
+
+pub returns : goal.returns
+returns c =
+    let s = c.before.before.before.before.before.before.before.before.before.before in
+    let a = s.args in
+    all_filled a.file.now a.head.now (ap length s.requires.0.is_read ∙ length_head a.file.now) a.words.now _ _ c.fill_records.ensures
+    (rw (c.cuts_from.ensures, c.locations-count.ensures, c.cut_at-to.ensures) at c.fill_cuts.ensures)

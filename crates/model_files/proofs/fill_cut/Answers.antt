@@ -1,0 +1,29 @@
+-- The two words of the field are copied, or two words are stored.
+use native.Mathlib.Omega.{arith}
+use lib.IntN.{negsuc, pos}
+use lib.ListN.{length-set}
+use borrow.Author.Rules.{rules}
+use Rattle.model_files.proofs.CutTurns.{cut_words_lem, two_stored}
+use Rattle.model_files.proofs.fill_cut.Goals as goal
+
+pub overflow_add-from : goal.overflow_add-from
+overflow_add-from c = omega (arith, c.requires.0 c.if-named.true)
+
+pub overflow_add-from-then-named : goal.overflow_add-from-then-named
+overflow_add-from-then-named c = omega (arith, c.requires.0 c.if-named.true)
+
+pub copy_words-requires : goal.copy_words-requires
+copy_words-requires c = (omega (arith, c.requires.0 c.if-named.true), omega (arith, c.requires.1))
+
+pub slice_set_of-words-else-named : goal.slice_set_of-words-else-named
+slice_set_of-words-else-named c = simp length-set (omega (arith, c.requires.1))
+
+pub returns-then-named : goal.returns-then-named
+returns-then-named c =
+    let s = c.before.before.before.before.before in
+    rw (c.if-named.true, ← (cut_words_lem s.args.file.now s.args.at)) c.copy_words.ensures
+
+pub returns-else-named : goal.returns-else-named
+returns-else-named c =
+    let s = c.before.before in
+    rw c.if-named.false (two_stored s.args.words.now s.args.to (negsuc 0) (pos 0) s.requires.1)

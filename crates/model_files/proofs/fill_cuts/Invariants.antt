@@ -1,0 +1,14 @@
+-- The invariant: the words of the locations passed are filled in, and the next field is the first that names none of them.
+use mathlib.Core.Bool.{true}
+use mathlib.Core.Path.{◌≡◌, refl}
+use Prim.Native.Nat.{◌+◌, ◌-◌, ◌≤◌}
+use native.Mathlib.Omega.{arith}
+use lib.ListN.{length}
+use Rattle.model_files.proofs.CutTurns.{CutsFilled, filled_none, next_there, named_there, filled_more, filled_all}
+use Rattle.model_files.proofs.fill_cuts.Given as goal
+
+abbrev pub invariant-loop-l : goal.invariant-loop-l
+invariant-loop-l l = (l.l ≤ l.count) × (length l.words ≡ length l.initial.words) × CutsFilled l.file l.from l.count l.initial.words l.to l.words l.at l.place l.l
+
+abbrev pub decreases-loop-l : goal.decreases-loop-l
+decreases-loop-l l = l.count - l.l

@@ -1,0 +1,6 @@
+-- After the fields of the locations.
+use borrow.Author.Rules.{rules}
+use Rattle.model_files.proofs.switches_from.Goals as goal
+
+pub returns : goal.returns
+returns c = cc

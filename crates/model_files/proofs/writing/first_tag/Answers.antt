@@ -1,0 +1,14 @@
+-- By the edition.
+use mathlib.Core.Path.{◌≡◌, refl, sym, ◌∙◌}
+use mathlib.Core.Bool.{true, false}
+use borrow.Author.Rules.{rules}
+use lib.IntN.{pos}
+use mir.Facts.{to_z-of_z}
+use Rattle.integers.specs.Words.{eq_z}
+use Rattle.model_files.proofs.writing.first_tag.Goals as goal
+
+pub returns-then-same : goal.returns-then-same
+returns-then-same c = let e : eq_z c.args.edition (pos 2) ≡ true = simp (to_z-of_z c.ranges.edition) at (sym c.same.ensures ∙ c.if-same.true) in rw e refl
+
+pub returns-else-same : goal.returns-else-same
+returns-else-same c = let e : eq_z c.args.edition (pos 2) ≡ false = simp (to_z-of_z c.ranges.edition) at (sym c.same.ensures ∙ c.if-same.false) in rw e refl

@@ -1,0 +1,8 @@
+-- Where the cuts end.
+use borrow.Author.Rules.{rules}
+use Rattle.plant.specs.Model.{model_size}
+use Rattle.records.proofs.size.Goals as goal
+
+pub returns : goal.returns
+unfolding model_size
+returns c = cc

@@ -1,0 +1,20 @@
+-- The record of switch e lies within the words, and its numbers are not negative.
+use native.Mathlib.Omega.{arith}
+use borrow.Author.Rules.{rules}
+use Rattle.plant.specs.Model as M
+use Rattle.plant.proofs.Positions.{switch_within}
+use Rattle.records.proofs.target_side.Goals as goal
+
+pub overflow_add-switch_at : goal.overflow_add-switch_at
+overflow_add-switch_at c =
+    let s = c.before in
+    omega (arith, switch_within s.args.model.now s.requires.whole s.args.e s.requires.below)
+
+pub number-requires : goal.number-requires
+number-requires c =
+    let s = c.before in
+    rw c.switch_at.ensures (omega (arith, switch_within s.args.model.now s.requires.whole s.args.e s.requires.below), s.requires.not_negative 4 (omega arith))
+
+pub returns : goal.returns
+unfolding M.target_side
+returns c = cc

@@ -1,0 +1,19 @@
+-- The results of the calls, put into one another.
+use mir.Facts.{to_z-of_z}
+use Rattle.integers.proofs.Signed.{got64}
+use Rattle.plant.specs.Box.{low}
+use borrow.Author.Rules.{rules}
+use Rattle.steps.proofs.landed_low.Goals as goal
+
+pub returns : goal.returns
+unfolding low
+returns c =
+    let s = c.before.before.before.before.before in
+    let v = c.word-v in
+    let x = c.after_reset-set in
+    let y = c.larger in
+    let w = c.word in
+    let ex = simp v.ensures at (simp (got64 v.result v.type-inv, to_z-of_z s.ranges.g) at x.ensures) in
+    let ey = simp (ex, v.ensures) at (simp (got64 v.result v.type-inv, got64 x.result x.type-inv) at y.ensures) in
+    let e = simp (ey, w.ensures) at (simp (got64 y.result y.type-inv, got64 w.result w.type-inv) at c.larger-2.ensures) in
+    simp (got64 c.larger-2.result c.larger-2.type-inv) e

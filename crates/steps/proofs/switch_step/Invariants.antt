@@ -1,0 +1,31 @@
+-- The loop has written where the first i variables land, and tested the order of both cuts; what is left of the mask begins with bit i.
+use mathlib.Core.Path.{◌≡◌, refl, sym, ◌∙◌}
+use mathlib.Core.Bool.{◌&&◌}
+use Prim.Native.Nat.{◌+◌, ◌*◌, ◌-◌, ◌/◌, ◌^◌, ◌≤◌, ◌<◌}
+use native.Mathlib.Omega.{arith}
+use lib.Signed.{le_z}
+use lib.ListN.{length, length-set}
+use borrow.Author.Rules.{rules}
+use Rattle.integers.specs.Words.{onto}
+use Rattle.integers.specs.Counted.{all_below}
+use Rattle.integers.proofs.Signed.{got64, back32, fits32}
+use Rattle.plant.specs.Box.{box_by}
+use Rattle.plant.specs.Model.{masked}
+use Rattle.delays.specs.Ranges.{Level}
+use Rattle.steps.proofs.Written.{none_written, next_written}
+use Rattle.steps.proofs.Landing.{guarded_low, guarded_high, landed_low, landed_high, landed_by, lands_by, none_both, next_both, whole_mask, half_mask, landed_low_level, landed_high_level}
+use Rattle.steps.proofs.Faces.{switch_handed}
+use Rattle.steps.proofs.switch_step.Given as goal
+
+abbrev pub invariant-loop-i : goal.invariant-loop-i
+invariant-loop-i l =
+    let glo = guarded_low l.guard l.from in
+    let ghi = guarded_high l.guard l.from in
+    let lo = landed_low l.mask l.guard l.reset l.inv l.from in
+    let hi = landed_high l.mask l.guard l.reset l.inv l.from in
+    (l.i ≤ l.n) × (length l.out ≡ length l.initial.out) × (l.rest ≡ l.mask / 2 ^ l.i)
+    × (l.out ≡ onto (box_by l.i lo hi) l.initial.out)
+    × (l.ok ≡ all_below l.i (λ j. le_z (glo j) (ghi j)) && all_below l.i (λ j. le_z (lo j) (hi j)))
+
+abbrev pub decreases-loop-i : goal.decreases-loop-i
+decreases-loop-i l = l.n - l.i

@@ -1,0 +1,35 @@
+-- The header, the count, then the fields.
+use mathlib.Core.Path.{◌∙◌}
+use Prim.Native.Nat.{◌<◌}
+use native.Mathlib.Omega.{arith}
+use borrow.Author.Rules.{rules}
+use mir.Syntax.{w32}
+use mir.Facts.{to_z_pos}
+use Rattle.integers.proofs.Signed.{fits32}
+use Rattle.files.proofs.TableSizes.{longest_least, file_length_lem}
+use Rattle.table_files.proofs.TableWriting.{present_few, file_put}
+use Rattle.table_files.proofs.writing.put_table.Goals as goal
+
+pub put_header-requires : goal.put_header-requires
+put_header-requires c =
+    (omega (arith, c.payload_length.ensures), omega (arith, longest_least c.args.model.now, c.requires.bytes))
+
+pub overflow_cast-present_pieces : goal.overflow_cast-present_pieces
+overflow_cast-present_pieces c =
+    let s = c.before.before.before.before.before.before.before.before in
+    fits32 (omega (arith, c.present_pieces.ensures, present_few s.args.model.now s.args.table.now s.requires.whole))
+
+pub put_word-requires : goal.put_word-requires
+put_word-requires c =
+    omega (arith, longest_least c.args.model.now, c.requires.bytes, c.put_header.auto.0)
+
+pub returns : goal.returns
+returns c =
+    let s = c.before.before.before.before.before.before.before.before.before.before.before.before.before.before.before in
+    let a = s.args in
+    let p = c.present_pieces in
+    let few : p.result < 2147483648 = omega (arith, p.ensures, present_few a.model.now a.table.now s.requires.whole) in (
+      file_put a.model.now a.table.now a.file.now c.put_header.new.0 c.put_word.new.0 _ c.payload_length.ensures c.put_header.ensures
+          (rw (to_z_pos w32 {n = p.result} few, p.ensures) at c.put_word.ensures) c.put_pieces.ensures.0,
+      c.put_pieces.ensures.1 ∙ file_length_lem a.model.now a.table.now,
+    )

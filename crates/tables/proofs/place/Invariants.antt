@@ -1,0 +1,19 @@
+-- Filled from the front: the flag, then one word of the box in each turn.
+use mathlib.Core.Path.{◌≡◌, refl, ap, ◌∙◌}
+use mathlib.Core.List.{◌∷◌}
+use Prim.Native.Nat.{ℕ, ◌+◌, ◌*◌, ◌-◌, ◌≤◌}
+use native.Mathlib.Omega.{arith}
+use lib.IntN.{pos}
+use lib.ListN.{length, take, set, length-set}
+use mir.Syntax.{w32}
+use mir.Facts.{to_z-of_z}
+use borrow.Author.Rules.{sfits_of}
+use Rattle.integers.specs.Words.{word, onto}
+use Rattle.tables.proofs.Faces.{place_start, place_turn, place_end}
+use Rattle.tables.proofs.place.Given as goal
+
+abbrev pub invariant-loop-i : goal.invariant-loop-i
+invariant-loop-i l = (l.i ≤ 2 * l.n) × (length l.face ≡ length l.initial.face) × (l.face ≡ onto (pos 1 ∷ take l.i l.from) l.initial.face)
+
+abbrev pub decreases-loop-i : goal.decreases-loop-i
+decreases-loop-i l = 2 * l.n - l.i
