@@ -3,7 +3,7 @@
 use mathlib.Core.Path.{◌≡◌, refl, sym, ap, ap₂, ◌∙◌, subst}
 use mathlib.Core.Bool.{cond, not}
 use mathlib.Core.List.{List, ◌++◌}
-use Prim.Native.Nat.{ℕ, zero, suc, ◌<◌}
+use Prim.Native.Nat.{ℕ, zero, suc, ◌<◌, ◌≤◌}
 use lib.Dec.{leb}
 use lib.IntN.{ℤ, pos}
 use lib.ListN.{length, take, drop, take-append-drop, replicate}
@@ -12,7 +12,7 @@ use Rattle.plant.specs.declared.Answer.TheVariants.{Safe, Unknown, Unfinished}
 use Rattle.plant.specs.declared.Ceiling.TheVariants.{Passes}
 use Rattle.plant.specs.Ask.{ask, ◌then◌}
 use Rattle.plant.specs.Box.{absent}
-use Rattle.plant.specs.Model.{L#, model_size, cut_from, cut_of}
+use Rattle.plant.specs.Model.{L#, cut_at, model_size, cut_from, cut_of}
 use Rattle.plant.specs.Questions.{model_questions}
 use Rattle.plant.specs.Pieces.{pieces}
 use Rattle.plant.specs.Tables.{piece_of, start_part, pass, table_after, touching}
@@ -21,6 +21,7 @@ use Rattle.plant.proofs.Asks.{then_same}
 use Rattle.plant.proofs.Passed.{Passed, passed}
 use Rattle.plant.proofs.Whole.{Whole}
 use Rattle.plant.proofs.Passing.{whole}
+use Rattle.plant.proofs.Records as records
 use Rattle.plant.proofs.Beginning as same
 use Rattle.plant.proofs.Beginning.{alone, alone_whole, questions_alone}
 use Rattle.plant.proofs.Alike.{Alike, same_size, same_ceiling, same_table, piece_same, same_ok}
@@ -34,9 +35,14 @@ module _ (a r : List ℤ) (w : Whole a) where
   abbrev m : List ℤ
   m = a ++ r
 
+  words : take (length a) m ≡ take (length a) a
+  words = same.same a r w
+
+  far : cut_at a 0 ≤ length a
+  far = same.far a r w
+
   start_behind : (l : ℕ) → l < L# a → start_part a l ≡ start_part m l
-  unfolding start_part
-  start_behind l u = sym (rw (same.n_same a r w, same.flag_same a r w l u, same.start_same a r w l u, same.invariant_same a r w l u) refl)
+  start_behind l u = sym (records.start_part_same m a (length a) words far l u)
 
   cut_behind : (l : ℕ) → l < L# a → cut_of a l ≡ cut_of m l
   unfolding cut_of
@@ -44,23 +50,23 @@ module _ (a r : List ℤ) (w : Whole a) where
 
   same_behind : SameModel a m
   same_behind = record {
-    alike = record { same_n = sym (same.n_same a r w); same_L = sym (same.L_same a r w); same_invariant = λ l u. sym (same.invariant_same a r w l u); same_cut = cut_behind };
-    same_E = sym (same.E_same a r w);
-    same_B = sym (same.B_same a r w);
-    rates = λ l u. sym (same.rate_same a r w l u);
+    alike = record { same_n = sym (records.n_same m a (length a) words far); same_L = sym (records.L_same m a (length a) words far); same_invariant = λ l u. sym (records.invariant_same m a (length a) words far l u); same_cut = cut_behind };
+    same_E = sym (records.E_same m a (length a) words far);
+    same_B = sym (records.B_same m a (length a) words far);
+    rates = λ l u. sym (records.rate_same m a (length a) words far l u);
     starts = start_behind;
     switches = λ e u. record {
-      sources = sym (same.source_same a r w e u);
-      targets = sym (same.target_same a r w e u);
-      variables = sym (same.variable_same a r w e u);
-      source_sides = sym (same.source_side_same a r w e u);
-      target_sides = sym (same.target_side_same a r w e u);
-      masks = sym (same.mask_same a r w e u);
-      guards = sym (same.guard_same a r w e u);
-      resets = sym (same.reset_same a r w e u);
+      sources = sym (records.source_same m a (length a) words far e u);
+      targets = sym (records.target_same m a (length a) words far e u);
+      variables = sym (records.variable_same m a (length a) words far e u);
+      source_sides = sym (records.source_side_same m a (length a) words far e u);
+      target_sides = sym (records.target_side_same m a (length a) words far e u);
+      masks = sym (records.mask_same m a (length a) words far e u);
+      guards = sym (records.guard_same m a (length a) words far e u);
+      resets = sym (records.reset_same m a (length a) words far e u);
     };
-    locations = λ b u. sym (same.forbidden_location_same a r w b u);
-    boxes = λ b u. sym (same.forbidden_box_same a r w b u);
+    locations = λ b u. sym (records.forbidden_location_same m a (length a) words far b u);
+    boxes = λ b u. sym (records.forbidden_box_same m a (length a) words far b u);
   }
 
 module _ (m : List ℤ) (asks : model_questions m ≡ 0) where
