@@ -11,5 +11,5 @@ unfolding high
 returns c =
     let v = c.word in
     let w = c.word-2 in
-    let m = simp (got64 v.result v.type-inv, got64 w.result w.type-inv) at c.smaller.ensures in
-    got64 c.smaller.result c.smaller.type-inv ∙ m ∙ ap₂ min_z v.ensures w.ensures
+    let m = simp (got64 v.result v.type_inv, got64 w.result w.type_inv) at c.smaller.ensures in
+    got64 c.smaller.result c.smaller.type_inv ∙ m ∙ ap₂ min_z v.ensures w.ensures

@@ -11,5 +11,5 @@ unfolding low
 returns c =
     let v = c.word in
     let w = c.word-2 in
-    let m = simp (got64 v.result v.type-inv, got64 w.result w.type-inv) at c.larger.ensures in
-    got64 c.larger.result c.larger.type-inv ∙ m ∙ ap₂ max_z v.ensures w.ensures
+    let m = simp (got64 v.result v.type_inv, got64 w.result w.type_inv) at c.larger.ensures in
+    got64 c.larger.result c.larger.type_inv ∙ m ∙ ap₂ max_z v.ensures w.ensures

@@ -11,7 +11,7 @@ delay-requires c =
     let q = c.word in
     let lo = c.word-then-c-lt0 in
     let s = c.before.before.before.before.before in
-    simp (got64 q.result q.type-inv, got64 lo.result lo.type-inv) (rw q.ensures s.requires.2.high_in, rw lo.ensures s.requires.0.low_in)
+    simp (got64 q.result q.type_inv, got64 lo.result lo.type_inv) (rw q.ensures s.requires.2.high_in, rw lo.ensures s.requires.0.low_in)
 
 pub delay-requires-then-a-gt0 : goal.delay-requires-then-a-gt0
 unfolding low high
@@ -19,7 +19,7 @@ delay-requires-then-a-gt0 c =
     let hi = c.word-then-a-gt0 in
     let p = c.word-then-a-gt0-2 in
     let s = c.before.before.before.before.before.before in
-    simp (got64 hi.result hi.type-inv, got64 p.result p.type-inv) (rw hi.ensures s.requires.0.high_in, rw p.ensures s.requires.2.low_in)
+    simp (got64 hi.result hi.type_inv, got64 p.result p.type_inv) (rw hi.ensures s.requires.0.high_in, rw p.ensures s.requires.2.low_in)
 
 pub returns-then-c-lt0 : goal.returns-then-c-lt0
 unfolding low high
@@ -29,8 +29,8 @@ returns-then-c-lt0 c =
     let v = c.word-c in
     let s = c.before.before.before.before.before.before in
     let a = s.args in
-    let t = simp v.ensures at (simp (got64 v.result v.type-inv) at c.if-c-lt0.true) in
-    let d = simp (lo.ensures, q.ensures, v.ensures) at (simp (got64 lo.result lo.type-inv, got64 q.result q.type-inv, got64 v.result v.type-inv) at c.delay.ensures) in
+    let t = simp v.ensures at (simp (got64 v.result v.type_inv) at c.if-c-lt0.true) in
+    let d = simp (lo.ensures, q.ensures, v.ensures) at (simp (got64 lo.result lo.type_inv, got64 q.result q.type_inv, got64 v.result v.type_inv) at c.delay.ensures) in
     rw d (latest_falling (low a.part.now a.i) (high a.part.now a.i) (low a.rate.now a.i) (high a.rate.now a.i) (low a.inv.now a.i) (high a.inv.now a.i) s.requires.3.not_above s.requires.3.not_below t)
 
 pub returns-then-a-gt0 : goal.returns-then-a-gt0
@@ -42,9 +42,9 @@ returns-then-a-gt0 c =
     let v = c.word-c in
     let s = c.before.before.before.before.before.before.before in
     let a = s.args in
-    let t = simp v.ensures at (simp (got64 v.result v.type-inv) at c.if-c-lt0.false) in
-    let u = simp w.ensures at (simp (got64 w.result w.type-inv) at c.if-a-gt0.true) in
-    let d = simp (hi.ensures, p.ensures, w.ensures) at (simp (got64 hi.result hi.type-inv, got64 p.result p.type-inv, got64 w.result w.type-inv) at c.delay-then-a-gt0.ensures) in
+    let t = simp v.ensures at (simp (got64 v.result v.type_inv) at c.if-c-lt0.false) in
+    let u = simp w.ensures at (simp (got64 w.result w.type_inv) at c.if-a-gt0.true) in
+    let d = simp (hi.ensures, p.ensures, w.ensures) at (simp (got64 hi.result hi.type_inv, got64 p.result p.type_inv, got64 w.result w.type_inv) at c.delay-then-a-gt0.ensures) in
     rw d (latest_rising (low a.part.now a.i) (high a.part.now a.i) (low a.rate.now a.i) (high a.rate.now a.i) (low a.inv.now a.i) (high a.inv.now a.i) s.requires.3.not_above s.requires.3.not_below t u)
 
 pub returns-else-a-gt0 : goal.returns-else-a-gt0
@@ -54,6 +54,6 @@ returns-else-a-gt0 c =
     let v = c.word-c in
     let s = c.before.before.before.before in
     let a = s.args in
-    let t = simp v.ensures at (simp (got64 v.result v.type-inv) at c.if-c-lt0.false) in
-    let u = simp w.ensures at (simp (got64 w.result w.type-inv) at c.if-a-gt0.false) in
+    let t = simp v.ensures at (simp (got64 v.result v.type_inv) at c.if-c-lt0.false) in
+    let u = simp w.ensures at (simp (got64 w.result w.type_inv) at c.if-a-gt0.false) in
     latest_endless (low a.part.now a.i) (high a.part.now a.i) (low a.rate.now a.i) (high a.rate.now a.i) (low a.inv.now a.i) (high a.inv.now a.i) s.requires.3.not_above s.requires.3.not_below t u

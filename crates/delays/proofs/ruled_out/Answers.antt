@@ -13,10 +13,10 @@ use Rattle.delays.proofs.ruled_out.Goals as goal
 
 -- the range of the variable's cut
 low_is : (c : goal.After-cut_high-hi) → let a = c.args in to_z w64 (of_z w64 c.cut_low-lo.result) ≡ lowest a.inv.now a.forbidden.now c.loop-i.i
-low_is c = got64 c.cut_low-lo.result c.cut_low-lo.type-inv ∙ c.cut_low-lo.ensures
+low_is c = got64 c.cut_low-lo.result c.cut_low-lo.type_inv ∙ c.cut_low-lo.ensures
 
 high_is : (c : goal.After-cut_high-hi) → let a = c.args in to_z w64 (of_z w64 c.cut_high-hi.result) ≡ highest a.inv.now a.forbidden.now c.loop-i.i
-high_is c = got64 c.cut_high-hi.result c.cut_high-hi.type-inv ∙ c.cut_high-hi.ensures
+high_is c = got64 c.cut_high-hi.result c.cut_high-hi.type_inv ∙ c.cut_high-hi.ensures
 
 pub loop-i-init : goal.loop-i-init
 loop-i-init c = tt
@@ -98,7 +98,7 @@ returns-then-hi-lo c _ =
     let s = h.before.before.before.before in
     let i = h.loop-i.i in
     let a = s.args in
-    let d = simp (low_is h, high_is h, got64 w1.word-p.result w1.word-p.type-inv, got64 w2.word-q.result w2.word-q.type-inv, got64 w3.word-a.result w3.word-a.type-inv, got64 w4.word-c.result w4.word-c.type-inv) at c.no_delay.ensures in
+    let d = simp (low_is h, high_is h, got64 w1.word-p.result w1.word-p.type_inv, got64 w2.word-q.result w2.word-q.type_inv, got64 w3.word-a.result w3.word-a.type_inv, got64 w4.word-c.result w4.word-c.type_inv) at c.no_delay.ensures in
     let e = simp (w1.word-p.ensures, w2.word-q.ensures, w3.word-a.ensures, w4.word-c.ensures) at d in
     ruled_out a.n a.inv.now a.rate.now a.part.now a.forbidden.now i (omega arith) (simp (low_is h, high_is h, e) at c.if-hi-lo.true)
 

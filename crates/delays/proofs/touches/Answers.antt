@@ -14,10 +14,10 @@ use Rattle.delays.proofs.touches.Goals as goal
 
 -- the range of the variable's cut
 low_is : (c : goal.After-cut_high-hi) → let a = c.args in to_z w64 (of_z w64 c.cut_low-lo.result) ≡ lowest a.inv.now a.forbidden.now c.loop-i.i
-low_is c = got64 c.cut_low-lo.result c.cut_low-lo.type-inv ∙ c.cut_low-lo.ensures
+low_is c = got64 c.cut_low-lo.result c.cut_low-lo.type_inv ∙ c.cut_low-lo.ensures
 
 high_is : (c : goal.After-cut_high-hi) → let a = c.args in to_z w64 (of_z w64 c.cut_high-hi.result) ≡ highest a.inv.now a.forbidden.now c.loop-i.i
-high_is c = got64 c.cut_high-hi.result c.cut_high-hi.type-inv ∙ c.cut_high-hi.ensures
+high_is c = got64 c.cut_high-hi.result c.cut_high-hi.type_inv ∙ c.cut_high-hi.ensures
 
 -- the delays into it
 delays_are : (c : goal.After-variable_delays) → let h = c.before.before in let a = h.args in c.variable_delays.result ≡ delays_at a.inv.now a.rate.now a.part.now a.forbidden.now h.loop-i.i

@@ -13,7 +13,7 @@ word-at-requires : tie.Need-word-at-requires
 word-at-requires c κs = search rules
 
 cast-magnitude : tie.Need-overflow-cast-magnitude
-cast-magnitude c = rw (to_z-of_z {w = w32} (sfits_of c.word_at.type-inv)) (widened c.word_at.result c.word_at.type-inv)
+cast-magnitude c = rw (to_z-of_z {w = w32} (sfits_of c.word_at.type_inv)) (widened c.word_at.result c.word_at.type_inv)
 
 magnitude-requires : tie.Need-magnitude-requires
 magnitude-requires c κs = search rules

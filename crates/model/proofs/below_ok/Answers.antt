@@ -9,4 +9,4 @@ pub returns : goal.returns
 returns c =
     let a = c.args in
     let w = c.word in
-    below_top a.s.now a.at a.k (omega arith) (rw (got64 w.result w.type-inv, w.ensures) at c.within.ensures)
+    below_top a.s.now a.at a.k (omega arith) (rw (got64 w.result w.type_inv, w.ensures) at c.within.ensures)

@@ -24,7 +24,7 @@ overflow_cast-most-in-loop-i c = fits64 {z = pos c.args.most} (omega arith)
 pub loop-i-preserved : goal.loop-i-preserved
 loop-i-preserved c =
     let s = c.before.before.before.before.before in
-    (omega arith, box_more s.args.most s.args.b.now c.loop-i.i c.loop-i.invariant.1 (rw (got64 c.word-lo.result c.word-lo.type-inv, got64 c.word-hi.result c.word-hi.type-inv, limit_back s.args.most (omega arith), as_signed s.args.most (omega arith), c.word-lo.ensures, c.word-hi.ensures) at c.range_ok-ok.ensures))
+    (omega arith, box_more s.args.most s.args.b.now c.loop-i.i c.loop-i.invariant.1 (rw (got64 c.word-lo.result c.word-lo.type_inv, got64 c.word-hi.result c.word-hi.type_inv, limit_back s.args.most (omega arith), as_signed s.args.most (omega arith), c.word-lo.ensures, c.word-hi.ensures) at c.range_ok-ok.ensures))
 
 pub returns : goal.returns
 returns c =

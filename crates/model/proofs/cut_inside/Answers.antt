@@ -38,19 +38,19 @@ returns-then-not-below_ok c =
 pub natural-variable-requires : goal.natural-variable-requires
 natural-variable-requires c =
     let v = c.cut_variable in
-    rw (got32 v.result v.type-inv, v.ensures) (variable c.before).0
+    rw (got32 v.result v.type_inv, v.ensures) (variable c.before).0
 
 pub strictly_inside-requires : goal.strictly_inside-requires
 strictly_inside-requires c =
     let v = c.cut_variable in
     let s = c.before.before.before.before.before.before.before.before in
-    let k = rw (got32 v.result v.type-inv, v.ensures) at c.natural-variable.ensures in
+    let k = rw (got32 v.result v.type_inv, v.ensures) at c.natural-variable.ensures in
     omega (arith, ap length c.invariant.ensures, at.length-invariant s.args.model.now s.requires.0 s.args.l s.requires.1, k, (variable c.before.before.before.before).1)
 
 pub returns : goal.returns
 returns c =
     let v = c.cut_variable in
     let x = c.cut_value-value in
-    let k = rw (got32 v.result v.type-inv, v.ensures) at c.natural-variable.ensures in
+    let k = rw (got32 v.result v.type_inv, v.ensures) at c.natural-variable.ensures in
     first_yes (asked c.before.before.before.before.before.before) c.if-not-below_ok.false-raw
-    (rw (← k, ← c.invariant.ensures, ← x.ensures) (rw (got32 x.result x.type-inv) at c.strictly_inside.ensures))
+    (rw (← k, ← c.invariant.ensures, ← x.ensures) (rw (got32 x.result x.type_inv) at c.strictly_inside.ensures))

@@ -9,6 +9,6 @@ unfolding Q.cut_question Q.cut_ok
 returns c =
     let v = c.cut_variable in
     let x = c.cut_value in
-    let e = rw (got32 v.result v.type-inv) at c.same-no_variable.ensures in
-    let f = rw (got32 x.result x.type-inv) at c.same-no_value.ensures in
+    let e = rw (got32 v.result v.type_inv) at c.same-no_variable.ensures in
+    let f = rw (got32 x.result x.type_inv) at c.same-no_value.ensures in
     rw (c.ask.ensures, e, f, c.cut_inside.ensures, v.ensures, x.ensures)

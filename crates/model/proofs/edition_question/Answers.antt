@@ -7,10 +7,10 @@ use Rattle.plant.specs.Questions.{edition_question}
 use Rattle.model.proofs.edition_question.Goals as goal
 
 pub overflow_cast-edition : goal.overflow_cast-edition
-overflow_cast-edition c = rw (to_z-of_z {w = w32} (sfits_of c.edition.type-inv)) (widened c.edition.result c.edition.type-inv)
+overflow_cast-edition c = rw (to_z-of_z {w = w32} (sfits_of c.edition.type_inv)) (widened c.edition.result c.edition.type_inv)
 
 pub returns : goal.returns
 unfolding edition_question
 returns c =
     let e = c.edition in
-    rw (c.within.ensures, got32 e.result e.type-inv, to_z-of_z (widened e.result e.type-inv), e.ensures) at c.ask.ensures
+    rw (c.within.ensures, got32 e.result e.type_inv, to_z-of_z (widened e.result e.type_inv), e.ensures) at c.ask.ensures

@@ -23,6 +23,6 @@ pub returns : goal.returns
 unfolding Q.guard_ok low high
 returns c =
     let w = c.source_wall-w in
-    let e = rw (got32 w.result w.type-inv, got32 _ c.same-arg-1.given) at c.same.ensures in
-    let f = rw (got32 w.result w.type-inv, got32 _ c.same-arg-2-1.given) at c.same-2.ensures in
+    let e = rw (got32 w.result w.type_inv, got32 _ c.same-arg-1.given) at c.same.ensures in
+    let f = rw (got32 w.result w.type_inv, got32 _ c.same-arg-2-1.given) at c.same-2.ensures in
     rw (e, f, w.ensures, c.guard-b.ensures, c.wall_variable-d.ensures)

@@ -15,7 +15,7 @@ pub loop-i-preserved : goal.loop-i-preserved
 loop-i-preserved c =
     let s = c.before.before.before.before.before.before.before in
     let p = c.loop-i in
-    (omega arith, inside_more s.args.b.now s.args.c.now p.i p.invariant.1 (rw (got64 c.word-lo.result c.word-lo.type-inv, got64 c.word-hi.result c.word-hi.type-inv, got64 c.word-least.result c.word-least.type-inv, got64 c.word-most.result c.word-most.type-inv, c.word-lo.ensures, c.word-hi.ensures, c.word-least.ensures, c.word-most.ensures) at c.range_ok-ok.ensures))
+    (omega arith, inside_more s.args.b.now s.args.c.now p.i p.invariant.1 (rw (got64 c.word-lo.result c.word-lo.type_inv, got64 c.word-hi.result c.word-hi.type_inv, got64 c.word-least.result c.word-least.type_inv, got64 c.word-most.result c.word-most.type_inv, c.word-lo.ensures, c.word-hi.ensures, c.word-least.ensures, c.word-most.ensures) at c.range_ok-ok.ensures))
 
 pub returns : goal.returns
 returns c =

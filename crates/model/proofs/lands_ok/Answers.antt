@@ -9,4 +9,4 @@ unfolding lands_ok
 returns c =
     let l = c.level_after in
     let w = c.target_wall in
-    rw (got32 w.result w.type-inv, got32 l.result l.type-inv, w.ensures, l.ensures) at c.same.ensures
+    rw (got32 w.result w.type_inv, got32 l.result l.type_inv, w.ensures, l.ensures) at c.same.ensures

@@ -21,4 +21,4 @@ returns-then-masked c =
 pub returns-else-masked : goal.returns-else-masked
 returns-else-masked c =
     let s = c.before.before.before.before.before in
-    got32 _ c.source_wall.type-inv ∙ after_kept s.args.model.now s.args.e c.wall_variable-d.ensures c.reset_mask.ensures c.masked.ensures c.if-masked.false c.source_wall.ensures
+    got32 _ c.source_wall.type_inv ∙ after_kept s.args.model.now s.args.e c.wall_variable-d.ensures c.reset_mask.ensures c.masked.ensures c.if-masked.false c.source_wall.ensures

@@ -13,6 +13,6 @@ returns c =
     let b = k.word-switches in
     let l = k.word-locations in
     let n = k.word-n in
-    both c.or_else-2.ensures (rw (k.within.ensures, got64 n.result n.type-inv, n.ensures) at c.ask-q2.ensures)
-    (both c.or_else.ensures (rw (c.within-2.ensures, got64 l.result l.type-inv, l.ensures) at c.ask-q3.ensures)
-    (rw (c.within-3.ensures, c.within-4.ensures, got64 b.result b.type-inv, got64 d.result d.type-inv, b.ensures, d.ensures) at c.ask-q4.ensures))
+    both c.or_else-2.ensures (rw (k.within.ensures, got64 n.result n.type_inv, n.ensures) at c.ask-q2.ensures)
+    (both c.or_else.ensures (rw (c.within-2.ensures, got64 l.result l.type_inv, l.ensures) at c.ask-q3.ensures)
+    (rw (c.within-3.ensures, c.within-4.ensures, got64 b.result b.type_inv, got64 d.result d.type_inv, b.ensures, d.ensures) at c.ask-q4.ensures))

@@ -8,12 +8,12 @@ pub returns-then-same : goal.returns-then-same
 returns-then-same c =
     let s = c.before.before.before.before.before in
     let e = c.edition in
-    single_d s.args.model.now s.args.e (rw (got32 e.result e.type-inv, e.ensures) at c.same.ensures) c.if-same.true
+    single_d s.args.model.now s.args.e (rw (got32 e.result e.type_inv, e.ensures) at c.same.ensures) c.if-same.true
     (rw c.wall_variable.ensures at c.single_at.ensures)
 
 pub returns-else-same : goal.returns-else-same
 returns-else-same c =
     let s = c.before.before.before.before in
     let e = c.edition in
-    single_all s.args.model.now s.args.e (rw (got32 e.result e.type-inv, e.ensures) at c.same.ensures) c.if-same.false
+    single_all s.args.model.now s.args.e (rw (got32 e.result e.type_inv, e.ensures) at c.same.ensures) c.if-same.false
     c.all_single.ensures

@@ -22,6 +22,6 @@ pub returns : goal.returns
 unfolding Q.start_ok
 returns c =
     let g = c.start_flag-flag in
-    let e = rw (got32 g.result g.type-inv) at c.same.ensures in
-    let f = rw (got32 g.result g.type-inv) at c.same-2.ensures in
+    let e = rw (got32 g.result g.type_inv) at c.same.ensures in
+    let f = rw (got32 g.result g.type_inv) at c.same-2.ensures in
     rw (e, f, c.zeros_ok.ensures, c.box_ok.ensures, g.ensures, c.start_box-start.ensures, c.variables-n.ensures)

@@ -7,11 +7,11 @@ use Rattle.model_files.proofs.CutTurns.{words_asked}
 use Rattle.model_files.proofs.cut_words_ok.Goals as goal
 
 pub overflow_cast-location : goal.overflow_cast-location
-overflow_cast-location c = rw (to_z-of_z {w = w32} (sfits_of c.word_at-location.type-inv)) (widened c.word_at-location.result c.word_at-location.type-inv)
+overflow_cast-location c = rw (to_z-of_z {w = w32} (sfits_of c.word_at-location.type_inv)) (widened c.word_at-location.result c.word_at-location.type_inv)
 
 pub returns : goal.returns
 returns c =
     let s = c.before.before.before.before.before in
     let v = c.before.before in
     let l = c.before.before.before in
-    words_asked s.args.file.now s.args.at c.within-named.ensures c.same.ensures l.word_at-location.type-inv l.word_at-location.ensures v.word_at-variable.type-inv v.word_at-variable.ensures s.requires.1 s.requires.3
+    words_asked s.args.file.now s.args.at c.within-named.ensures c.same.ensures l.word_at-location.type_inv l.word_at-location.ensures v.word_at-variable.type_inv v.word_at-variable.ensures s.requires.1 s.requires.3

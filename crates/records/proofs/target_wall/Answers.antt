@@ -18,4 +18,4 @@ unfolding Q.target_wall
 returns c =
     let s = c.before.before.before.before.before in
     let e : c.wall.result ≡ Q.target_wall s.args.model.now s.args.e = cc in
-    got32 c.wall.result c.wall.type-inv ∙ e
+    got32 c.wall.result c.wall.type_inv ∙ e

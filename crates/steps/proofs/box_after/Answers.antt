@@ -63,7 +63,7 @@ ordered_is c {t} e =
     let a = c.args in
     let x = c.low_after-lo in
     let y = c.high_after-hi in
-    rw (← (x.ensures a.n), ← (y.ensures a.n)) (le_by x.result y.result (simp (got64 x.result x.type-inv, got64 y.result y.type-inv) at e))
+    rw (← (x.ensures a.n), ← (y.ensures a.n)) (le_by x.result y.result (simp (got64 x.result x.type_inv, got64 y.result y.type_inv) at e))
 
 pub returns-then-hi-lo : goal.returns-then-hi-lo
 returns-then-hi-lo c =
@@ -73,10 +73,10 @@ returns-then-hi-lo c =
     after_left s.args.n s.args.inv.now s.args.rate.now s.args.part.now s.args.d s.args.b s.args.t l.i (omega arith) (simp b at (ordered_is c.before c.if-hi-lo.true)) s.requires.0.room (simp b at l.invariant.2)
 
 pub overflow_cast-out : goal.overflow_cast-out
-overflow_cast-out c = simp (got64 c.low_after-lo.result c.low_after-lo.type-inv) (fits32 (omega (arith, low_word c.before)))
+overflow_cast-out c = simp (got64 c.low_after-lo.result c.low_after-lo.type_inv) (fits32 (omega (arith, low_word c.before)))
 
 pub overflow_cast-out-in-loop-i : goal.overflow_cast-out-in-loop-i
-overflow_cast-out-in-loop-i c = simp (got64 c.high_after-hi.result c.high_after-hi.type-inv) (fits32 (omega (arith, high_word c.before)))
+overflow_cast-out-in-loop-i c = simp (got64 c.high_after-hi.result c.high_after-hi.type_inv) (fits32 (omega (arith, high_word c.before)))
 
 pub bounds-out-j : goal.bounds-out-j
 bounds-out-j c = simp length-set (omega arith)
@@ -88,8 +88,8 @@ loop-i-preserved c =
     let l = d.loop-i in
     let x = d.low_after-lo in
     let y = d.high_after-hi in
-    let x64 = got64 x.result x.type-inv in
-    let y64 = got64 y.result y.type-inv in
+    let x64 = got64 x.result x.type_inv in
+    let y64 = got64 y.result y.type_inv in
     let x32 = back32 x.result (omega (arith, low_word d)) in
     let y32 = back32 y.result (omega (arith, high_word d)) in
     let room : 2 * l.i + 1 < length a.out.now = omega arith in (

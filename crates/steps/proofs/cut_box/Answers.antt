@@ -64,7 +64,7 @@ ordered_is : (c : goal.After-cut_high-high) {t : Bool} → lt_z (to_z w64 (of_z 
 ordered_is c {t} e =
     let x = c.cut_low-low in
     let y = c.cut_high-high in
-    rw (← x.ensures, ← y.ensures) (le_by x.result y.result (simp (got64 x.result x.type-inv, got64 y.result y.type-inv) at e))
+    rw (← x.ensures, ← y.ensures) (le_by x.result y.result (simp (got64 x.result x.type_inv, got64 y.result y.type_inv) at e))
 
 pub returns-then-high-low : goal.returns-then-high-low
 unfolding cut
@@ -74,10 +74,10 @@ returns-then-high-low c =
     ends_left s.args.n _ _ l.i (omega arith) (ordered_is c.before c.if-high-low.true) s.requires.room l.invariant.2
 
 pub overflow_cast-out : goal.overflow_cast-out
-overflow_cast-out c = simp (got64 c.cut_low-low.result c.cut_low-low.type-inv) (fits32 (omega (arith, low_level c.before)))
+overflow_cast-out c = simp (got64 c.cut_low-low.result c.cut_low-low.type_inv) (fits32 (omega (arith, low_level c.before)))
 
 pub overflow_cast-out-in-loop-i : goal.overflow_cast-out-in-loop-i
-overflow_cast-out-in-loop-i c = simp (got64 c.cut_high-high.result c.cut_high-high.type-inv) (fits32 (omega (arith, high_level c.before)))
+overflow_cast-out-in-loop-i c = simp (got64 c.cut_high-high.result c.cut_high-high.type_inv) (fits32 (omega (arith, high_level c.before)))
 
 pub bounds-out-j : goal.bounds-out-j
 bounds-out-j c = simp length-set (omega arith)
@@ -89,8 +89,8 @@ loop-i-preserved c =
     let l = d.loop-i in
     let x = d.cut_low-low in
     let y = d.cut_high-high in
-    let x64 = got64 x.result x.type-inv in
-    let y64 = got64 y.result y.type-inv in
+    let x64 = got64 x.result x.type_inv in
+    let y64 = got64 y.result y.type_inv in
     let x32 = back32 x.result (omega (arith, low_level d)) in
     let y32 = back32 y.result (omega (arith, high_level d)) in
     let room : 2 * l.i + 1 < length a.out.now = omega arith in (

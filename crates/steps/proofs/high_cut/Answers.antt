@@ -22,7 +22,7 @@ pub returns-in-At : goal.returns-in-At
 returns-in-At c =
     let f = c.ranges in
     let t = simp (to_z-of_z f.c) at c.if-c-gt0.true in
-    got64 c.high_within.result c.high_within.type-inv ∙ simp (c.high_within.ensures, to_z-of_z f.q, to_z-of_z f.c, to_z-of_z f.hi, t, c.latest-1.given.1)
+    got64 c.high_within.result c.high_within.type_inv ∙ simp (c.high_within.ensures, to_z-of_z f.q, to_z-of_z f.c, to_z-of_z f.hi, t, c.latest-1.given.1)
 
 pub returns-else-c-gt0 : goal.returns-else-c-gt0
 returns-else-c-gt0 c =
@@ -30,4 +30,4 @@ returns-else-c-gt0 c =
     let f = s.ranges in
     let a = s.args in
     let t = simp (to_z-of_z f.c) at c.if-c-gt0.false in
-    rw t (got64 c.high_at.result c.high_at.type-inv ∙ simp (to_z-of_z f.q, to_z-of_z f.c) at c.high_at.ensures ∙ sym (high_kept a.q a.c a.hi a.t.earliest s.requires.2.earliest_small.den_positive s.requires.4 t))
+    rw t (got64 c.high_at.result c.high_at.type_inv ∙ simp (to_z-of_z f.q, to_z-of_z f.c) at c.high_at.ensures ∙ sym (high_kept a.q a.c a.hi a.t.earliest s.requires.2.earliest_small.den_positive s.requires.4 t))

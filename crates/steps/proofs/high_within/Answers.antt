@@ -48,4 +48,4 @@ returns-else-room-way c =
     let way = a *ℤ pos f.num in
     let room = (v -ℤ p) *ℤ pos f.den in
     let t = simp (to_z-of_z s.ranges.q, to_z-of_z s.ranges.c, to_z-of_z s.ranges.hi, as_signed f.num (omega (arith, s.requires)), as_signed f.den (omega (arith, s.requires)), back64 (v -ℤ p) (omega (arith, abs_minus v p, s.requires)), back64 way (omega (arith, scaled a f.num s.requires.1 s.requires.2.num_small)), back64 room (omega (arith, room_small v p f.den s.requires.3 s.requires.0 s.requires.2.den_small))) at c.if-room-way.false in
-    got64 c.high_at.result c.high_at.type-inv ∙ simp (to_z-of_z s.ranges.q, to_z-of_z s.ranges.c) at c.high_at.ensures ∙ sym (high_before p a v f s.requires.2.den_positive t)
+    got64 c.high_at.result c.high_at.type_inv ∙ simp (to_z-of_z s.ranges.q, to_z-of_z s.ranges.c) at c.high_at.ensures ∙ sym (high_before p a v f s.requires.2.den_positive t)

@@ -13,7 +13,7 @@ returns c =
     let x = c.after_reset-set in
     let y = c.smaller in
     let w = c.word in
-    let ex = simp v.ensures at (simp (got64 v.result v.type-inv, to_z-of_z s.ranges.g) at x.ensures) in
-    let ey = simp (ex, v.ensures) at (simp (got64 v.result v.type-inv, got64 x.result x.type-inv) at y.ensures) in
-    let e = simp (ey, w.ensures) at (simp (got64 y.result y.type-inv, got64 w.result w.type-inv) at c.smaller-2.ensures) in
-    simp (got64 c.smaller-2.result c.smaller-2.type-inv) e
+    let ex = simp v.ensures at (simp (got64 v.result v.type_inv, to_z-of_z s.ranges.g) at x.ensures) in
+    let ey = simp (ex, v.ensures) at (simp (got64 v.result v.type_inv, got64 x.result x.type_inv) at y.ensures) in
+    let e = simp (ey, w.ensures) at (simp (got64 y.result y.type_inv, got64 w.result w.type_inv) at c.smaller-2.ensures) in
+    simp (got64 c.smaller-2.result c.smaller-2.type_inv) e

@@ -22,7 +22,7 @@ pub returns-in-At : goal.returns-in-At
 returns-in-At c =
     let f = c.ranges in
     let t = simp (to_z-of_z f.a) at c.if-a-lt0.true in
-    got64 c.low_within.result c.low_within.type-inv ∙ simp (c.low_within.ensures, to_z-of_z f.p, to_z-of_z f.a, to_z-of_z f.lo, t, c.latest-1.given.1)
+    got64 c.low_within.result c.low_within.type_inv ∙ simp (c.low_within.ensures, to_z-of_z f.p, to_z-of_z f.a, to_z-of_z f.lo, t, c.latest-1.given.1)
 
 pub returns-else-a-lt0 : goal.returns-else-a-lt0
 returns-else-a-lt0 c =
@@ -30,4 +30,4 @@ returns-else-a-lt0 c =
     let f = s.ranges in
     let a = s.args in
     let t = simp (to_z-of_z f.a) at c.if-a-lt0.false in
-    rw t (got64 c.low_at.result c.low_at.type-inv ∙ simp (to_z-of_z f.p, to_z-of_z f.a) at c.low_at.ensures ∙ sym (low_kept a.p a.a a.lo a.t.earliest s.requires.2.earliest_small.den_positive s.requires.4 t))
+    rw t (got64 c.low_at.result c.low_at.type_inv ∙ simp (to_z-of_z f.p, to_z-of_z f.a) at c.low_at.ensures ∙ sym (low_kept a.p a.a a.lo a.t.earliest s.requires.2.earliest_small.den_positive s.requires.4 t))

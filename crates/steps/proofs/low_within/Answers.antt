@@ -48,4 +48,4 @@ returns-else-way-room c =
     let way = a *ℤ pos f.num in
     let room = (v -ℤ p) *ℤ pos f.den in
     let t = simp (to_z-of_z s.ranges.p, to_z-of_z s.ranges.a, to_z-of_z s.ranges.lo, as_signed f.num (omega (arith, s.requires)), as_signed f.den (omega (arith, s.requires)), back64 (v -ℤ p) (omega (arith, abs_minus v p, s.requires)), back64 way (omega (arith, scaled a f.num s.requires.1 s.requires.2.num_small)), back64 room (omega (arith, room_small v p f.den s.requires.3 s.requires.0 s.requires.2.den_small))) at c.if-way-room.false in
-    got64 c.low_at.result c.low_at.type-inv ∙ simp (to_z-of_z s.ranges.p, to_z-of_z s.ranges.a) at c.low_at.ensures ∙ sym (low_before p a v f s.requires.2.den_positive t)
+    got64 c.low_at.result c.low_at.type_inv ∙ simp (to_z-of_z s.ranges.p, to_z-of_z s.ranges.a) at c.low_at.ensures ∙ sym (low_before p a v f s.requires.2.den_positive t)

@@ -31,13 +31,13 @@ module _ (c : goal.After-landed_high-hi) where
   unfolding landed_low masked
   landed_low_is =
       let g = c.cut_low-glo in
-      simp (cut_low_is, c.loop-i.invariant.2) at (simp (got64 g.result g.type-inv) at c.landed_low-lo.ensures)
+      simp (cut_low_is, c.loop-i.invariant.2) at (simp (got64 g.result g.type_inv) at c.landed_low-lo.ensures)
 
   landed_high_is : c.landed_high-hi.result ≡ landed_high c.args.mask c.args.guard.now c.args.reset.now c.args.inv.now c.args.from.now c.loop-i.i
   unfolding landed_high masked
   landed_high_is =
       let g = c.cut_high-ghi in
-      simp (cut_high_is, c.loop-i.invariant.2) at (simp (got64 g.result g.type-inv) at c.landed_high-hi.ensures)
+      simp (cut_high_is, c.loop-i.invariant.2) at (simp (got64 g.result g.type_inv) at c.landed_high-hi.ensures)
 
   low_level : Level c.landed_low-lo.result
   low_level =
@@ -79,10 +79,10 @@ landed_high-hi-requires c =
     (s.requires.reset_in i (omega arith), s.requires.inv_in i (omega arith))
 
 pub overflow_cast-out : goal.overflow_cast-out
-overflow_cast-out c = simp (got64 c.landed_low-lo.result c.landed_low-lo.type-inv) (fits32 (omega (arith, low_level c)))
+overflow_cast-out c = simp (got64 c.landed_low-lo.result c.landed_low-lo.type_inv) (fits32 (omega (arith, low_level c)))
 
 pub overflow_cast-out-in-loop-i : goal.overflow_cast-out-in-loop-i
-overflow_cast-out-in-loop-i c = simp (got64 c.landed_high-hi.result c.landed_high-hi.type-inv) (fits32 (omega (arith, high_level c)))
+overflow_cast-out-in-loop-i c = simp (got64 c.landed_high-hi.result c.landed_high-hi.type_inv) (fits32 (omega (arith, high_level c)))
 
 pub bounds-out-j : goal.bounds-out-j
 bounds-out-j c = simp length-set (omega arith)
@@ -95,8 +95,8 @@ loop-i-preserved c =
     let h = c.cut_high-ghi in
     let x = c.landed_low-lo in
     let y = c.landed_high-hi in
-    let x64 = got64 x.result x.type-inv in
-    let y64 = got64 y.result y.type-inv in
+    let x64 = got64 x.result x.type_inv in
+    let y64 = got64 y.result y.type_inv in
     let x32 = back32 x.result (omega (arith, low_level c)) in
     let y32 = back32 y.result (omega (arith, high_level c)) in
     let room : 2 * l.i + 1 < length a.out.now = omega arith in (
@@ -104,7 +104,7 @@ loop-i-preserved c =
       simp length-set l.invariant.1,
       rw l.invariant.2 (half_mask a.mask l.i),
       simp (x64, y64, x32, y32) (rw (landed_low_is c, landed_high_is c, l.invariant.3) (next_written _ _ l.i a.out.now room)),
-      simp (got64 g.result g.type-inv, got64 h.result h.type-inv, x64, y64)
+      simp (got64 g.result g.type_inv, got64 h.result h.type_inv, x64, y64)
           (rw (cut_low_is c, cut_high_is c, landed_low_is c, landed_high_is c, l.invariant.4) (next_both _ _ l.i)),
     )
 

@@ -33,7 +33,7 @@ module _ (c : goal.After-larger-end) where
   end_small = let s = c.before.before.before.before in subst (λ (z : ℤ). mag z < 2147483648) (sym end_is) (max_small _ _ c.larger-arg-1.given s.ranges.x.sfits)
 
 pub overflow_cast-end : goal.overflow_cast-end
-overflow_cast-end c = rw (got64 c.larger-end.result c.larger-end.type-inv) (record { sfits = end_small c })
+overflow_cast-end c = rw (got64 c.larger-end.result c.larger-end.type_inv) (record { sfits = end_small c })
 
 pub join_with-requires : goal.join_with-requires
 join_with-requires c =
@@ -51,7 +51,7 @@ returns-then-x-from c =
     let s = c.before.before.before.before.before.before.before in
     let a = s.args in
     let z = c.larger-end in
-    from_joined a.n a.v a.x a.from.now s.requires.0 a.piece.now (left c.before.before.before.before.before) (end_is c.before.before.before) (simp (got64 z.result z.type-inv, got32 z.result (end_small c.before.before.before)) at c.join_with.ensures)
+    from_joined a.n a.v a.x a.from.now s.requires.0 a.piece.now (left c.before.before.before.before.before) (end_is c.before.before.before) (simp (got64 z.result z.type_inv, got32 z.result (end_small c.before.before.before)) at c.join_with.ensures)
 
 pub returns-else-x-from : goal.returns-else-x-from
 returns-else-x-from c =

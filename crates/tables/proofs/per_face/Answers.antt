@@ -12,4 +12,4 @@ returns c =
     let a = c.args in
     let v = c.cut_variable in
     let x = cut_value a.model.now a.l in
-    c.pieces_by.ensures x ∙ (λ i. pieces_per_face (cut_from ((got32 v.result v.type-inv ∙ v.ensures) i) x))
+    c.pieces_by.ensures x ∙ (λ i. pieces_per_face (cut_from ((got32 v.result v.type_inv ∙ v.ensures) i) x))

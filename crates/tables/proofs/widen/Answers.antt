@@ -62,10 +62,10 @@ module _ (c : goal.After-larger-high) where
   high_small = subst (λ (z : ℤ). mag z < 2147483648) (sym high_is) (max_small _ _ c.larger-arg-1.given c.larger-arg-in-loop-i-1.given)
 
 pub overflow_cast-face-in-loop-i-2 : goal.overflow_cast-face-in-loop-i-2
-overflow_cast-face-in-loop-i-2 c = let x = c.smaller-low in rw (got64 x.result x.type-inv) (record { sfits = low_small c.before.before.before })
+overflow_cast-face-in-loop-i-2 c = let x = c.smaller-low in rw (got64 x.result x.type_inv) (record { sfits = low_small c.before.before.before })
 
 pub overflow_cast-face-in-loop-i-3 : goal.overflow_cast-face-in-loop-i-3
-overflow_cast-face-in-loop-i-3 c = rw (got64 c.larger-high.result c.larger-high.type-inv) (record { sfits = high_small c })
+overflow_cast-face-in-loop-i-3 c = rw (got64 c.larger-high.result c.larger-high.type_inv) (record { sfits = high_small c })
 
 pub bounds-face-h : goal.bounds-face-h
 bounds-face-h c = simp length-set (omega arith)
@@ -76,7 +76,7 @@ loop-i-preserved c =
     let a = c.args in
     let x = c.smaller-low in
     let y = c.larger-high in
-    rw (got64 x.result x.type-inv, got64 y.result y.type-inv, got32 x.result (low_small c.before.before.before), got32 y.result (high_small c)) (
+    rw (got64 x.result x.type_inv, got64 y.result y.type_inv, got32 x.result (low_small c.before.before.before), got32 y.result (high_small c)) (
       omega arith,
       length-set (set l.face (2 * l.i + 1) x.result) (2 * l.i + 2) y.result ∙ length-set l.face (2 * l.i + 1) x.result ∙ l.invariant.1,
       widen_turn a.n a.from.now a.face.now l.face l.i (omega arith) l.invariant.2 (omega arith) x.result y.result (low_is c.before.before.before) (high_is c),

@@ -32,7 +32,7 @@ loop-i-preserved c =
     let e : length (take a.to d ++ words_at f a.from i) ≡ a.to + i = omega (arith, length-append (take a.to d) (words_at f a.from i), length-take-le a.to d (omega arith), length_words f a.from i) in (
       omega arith,
       simp length-set c.loop-i.invariant.1,
-      rw (c.loop-i.invariant.2, to_z-of_z {w = w32} (sfits_of c.word_at.type-inv), c.word_at.ensures)
+      rw (c.loop-i.invariant.2, to_z-of_z {w = w32} (sfits_of c.word_at.type_inv), c.word_at.ensures)
           (onto-set (take a.to d ++ words_at f a.from i) d (a.to + i) (word_at f (a.from + 4 * i)) e (omega arith)
           ∙ ap (λ (l : List ℤ). onto l d) (append_assoc (take a.to d) (words_at f a.from i) (word_at f (a.from + 4 * i) ∷ []) ∙ ap (λ (l : List ℤ). take a.to d ++ l) (sym (words_more f a.from i)))),
     )

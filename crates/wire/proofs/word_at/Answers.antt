@@ -8,4 +8,4 @@ use Rattle.wire.proofs.word_at.Goals as goal
 
 pub returns : goal.returns
 unfolding word_at
-returns c = cc (to_z-of_z {w = w32} (sfits_of c.signed.type-inv))
+returns c = cc (to_z-of_z {w = w32} (sfits_of c.signed.type_inv))

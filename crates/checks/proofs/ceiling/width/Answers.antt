@@ -13,7 +13,7 @@ unfolding low high
 overflow_sub-word c =
     let x = c.word in
     let y = c.word-2 in
-    simp (got64 x.result x.type-inv, got64 y.result y.type-inv)
+    simp (got64 x.result x.type_inv, got64 y.result y.type_inv)
     (fits64 (omega (arith, abs_minus x.result y.result, ap nat_abs x.ensures, ap nat_abs y.ensures)))
 
 pub returns : goal.returns
@@ -22,5 +22,5 @@ returns c =
     let x = c.word in
     let y = c.word-2 in
     let back = back64 (x.result -ℤ y.result) (omega (arith, abs_minus x.result y.result, ap nat_abs x.ensures, ap nat_abs y.ensures)) in
-    let r = simp (got64 x.result x.type-inv, got64 y.result y.type-inv, back) at c.magnitude.ensures in
+    let r = simp (got64 x.result x.type_inv, got64 y.result y.type_inv, back) at c.magnitude.ensures in
     r ∙ ap₂ (λ (a b : ℤ). nat_abs (a -ℤ b)) x.ensures y.ensures

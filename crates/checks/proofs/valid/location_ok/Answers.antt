@@ -89,7 +89,7 @@ pub piece_ok-ok-requires : goal.piece_ok-ok-requires
 piece_ok-ok-requires c =
     let r = c.before.before.before.before in
     let n = (read r).n_is in (
-      simp (got32 r.cut_variable-variable.result r.cut_variable-variable.type-inv) (location_ready (model r) (model_ok r) (start r).args.l (start r).requires.1 (read r)),
+      simp (got32 r.cut_variable-variable.result r.cut_variable-variable.type_inv) (location_ready (model r) (model_ok r) (start r).args.l (start r).requires.1 (read r)),
       c.loop-q-test.true,
       omega (arith, n, (piece_part (model r) (start r).args.l (start r).requires.1 (start r).args.table.now (start r).requires.0.room _ (is_piece c.before.before) n (place c.before) c.face-piece.ensures).sized),
     )
@@ -108,7 +108,7 @@ loop-q-preserved c =
     let q = c.loop-q in (
       omega (arith, is_piece c.before.before.before),
       all_more (piece_ok (model r) (start r).args.table.now (start r).args.l) q.q q.invariant.1
-          (piece_asked (model r) (start r).args.table.now (start r).args.l q.q (read r) (place c.before.before) c.face-piece.ensures (simp (got32 v.result v.type-inv, got32 x.result x.type-inv) at c.piece_ok-ok.ensures)),
+          (piece_asked (model r) (start r).args.table.now (start r).args.l q.q (read r) (place c.before.before) c.face-piece.ensures (simp (got32 v.result v.type_inv, got32 x.result x.type_inv) at c.piece_ok-ok.ensures)),
     )
 
 pub returns : goal.returns

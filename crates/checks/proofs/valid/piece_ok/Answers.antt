@@ -50,7 +50,7 @@ returns-then-same c =
     let w = c.wall-w in
     let i = c.index_of in
     let p : c.inside_ok.result ≡ inside_ok a.n b a.inv.now = rw (rest s) at c.inside_ok.ensures in
-    let q : c.on_wall.result ≡ on_wall b (f.face_of-f.result / 2) w.result = simp (rest s, got32 w.result w.type-inv) at c.on_wall.ensures in
+    let q : c.on_wall.result ≡ on_wall b (f.face_of-f.result / 2) w.result = simp (rest s, got32 w.result w.type_inv) at c.on_wall.ensures in
     let k : c.keeps-side.result ≡ keeps_to (extent_by (cut_from a.variable a.value) (f.face_of-f.result / 2) i.result) b =
     rw (rest s, to_z-of_z s.ranges.variable, to_z-of_z s.ranges.value) at c.keeps-side.ensures in
     (λ x. p x && ((q ∙ ap (on_wall b (f.face_of-f.result / 2)) w.ensures) x && k x))

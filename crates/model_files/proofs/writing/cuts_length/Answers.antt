@@ -19,7 +19,7 @@ use Rattle.model_files.proofs.writing.cuts_length.Goals as goal
 -- what a turn adds
 by_variable : (c : goal.After-cut_length-bytes)
     → c.cut_length-bytes.result ≡ cond (eq_z (cut_variable c.args.model.now c.loop-l.l) (negsuc 0)) 0 (field_length cut_field_size)
-by_variable c = let v = c.cut_variable in rw (got32 v.result v.type-inv, v.ensures) at c.cut_length-bytes.ensures
+by_variable c = let v = c.cut_variable in rw (got32 v.result v.type_inv, v.ensures) at c.cut_length-bytes.ensures
 
 pub locations-locations-requires : goal.locations-locations-requires
 locations-locations-requires c = c.requires.head

@@ -45,7 +45,7 @@ returns c =
     let n = c.variables-n.ensures in
     let v = c.edition in
     records_put a.model.now s.requires.whole a.file.now _ _ _ _
-    (rw (c.first_tag-tag.ensures, got32 v.result v.type-inv, v.ensures) at c.put_record.ensures)
+    (rw (c.first_tag-tag.ensures, got32 v.result v.type_inv, v.ensures) at c.put_record.ensures)
     (rw (c.location_at.ensures, c.locations.ensures, c.location_size.ensures, n, c.locations_from.ensures) at c.put_run.ensures)
     (rw (c.switch_at.ensures, c.switches.ensures, c.switch_size.ensures, n, c.switches_from.ensures) at c.put_run-2.ensures)
     (rw (c.forbidden_at.ensures, c.forbidden_boxes.ensures, c.forbidden_size.ensures, n, c.forbiddens_from.ensures) at c.put_run-3.ensures)

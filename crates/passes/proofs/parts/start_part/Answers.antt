@@ -15,7 +15,7 @@ whole_at c = whole c.args.model.now c.requires.0
 
 -- what the test of the flag tells
 told : (c : goal.After-same) → c.same.result ≡ eq_z c.start_flag.result (pos 1)
-told c = let f = c.start_flag in simp (got32 f.result f.type-inv) at c.same.ensures
+told c = let f = c.start_flag in simp (got32 f.result f.type_inv) at c.same.ensures
 
 pub start_flag-requires : goal.start_flag-requires
 start_flag-requires c = (whole_at c, c.requires.1)

@@ -60,7 +60,7 @@ module _ (c : goal.After-per_face-count) where
       let v = c.cut_variable-variable in
       let x = c.cut_value-value in
       let e = c.target-l.ensures in
-      record { variable_is = got32 v.result v.type-inv ∙ v.ensures ∙ ap (cut_variable model) e; value_is = got32 x.result x.type-inv ∙ x.ensures ∙ ap (cut_value model) e }
+      record { variable_is = got32 v.result v.type_inv ∙ v.ensures ∙ ap (cut_variable model) e; value_is = got32 x.result x.type_inv ∙ x.ensures ∙ ap (cut_value model) e }
 
 pub loop-k-init : goal.loop-k-init
 loop-k-init c = let s = start c in let a = s.args in (omega arith, s.pre.3 ∙ from_none a.model.now a.table.now a.e)

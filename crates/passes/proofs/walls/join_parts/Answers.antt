@@ -52,7 +52,7 @@ module _ (c : goal.After-cut_value-value) where
   read =
       let v = c.cut_variable-variable in
       let x = c.cut_value-value in
-      record { n_is = c.variables-n.ensures; inv_is = c.invariant-inv.ensures; rate_is = c.rate-rate.ensures; variable_is = got32 v.result v.type-inv ∙ v.ensures; value_is = got32 x.result x.type-inv ∙ x.ensures }
+      record { n_is = c.variables-n.ensures; inv_is = c.invariant-inv.ensures; rate_is = c.rate-rate.ensures; variable_is = got32 v.result v.type_inv ∙ v.ensures; value_is = got32 x.result x.type_inv ∙ x.ensures }
 
 pub join_start-requires : goal.join_start-requires
 join_start-requires c =

@@ -11,7 +11,7 @@ use Rattle.passes.proofs.Handing.{start_joins_nothing}
 use Rattle.passes.proofs.walls.join_start.Goals as goal
 
 told : (c : goal.After-same) → c.same.result ≡ eq_z c.start_flag.result (pos 1)
-told c = let f = c.start_flag in simp (got32 f.result f.type-inv) at c.same.ensures
+told c = let f = c.start_flag in simp (got32 f.result f.type_inv) at c.same.ensures
 
 pub start_flag-requires : goal.start_flag-requires
 start_flag-requires c = (whole c.args.model.now c.requires.passes, c.requires.below)

@@ -118,7 +118,7 @@ invariant_ordered s = inside_ordered s.requires.bounds_in.inside s.requires.boun
 
 -- the wall of face f
 wall_is : (c : goal.After-word) → to_z w64 (of_z w64 c.word.result) ≡ word (start c.before).args.inv.now c.loop-f.f
-wall_is c = got64 c.word.result c.word.type-inv ∙ c.word.ensures
+wall_is c = got64 c.word.result c.word.type_inv ∙ c.word.ensures
 
 pub join_wall-requires : goal.join_wall-requires
 join_wall-requires c =

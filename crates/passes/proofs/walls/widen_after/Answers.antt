@@ -87,7 +87,7 @@ module _ (c : goal.After-smaller-low) where
       let x = word l.face (2 * l.i + 1) in
       let g = c.smaller-arg-1.given in
       let y = c.low_after-lo in
-      (rw (got32 x g, to_z-of_z (widened x g), got64 y.result y.type-inv) at c.smaller-low.ensures)
+      (rw (got32 x g, to_z-of_z (widened x g), got64 y.result y.type_inv) at c.smaller-low.ensures)
       ∙ ap (min_z x) (y.ensures a.n ∙ low_word a.n a.inv.now a.rate.now a.bounds.now a.d (to_z w64 (of_z w64 a.b)) a.t l.i (omega arith))
 
   low_small : mag c.smaller-low.result < 2147483648
@@ -109,7 +109,7 @@ module _ (c : goal.After-larger-high) where
       let x = word l.face (2 * l.i + 2) in
       let g = c.larger-arg-1.given in
       let y = c.high_after-hi in
-      (rw (got32 x g, to_z-of_z (widened x g), got64 y.result y.type-inv) at c.larger-high.ensures)
+      (rw (got32 x g, to_z-of_z (widened x g), got64 y.result y.type_inv) at c.larger-high.ensures)
       ∙ ap (max_z x) (y.ensures a.n ∙ high_word a.n a.inv.now a.rate.now a.bounds.now a.d (to_z w64 (of_z w64 a.b)) a.t l.i (omega arith))
 
   high_small : mag c.larger-high.result < 2147483648
@@ -121,7 +121,7 @@ module _ (c : goal.After-larger-high) where
       (max_small _ _ c.larger-arg-1.given (subst (λ (z : ℤ). mag z < 2147483648) w (high_mag a.n a.inv.now a.rate.now a.bounds.now a.d (to_z w64 (of_z w64 a.b)) a.t l.i (omega arith) (value_ok start))))
 
 pub overflow_cast-face-in-loop-i-2 : goal.overflow_cast-face-in-loop-i-2
-overflow_cast-face-in-loop-i-2 c = let x = c.smaller-low in rw (got64 x.result x.type-inv) (record { sfits = low_small c.before.before })
+overflow_cast-face-in-loop-i-2 c = let x = c.smaller-low in rw (got64 x.result x.type_inv) (record { sfits = low_small c.before.before })
 
 pub offset_bounds-face-l-in-loop-i : goal.offset_bounds-face-l-in-loop-i
 offset_bounds-face-l-in-loop-i c = omega (arith, (start c).requires.0.n_small)
@@ -130,7 +130,7 @@ pub bounds-face-l : goal.bounds-face-l
 bounds-face-l c = let l = c.loop-i in omega (arith, (start c).requires.1, l.invariant.1)
 
 pub overflow_cast-face-in-loop-i-3 : goal.overflow_cast-face-in-loop-i-3
-overflow_cast-face-in-loop-i-3 c = rw (got64 c.larger-high.result c.larger-high.type-inv) (record { sfits = high_small c })
+overflow_cast-face-in-loop-i-3 c = rw (got64 c.larger-high.result c.larger-high.type_inv) (record { sfits = high_small c })
 
 pub offset_bounds-face-h-in-loop-i : goal.offset_bounds-face-h-in-loop-i
 offset_bounds-face-h-in-loop-i c = omega (arith, (start c).requires.0.n_small)
@@ -147,7 +147,7 @@ loop-i-preserved c =
     let a = (start c).args in
     let x = c.smaller-low in
     let y = c.larger-high in
-    rw (got64 x.result x.type-inv, got64 y.result y.type-inv, got32 x.result (low_small c.before.before), got32 y.result (high_small c)) (
+    rw (got64 x.result x.type_inv, got64 y.result y.type_inv, got32 x.result (low_small c.before.before), got32 y.result (high_small c)) (
       omega arith,
       length-set (set l.face (2 * l.i + 1) x.result) (2 * l.i + 2) y.result ∙ length-set l.face (2 * l.i + 1) x.result ∙ l.invariant.1,
       widen_turn a.n (joins (start c)) a.face.now l.face l.i (omega arith) l.invariant.2 (start c).requires.1 x.result y.result (low_is c.before.before) (high_is c),
