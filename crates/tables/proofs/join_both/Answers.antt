@@ -13,66 +13,95 @@ use Rattle.tables.proofs.Cutting.{two_long, first_is_face, second_is_face, behin
 use borrow.Author.Rules.{rules}
 use Rattle.tables.proofs.join_both.Goals as goal
 
--- the pieces' words
-module _ (c : goal.After-face_size-size) where
-  long : length c.args.pieces.now ≡ 2 * c.face_size-size.result
-  long = let s = c.before in two_long s.args.n s.args.pieces.now s.requires.1 c.face_size-size.ensures
-
-  first_long : length (take c.face_size-size.result c.args.pieces.now) ≡ c.face_size-size.result
-  first_long = length-take-le c.face_size-size.result c.args.pieces.now (omega (arith, long))
-
-  first_face : IsFace c.args.n (take c.face_size-size.result c.args.pieces.now)
-  first_face = let s = c.before in first_is_face s.args.n s.args.pieces.now s.requires.1 c.face_size-size.ensures
-
 pub slice_bounds-join-end : goal.slice_bounds-join-end
-slice_bounds-join-end c = omega (arith, long c.before)
+slice_bounds-join-end c =
+    -- the pieces' words
+    let long : length c.args.pieces.now ≡ 2 * c.face_size-size.result = two_long c.args.n c.args.pieces.now c.requires.1 c.face_size-size.ensures in
+    omega (arith, long)
 
 pub slice_bounds-join-end-then-v-d : goal.slice_bounds-join-end-then-v-d
-slice_bounds-join-end-then-v-d c = sym (first_long c.before.before)
+slice_bounds-join-end-then-v-d c =
+    -- the pieces' words
+    let long : length c.args.pieces.now ≡ 2 * c.face_size-size.result = two_long c.args.n c.args.pieces.now c.requires.1 c.face_size-size.ensures in
+    let first_long : length (take c.face_size-size.result c.args.pieces.now) ≡ c.face_size-size.result =
+        length-take-le c.face_size-size.result c.args.pieces.now (omega (arith, long))
+    in
+    sym first_long
 
 pub join-requires : goal.join-requires
 join-requires c =
-    let s = c.before.before.before in
-    record { n_small = s.requires.0.n_small; box_there = omega (arith, s.requires.0.box_length); face_length = face_long s.args.n (first_face c.before.before) }
+    let first_face : IsFace c.args.n (take c.face_size-size.result c.args.pieces.now) =
+        first_is_face c.args.n c.args.pieces.now c.requires.1 c.face_size-size.ensures
+    in
+    record { n_small = c.requires.0.n_small; box_there = omega (arith, c.requires.0.box_length); face_length = face_long c.args.n first_face }
 
 pub slice_bounds-join_up_to-end : goal.slice_bounds-join_up_to-end
-slice_bounds-join_up_to-end c = omega (arith, long c.before)
+slice_bounds-join_up_to-end c =
+    -- the pieces' words
+    let long : length c.args.pieces.now ≡ 2 * c.face_size-size.result = two_long c.args.n c.args.pieces.now c.requires.1 c.face_size-size.ensures in
+    omega (arith, long)
 
 pub slice_bounds-join_up_to-end-else-v-d : goal.slice_bounds-join_up_to-end-else-v-d
-slice_bounds-join_up_to-end-else-v-d c = sym (first_long c.before.before)
+slice_bounds-join_up_to-end-else-v-d c =
+    -- the pieces' words
+    let long : length c.args.pieces.now ≡ 2 * c.face_size-size.result = two_long c.args.n c.args.pieces.now c.requires.1 c.face_size-size.ensures in
+    let first_long : length (take c.face_size-size.result c.args.pieces.now) ≡ c.face_size-size.result =
+        length-take-le c.face_size-size.result c.args.pieces.now (omega (arith, long))
+    in
+    sym first_long
 
 pub join_up_to-requires : goal.join_up_to-requires
-join_up_to-requires c = (c.requires.0, first_face c.before.before)
-
--- the first piece after its join, of as many words as before
-abbrev first-exit : goal.After-join_up_to → List ℤ
-first-exit c = c.join_up_to.new.1.1.1.1.0
-
-joined_long : (c : goal.After-join_up_to) → length (first-exit c) ≡ c.face_size-size.result
-joined_long c = c.join_up_to.auto.1.1.1.1.0 ∙ first_long c.before.before.before
+join_up_to-requires c =
+    let first_face : IsFace c.args.n (take c.face_size-size.result c.args.pieces.now) =
+        first_is_face c.args.n c.args.pieces.now c.requires.1 c.face_size-size.ensures
+    in
+    (c.requires.0, first_face)
 
 pub join_from-requires : goal.join_from-requires
 join_from-requires c =
-    let s = c.before.before.before.before.before.before in
+    -- the pieces' words
+    let long : length c.args.pieces.now ≡ 2 * c.face_size-size.result = two_long c.args.n c.args.pieces.now c.requires.1 c.face_size-size.ensures in
+    let first_long : length (take c.face_size-size.result c.args.pieces.now) ≡ c.face_size-size.result =
+        length-take-le c.face_size-size.result c.args.pieces.now (omega (arith, long))
+    in
+    -- the first piece after its join, of as many words as before
+    let first_exit : List ℤ = c.join_up_to.new.piece in
+    let joined_long : length first_exit ≡ c.face_size-size.result = c.join_up_to.auto.piece ∙ first_long in
     let e = c.face_size-size.ensures in
-    let f = behind_first s.args.n s.args.pieces.now s.requires.1 e (first-exit c.before.before) (joined_long c.before.before) in
-    (s.requires.0, subst (IsFace s.args.n) (sym f) (second_is_face s.args.n s.args.pieces.now s.requires.1 e))
+    let f = behind_first c.args.n c.args.pieces.now c.requires.1 e first_exit joined_long in
+    (c.requires.0, subst (IsFace c.args.n) (sym f) (second_is_face c.args.n c.args.pieces.now c.requires.1 e))
 
 pub returns-then-v-d : goal.returns-then-v-d
 returns-then-v-d c =
-    let s = c.before.before.before.before.before in
-    let a = s.args in
-    own_joined a.n a.d a.v a.x a.from.now a.pieces.now s.requires.1 c.face_size-size.ensures c.if-v-d.true _ c.join.ensures
+    let a = c.args in
+    own_joined a.n a.d a.v a.x a.from.now a.pieces.now c.requires.1 c.face_size-size.ensures c.if-v-d.true _ c.join.ensures
 
 pub returns-else-v-d : goal.returns-else-v-d
 returns-else-v-d c =
-    let s = c.before.before.before.before.before.before.before.before in
-    let a = s.args in
+    -- the pieces' words
+    let long : length c.args.pieces.now ≡ 2 * c.face_size-size.result = two_long c.args.n c.args.pieces.now c.requires.1 c.face_size-size.ensures in
+    let first_long : length (take c.face_size-size.result c.args.pieces.now) ≡ c.face_size-size.result =
+        length-take-le c.face_size-size.result c.args.pieces.now (omega (arith, long))
+    in
+    -- the first piece after its join, of as many words as before
+    let first_exit : List ℤ = c.join_up_to.new.piece in
+    let joined_long : length first_exit ≡ c.face_size-size.result = c.join_up_to.auto.piece ∙ first_long in
+    let a = c.args in
     let k = c.face_size-size.ensures in
-    let f = first-exit c.before.before.before.before in
-    let h = joined_long c.before.before.before.before in
-    let x = to_z-of_z s.ranges.x in
-    behind_put a.n a.pieces.now s.requires.1 k f h _
-    ∙ other_joined a.n a.d a.v a.x a.from.now a.pieces.now s.requires.1 k c.if-v-d.false _ _
+    let f = first_exit in
+    let h = joined_long in
+    let x = to_z-of_z c.ranges.x in
+    behind_put a.n a.pieces.now c.requires.1 k f h _
+    ∙ other_joined a.n a.d a.v a.x a.from.now a.pieces.now c.requires.1 k c.if-v-d.false _ _
     (simp x at c.join_up_to.ensures)
-    (simp (x, behind_first a.n a.pieces.now s.requires.1 k f h) at c.join_from.ensures)
+    (simp (x, behind_first a.n a.pieces.now c.requires.1 k f h) at c.join_from.ensures)
+
+pub slice_bounds-join_from-end : goal.slice_bounds-join_from-end
+slice_bounds-join_from-end c =
+    let long : length c.args.pieces.now ≡ 2 * c.face_size-size.result = two_long c.args.n c.args.pieces.now c.requires.1 c.face_size-size.ensures in
+    let first_long : length (take c.face_size-size.result c.args.pieces.now) ≡ c.face_size-size.result =
+        length-take-le c.face_size-size.result c.args.pieces.now (omega (arith, long))
+    in
+    let first_exit : List ℤ = c.join_up_to.new.piece in
+    let joined_long : length first_exit ≡ c.face_size-size.result = c.join_up_to.auto.piece ∙ first_long in
+    behind_long c.args.n c.args.pieces.now c.requires.1 c.face_size-size.ensures first_exit joined_long

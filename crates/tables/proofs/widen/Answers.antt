@@ -35,51 +35,71 @@ overflow_cast-from-in-loop-i c = simp (got32, c.larger-arg-in-loop-i-1.given) (w
 pub larger-high-requires : goal.larger-high-requires
 larger-high-requires c = tt
 
-module _ (c : goal.After-smaller-low) where
-  low_is : let l = c.loop-i in c.smaller-low.result ≡ min_z (word l.face (2 * l.i + 1)) (word c.args.from.now (2 * l.i))
-  low_is =
-      let l = c.loop-i in
-      let x = word l.face (2 * l.i + 1) in
-      let y = word c.args.from.now (2 * l.i) in
-      let g = c.smaller-arg-1.given in
-      let h = c.smaller-arg-in-loop-i-1.given in
-      rw (got32 x g, got32 y h, to_z-of_z (widened x g), to_z-of_z (widened y h)) at c.smaller-low.ensures
-
-  low_small : mag c.smaller-low.result < 2147483648
-  low_small = subst (λ (z : ℤ). mag z < 2147483648) (sym low_is) (min_small _ _ c.smaller-arg-1.given c.smaller-arg-in-loop-i-1.given)
-
-module _ (c : goal.After-larger-high) where
-  high_is : let l = c.loop-i in c.larger-high.result ≡ max_z (word l.face (2 * l.i + 2)) (word c.args.from.now (2 * l.i + 1))
-  high_is =
-      let l = c.loop-i in
-      let x = word l.face (2 * l.i + 2) in
-      let y = word c.args.from.now (2 * l.i + 1) in
-      let g = c.larger-arg-1.given in
-      let h = c.larger-arg-in-loop-i-1.given in
-      rw (got32 x g, got32 y h, to_z-of_z (widened x g), to_z-of_z (widened y h)) at c.larger-high.ensures
-
-  high_small : mag c.larger-high.result < 2147483648
-  high_small = subst (λ (z : ℤ). mag z < 2147483648) (sym high_is) (max_small _ _ c.larger-arg-1.given c.larger-arg-in-loop-i-1.given)
-
 pub overflow_cast-face-in-loop-i-2 : goal.overflow_cast-face-in-loop-i-2
-overflow_cast-face-in-loop-i-2 c = let x = c.smaller-low in rw (got64 x.result x.type_inv) (record { sfits = low_small c.before.before.before })
+overflow_cast-face-in-loop-i-2 c =
+    let low_is : (let l = c.loop-i in c.smaller-low.result ≡ min_z (word l.face (2 * l.i + 1)) (word c.args.from.now (2 * l.i))) =
+        let l = c.loop-i in
+        let x = word l.face (2 * l.i + 1) in
+        let y = word c.args.from.now (2 * l.i) in
+        let g = c.smaller-arg-1.given in
+        let h = c.smaller-arg-in-loop-i-1.given in
+        rw (got32 x g, got32 y h, to_z-of_z (widened x g), to_z-of_z (widened y h)) at c.smaller-low.ensures
+    in
+    let low_small : mag c.smaller-low.result < 2147483648 =
+        subst (λ (z : ℤ). mag z < 2147483648) (sym low_is) (min_small _ _ c.smaller-arg-1.given c.smaller-arg-in-loop-i-1.given)
+    in
+    let x = c.smaller-low in rw (got64 x.result x.type_inv) (record { sfits = low_small })
 
 pub overflow_cast-face-in-loop-i-3 : goal.overflow_cast-face-in-loop-i-3
-overflow_cast-face-in-loop-i-3 c = rw (got64 c.larger-high.result c.larger-high.type_inv) (record { sfits = high_small c })
+overflow_cast-face-in-loop-i-3 c =
+    let high_is : (let l = c.loop-i in c.larger-high.result ≡ max_z (word l.face (2 * l.i + 2)) (word c.args.from.now (2 * l.i + 1))) =
+        let l = c.loop-i in
+        let x = word l.face (2 * l.i + 2) in
+        let y = word c.args.from.now (2 * l.i + 1) in
+        let g = c.larger-arg-1.given in
+        let h = c.larger-arg-in-loop-i-1.given in
+        rw (got32 x g, got32 y h, to_z-of_z (widened x g), to_z-of_z (widened y h)) at c.larger-high.ensures
+    in
+    let high_small : mag c.larger-high.result < 2147483648 =
+        subst (λ (z : ℤ). mag z < 2147483648) (sym high_is) (max_small _ _ c.larger-arg-1.given c.larger-arg-in-loop-i-1.given)
+    in
+    rw (got64 c.larger-high.result c.larger-high.type_inv) (record { sfits = high_small })
 
 pub bounds-face-h : goal.bounds-face-h
 bounds-face-h c = simp length-set (omega arith)
 
 pub loop-i-preserved : goal.loop-i-preserved
 loop-i-preserved c =
+    let low_is : (let l = c.loop-i in c.smaller-low.result ≡ min_z (word l.face (2 * l.i + 1)) (word c.args.from.now (2 * l.i))) =
+        let l = c.loop-i in
+        let x = word l.face (2 * l.i + 1) in
+        let y = word c.args.from.now (2 * l.i) in
+        let g = c.smaller-arg-1.given in
+        let h = c.smaller-arg-in-loop-i-1.given in
+        rw (got32 x g, got32 y h, to_z-of_z (widened x g), to_z-of_z (widened y h)) at c.smaller-low.ensures
+    in
+    let low_small : mag c.smaller-low.result < 2147483648 =
+        subst (λ (z : ℤ). mag z < 2147483648) (sym low_is) (min_small _ _ c.smaller-arg-1.given c.smaller-arg-in-loop-i-1.given)
+    in
+    let high_is : (let l = c.loop-i in c.larger-high.result ≡ max_z (word l.face (2 * l.i + 2)) (word c.args.from.now (2 * l.i + 1))) =
+        let l = c.loop-i in
+        let x = word l.face (2 * l.i + 2) in
+        let y = word c.args.from.now (2 * l.i + 1) in
+        let g = c.larger-arg-1.given in
+        let h = c.larger-arg-in-loop-i-1.given in
+        rw (got32 x g, got32 y h, to_z-of_z (widened x g), to_z-of_z (widened y h)) at c.larger-high.ensures
+    in
+    let high_small : mag c.larger-high.result < 2147483648 =
+        subst (λ (z : ℤ). mag z < 2147483648) (sym high_is) (max_small _ _ c.larger-arg-1.given c.larger-arg-in-loop-i-1.given)
+    in
     let l = c.loop-i in
     let a = c.args in
     let x = c.smaller-low in
     let y = c.larger-high in
-    rw (got64 x.result x.type_inv, got64 y.result y.type_inv, got32 x.result (low_small c.before.before.before), got32 y.result (high_small c)) (
+    rw (got64 x.result x.type_inv, got64 y.result y.type_inv, got32 x.result low_small, got32 y.result high_small) (
       omega arith,
       length-set (set l.face (2 * l.i + 1) x.result) (2 * l.i + 2) y.result ∙ length-set l.face (2 * l.i + 1) x.result ∙ l.invariant.1,
-      widen_turn a.n a.from.now a.face.now l.face l.i (omega arith) l.invariant.2 (omega arith) x.result y.result (low_is c.before.before.before) (high_is c),
+      widen_turn a.n a.from.now a.face.now l.face l.i (omega arith) l.invariant.2 (omega arith) x.result y.result low_is high_is,
     )
 
 pub returns : goal.returns
