@@ -22,8 +22,8 @@ use Rattle.steps.proofs.box_after.Given as goal
 
 abbrev pub invariant-loop-i : goal.invariant-loop-i
 invariant-loop-i l =
-    let lo = low_after l.n l.inv l.rate l.part l.d (to_z w64 l.b) l.t in
-    let hi = high_after l.n l.inv l.rate l.part l.d (to_z w64 l.b) l.t in
+    let lo = low_after l.n l.inv l.rate l.part l.d l.b l.t in
+    let hi = high_after l.n l.inv l.rate l.part l.d l.b l.t in
     (l.i ≤ l.n) × (length l.out ≡ length l.initial.out) × (l.out ≡ onto (box_by l.i lo hi) l.initial.out) × (true ≡ all_below l.i (λ j. le_z (lo j) (hi j)))
 
 abbrev pub decreases-loop-i : goal.decreases-loop-i

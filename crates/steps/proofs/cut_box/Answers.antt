@@ -1,6 +1,6 @@
 -- The loop has written the ends of the first i variables, and each of them is ordered.
 use mathlib.Core.Path.{◌≡◌, refl, sym, ap₂}
-use mathlib.Core.Bool.{Bool, true, not, ◌&&◌}
+use mathlib.Core.Bool.{Bool, true, false, not, ◌&&◌}
 use mathlib.Core.List.{List}
 use Prim.Native.Nat.{ℕ, ◌+◌, ◌*◌, ◌-◌, ◌≤◌, ◌<◌}
 use native.Mathlib.Omega.{arith}
@@ -19,29 +19,10 @@ use Rattle.delays.specs.Ranges.{Level}
 use Rattle.delays.proofs.Small.{level_max, level_min}
 use Rattle.steps.proofs.Written.{none_written, next_written, none_tested, next_tested, le_by}
 use Rattle.steps.proofs.Faces.{ends_all, ends_left}
+use Rattle.steps.proofs.cut_box.Invariants.{lo, hi}
 use Rattle.steps.proofs.cut_box.Goals as goal
 
 -- the ends of the cut
-abbrev lo : List ℤ → List ℤ → ℕ → ℤ
-lo a b i = max_z (low a i) (low b i)
-
-abbrev hi : List ℤ → List ℤ → ℕ → ℤ
-hi a b i = min_z (high a i) (high b i)
-
--- the ends of variable i are levels
-module _ (c : goal.After-cut_high-high) where
-  low_level : Level c.cut_low-low.result
-  low_level =
-      let p = c.requires in
-      let i = c.loop-i.i in
-      rw c.cut_low-low.ensures (level_max _ _ (p.a_in i (omega arith)).low_in (p.b_in i (omega arith)).low_in)
-
-  high_level : Level c.cut_high-high.result
-  high_level =
-      let p = c.requires in
-      let i = c.loop-i.i in
-      rw c.cut_high-high.ensures (level_min _ _ (p.a_in i (omega arith)).high_in (p.b_in i (omega arith)).high_in)
-
 pub loop-i-init : goal.loop-i-init
 loop-i-init c = (search rules, refl, none_written _ _ _, none_tested _)
 
@@ -57,53 +38,75 @@ cut_high-high-requires c =
     let i = c.loop-i.i in
     (p.a_in i (omega arith), p.b_in i (omega arith))
 
--- the ends of a turn, as the test has them
-ordered_is : (c : goal.After-cut_high-high) {t : Bool} → lt_z (to_z w64 (of_z w64 c.cut_high-high.result)) (to_z w64 (of_z w64 c.cut_low-low.result)) ≡ t
-    → let a = c.args in let i = c.loop-i.i in
-    le_z (lo a.a.now a.b.now i) (hi a.a.now a.b.now i) ≡ not t
-ordered_is c {t} e =
-    let x = c.cut_low-low in
-    let y = c.cut_high-high in
-    rw (← x.ensures, ← y.ensures) (le_by x.result y.result (simp (got64 x.result x.type_inv, got64 y.result y.type_inv) at e))
-
 pub returns-then-high-low : goal.returns-then-high-low
 unfolding cut
 returns-then-high-low c =
-    let s = c.before.before.before.before.before in
+    -- the ends of a turn, as the test has them
+    let ordered : (let a = c.args in let i = c.loop-i.i in le_z (lo a.a.now a.b.now i) (hi a.a.now a.b.now i) ≡ not true) =
+        let a = c.args in
+        rw (← c.cut_low-low.ensures, ← c.cut_high-high.ensures) (le_by c.cut_low-low.result c.cut_high-high.result (simp (got64 c.cut_low-low.result c.cut_low-low.type_inv, got64 c.cut_high-high.result c.cut_high-high.type_inv) at c.if-high-low.true))
+    in
     let l = c.loop-i in
-    ends_left s.args.n _ _ l.i (omega arith) (ordered_is c.before c.if-high-low.true) s.requires.room l.invariant.2
+    ends_left c.args.n _ _ l.i (omega arith) ordered c.requires.room l.invariant.2
 
 pub overflow_cast-out : goal.overflow_cast-out
-overflow_cast-out c = simp (got64 c.cut_low-low.result c.cut_low-low.type_inv) (fits32 (omega (arith, low_level c.before)))
+overflow_cast-out c =
+    -- the ends of variable i are levels
+    let low_level : Level c.cut_low-low.result =
+        let p = c.requires in
+        let i = c.loop-i.i in
+        rw c.cut_low-low.ensures (level_max _ _ (p.a_in i (omega arith)).low_in (p.b_in i (omega arith)).low_in)
+    in
+    simp (got64 c.cut_low-low.result c.cut_low-low.type_inv) (fits32 (omega (arith, low_level)))
 
 pub overflow_cast-out-in-loop-i : goal.overflow_cast-out-in-loop-i
-overflow_cast-out-in-loop-i c = simp (got64 c.cut_high-high.result c.cut_high-high.type_inv) (fits32 (omega (arith, high_level c.before)))
+overflow_cast-out-in-loop-i c =
+    let high_level : Level c.cut_high-high.result =
+        let p = c.requires in
+        let i = c.loop-i.i in
+        rw c.cut_high-high.ensures (level_min _ _ (p.a_in i (omega arith)).high_in (p.b_in i (omega arith)).high_in)
+    in
+    simp (got64 c.cut_high-high.result c.cut_high-high.type_inv) (fits32 (omega (arith, high_level)))
 
 pub bounds-out-j : goal.bounds-out-j
 bounds-out-j c = simp length-set (omega arith)
 
 pub loop-i-preserved : goal.loop-i-preserved
 loop-i-preserved c =
-    let d = c.before in
-    let a = d.args in
-    let l = d.loop-i in
-    let x = d.cut_low-low in
-    let y = d.cut_high-high in
+    -- the ends of a turn, as the test has them
+    let ordered : (let a = c.args in let i = c.loop-i.i in le_z (lo a.a.now a.b.now i) (hi a.a.now a.b.now i) ≡ not false) =
+        let a = c.args in
+        rw (← c.cut_low-low.ensures, ← c.cut_high-high.ensures) (le_by c.cut_low-low.result c.cut_high-high.result (simp (got64 c.cut_low-low.result c.cut_low-low.type_inv, got64 c.cut_high-high.result c.cut_high-high.type_inv) at c.if-high-low.false))
+    in
+    -- the ends of variable i are levels
+    let low_level : Level c.cut_low-low.result =
+        let p = c.requires in
+        let i = c.loop-i.i in
+        rw c.cut_low-low.ensures (level_max _ _ (p.a_in i (omega arith)).low_in (p.b_in i (omega arith)).low_in)
+    in
+    let high_level : Level c.cut_high-high.result =
+        let p = c.requires in
+        let i = c.loop-i.i in
+        rw c.cut_high-high.ensures (level_min _ _ (p.a_in i (omega arith)).high_in (p.b_in i (omega arith)).high_in)
+    in
+    let a = c.args in
+    let l = c.loop-i in
+    let x = c.cut_low-low in
+    let y = c.cut_high-high in
     let x64 = got64 x.result x.type_inv in
     let y64 = got64 y.result y.type_inv in
-    let x32 = back32 x.result (omega (arith, low_level d)) in
-    let y32 = back32 y.result (omega (arith, high_level d)) in
+    let x32 = back32 x.result (omega (arith, low_level)) in
+    let y32 = back32 y.result (omega (arith, high_level)) in
     let room : 2 * l.i + 1 < length a.out.now = omega arith in (
       omega arith,
       simp length-set l.invariant.1,
       simp (x64, y64, x32, y32) (rw (x.ensures, y.ensures, l.invariant.2) (next_written _ _ l.i a.out.now room)),
-      rw (← (next_tested _ l.i)) (ap₂ (λ (p q : Bool). p && q) l.invariant.3 (sym (ordered_is d c.if-high-low.false))),
+      rw (← (next_tested _ l.i)) (ap₂ (λ (p q : Bool). p && q) l.invariant.3 (sym ordered)),
     )
 
 pub returns : goal.returns
 unfolding cut
 returns c =
-    let s = c.before.before in
     let l = c.loop-i in
-    let e : l.i ≡ s.args.n = omega arith in
-    ends_all s.args.n _ _ (sym (simp e at l.invariant.3)) (simp e at l.invariant.2)
+    let e : l.i ≡ c.args.n = omega arith in
+    ends_all c.args.n _ _ (sym (simp e at l.invariant.3)) (simp e at l.invariant.2)

@@ -21,6 +21,12 @@ use Rattle.steps.proofs.Written.{none_written, next_written, none_tested, next_t
 use Rattle.steps.proofs.Faces.{ends_all, ends_left}
 use Rattle.steps.proofs.cut_box.Given as goal
 
+abbrev pub lo : List ℤ → List ℤ → ℕ → ℤ
+lo a b i = max_z (low a i) (low b i)
+
+abbrev pub hi : List ℤ → List ℤ → ℕ → ℤ
+hi a b i = min_z (high a i) (high b i)
+
 abbrev pub invariant-loop-i : goal.invariant-loop-i
 invariant-loop-i l =
     (l.i ≤ l.n) × (length l.out ≡ length l.initial.out) × (l.out ≡ onto (box_by l.i (lo l.a l.b) (hi l.a l.b)) l.initial.out) × (true ≡ all_below l.i (λ j. le_z (lo l.a l.b j) (hi l.a l.b j)))

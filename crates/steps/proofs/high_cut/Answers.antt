@@ -9,25 +9,23 @@ use Rattle.steps.proofs.high_cut.Goals as goal
 
 pub high_within-requires : goal.high_within-requires
 high_within-requires c =
-    let s = c.before.before.before.before in
-    simp (to_z-of_z s.ranges.q, to_z-of_z s.ranges.c, to_z-of_z s.ranges.hi)
-    (s.requires.0, s.requires.1, subst SmallEnd c.latest-1.given.1 s.requires.2.latest_small, s.requires.3)
+    simp (to_z-of_z c.ranges.q, to_z-of_z c.ranges.c, to_z-of_z c.ranges.hi)
+    (c.requires.0, c.requires.1, subst SmallEnd c.in-At.is c.requires.2.latest_small, c.requires.3)
 
 pub returns-in-Endless : goal.returns-in-Endless
 returns-in-Endless c =
     let f = c.ranges in
-    simp (to_z-of_z f.hi, simp (to_z-of_z f.c) at c.if-c-gt0.true, c.enum_told-1.given.1)
+    simp (to_z-of_z f.hi, simp (to_z-of_z f.c) at c.if-c-gt0.true, c.in-Endless.is)
 
 pub returns-in-At : goal.returns-in-At
 returns-in-At c =
     let f = c.ranges in
     let t = simp (to_z-of_z f.c) at c.if-c-gt0.true in
-    got64 c.high_within.result c.high_within.type_inv ∙ simp (c.high_within.ensures, to_z-of_z f.q, to_z-of_z f.c, to_z-of_z f.hi, t, c.latest-1.given.1)
+    got64 c.high_within.result c.high_within.type_inv ∙ simp (c.high_within.ensures, to_z-of_z f.q, to_z-of_z f.c, to_z-of_z f.hi, t, c.in-At.is)
 
 pub returns-else-c-gt0 : goal.returns-else-c-gt0
 returns-else-c-gt0 c =
-    let s = c.before.before.before in
-    let f = s.ranges in
-    let a = s.args in
+    let f = c.ranges in
+    let a = c.args in
     let t = simp (to_z-of_z f.c) at c.if-c-gt0.false in
-    rw t (got64 c.high_at.result c.high_at.type_inv ∙ simp (to_z-of_z f.q, to_z-of_z f.c) at c.high_at.ensures ∙ sym (high_kept a.q a.c a.hi a.t.earliest s.requires.2.earliest_small.den_positive s.requires.4 t))
+    rw t (got64 c.high_at.result c.high_at.type_inv ∙ simp (to_z-of_z f.q, to_z-of_z f.c) at c.high_at.ensures ∙ sym (high_kept a.q a.c a.hi a.t.earliest c.requires.2.earliest_small.den_positive c.requires.4 t))
