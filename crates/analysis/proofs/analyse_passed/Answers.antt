@@ -39,27 +39,24 @@ pub places-requires : goal.places-requires
 places-requires c = (whole _ (model_asked _ _ _ c.requires), refl)
 
 pub slice_bounds-counted_passes-end-2 : goal.slice_bounds-counted_passes-end-2
-slice_bounds-counted_passes-end-2 c = let s = c.before.before.before in table_fits _ _ _ s.requires s.table_size-size.ensures
+slice_bounds-counted_passes-end-2 c = table_fits _ _ _ c.requires c.table_size-size.ensures
 
 pub slice_bounds-counted_passes-end-3 : goal.slice_bounds-counted_passes-end-3
-slice_bounds-counted_passes-end-3 c = let s = c.before.before.before.before in sym (table_part _ _ _ s.requires s.table_size-size.ensures)
+slice_bounds-counted_passes-end-3 c = sym (table_part _ _ _ c.requires c.table_size-size.ensures)
 
 pub slice_bounds-counted_passes-end-4 : goal.slice_bounds-counted_passes-end-4
-slice_bounds-counted_passes-end-4 c = let s = c.before.before.before.before in work_fits _ _ _ s.requires s.table_size-size.ensures
+slice_bounds-counted_passes-end-4 c = work_fits _ _ _ c.requires c.table_size-size.ensures
 
 pub slice_bounds-counted_passes-end-5 : goal.slice_bounds-counted_passes-end-5
-slice_bounds-counted_passes-end-5 c = let s = c.before.before.before.before.before in sym (work_part _ _ _ s.requires s.table_size-size.ensures)
+slice_bounds-counted_passes-end-5 c = sym (work_part _ _ _ c.requires c.table_size-size.ensures)
 
 pub counted_passes-answer-requires : goal.counted_passes-answer-requires
 counted_passes-answer-requires c =
-    let s = c.before.before.before.before.before in
-    let p = parts_sized _ _ _ s.requires s.table_size-size.ensures in
+    let p = parts_sized _ _ _ c.requires c.table_size-size.ensures in
     (p.0, c.places.ensures, p.1)
 
 pub returns : goal.returns
 returns c =
-    let q = c.before.before.before.before.before in
-    let s = q.before.before.before.before.before.before in
-    let work = s.args.work.now in
-    is_answered _ _ _ work _ q.counted_passes-answer.ensures.0 _ q.counted_passes-answer.ensures.1 _ s.table_size-size.ensures
-    _ (c.clear.ensures ∙ ap (λ (n : ℕ). replicate n (pos 0)) (length_front work q.counted_passes-answer.new.1.1.1.1.0 s.table_size-size.result q.counted_passes-answer.auto.1.1.1.1.0))
+    let work = c.args.work.now in
+    is_answered _ _ _ work _ c.counted_passes-answer.ensures.0 _ c.counted_passes-answer.ensures.1 _ c.table_size-size.ensures
+    _ (c.clear.ensures ∙ ap (λ (n : ℕ). replicate n (pos 0)) (length_front work c.counted_passes-answer.new.1.1.1.1.0 c.table_size-size.result c.counted_passes-answer.auto.1.1.1.1.0))

@@ -13,14 +13,20 @@ pub returns-then-not-fixpoint : goal.returns-then-not-fixpoint
 returns-then-not-fixpoint c = changes _ _ c.requires.0.size (sym c.fixpoint.ensures.0 ∙ not-true _ c.if-not-fixpoint.true-raw)
 
 pub link-requires : goal.link-requires
-link-requires c = let s = c.before.before.before.before.before.before.before in (s.requires.0.passes, none_linked s.args.model.now)
-
--- after 33: a pass leaves the table as it is
-fixed : (c : goal.Else-not-fixpoint) → let a = c.args in equal (pass a.model.now a.table.now) a.table.now ≡ true
-fixed c = sym c.fixpoint.ensures.0 ∙ not-false _ c.if-not-fixpoint.false-raw
+link-requires c = (c.requires.0.passes, none_linked c.args.model.now)
 
 pub returns-then-touching : goal.returns-then-touching
-returns-then-touching c = touches _ _ c.requires.0.size (fixed c.before.before.before.before.before.before.before) (sym c.touching.ensures ∙ c.if-touching.true)
+returns-then-touching c =
+    -- after 33: a pass leaves the table as it is
+    let fixed : (let a = c.args in equal (pass a.model.now a.table.now) a.table.now ≡ true) =
+        sym c.fixpoint.ensures.0 ∙ not-false _ c.if-not-fixpoint.false-raw
+    in
+    touches _ _ c.requires.0.size fixed (sym c.touching.ensures ∙ c.if-touching.true)
 
 pub returns : goal.returns
-returns c = certified _ _ c.requires.0.size (fixed c.before.before.before.before.before.before.before) (sym c.touching.ensures ∙ c.if-touching.false)
+returns c =
+    -- after 33: a pass leaves the table as it is
+    let fixed : (let a = c.args in equal (pass a.model.now a.table.now) a.table.now ≡ true) =
+        sym c.fixpoint.ensures.0 ∙ not-false _ c.if-not-fixpoint.false-raw
+    in
+    certified _ _ c.requires.0.size fixed (sym c.touching.ensures ∙ c.if-touching.false)

@@ -16,36 +16,56 @@ use Rattle.analysis.proofs.check.Goals as goal
 pub returns-then-q-ne0 : goal.returns-then-q-ne0
 returns-then-q-ne0 c = check_model _ _ _ c.questions-q.ensures c.if-q-ne0.true
 
--- the model passes its questions
-asks : (c : goal.Else-q-ne0) → model_questions c.args.model.now ≡ 0
-asks c = sym c.questions-q.ensures ∙ c.if-q-ne0.false
-
 pub table_size-end-requires : goal.table_size-end-requires
-table_size-end-requires c = whole _ (asks c)
+table_size-end-requires c =
+    -- the model passes its questions
+    let asks : model_questions c.args.model.now ≡ 0 = sym c.questions-q.ensures ∙ c.if-q-ne0.false in
+    whole _ asks
 
 pub returns-then-table-end : goal.returns-then-table-end
-returns-then-table-end c = check_short _ _ (asks c.before.before) (omega (arith, c.table_size-end.ensures, c.if-table-end.true))
-
--- the table is long enough
-room : (c : goal.Else-table-end) → table_size c.args.model.now ≤ length c.args.table.now
-room c = omega (arith, c.table_size-end.ensures, c.if-table-end.false)
-
--- the part that is lent
-size : (c : goal.Else-table-end) → length (take c.table_size-end.result c.args.table.now) ≡ c.table_size-end.result
-size c = length-take-le _ _ (omega (arith, c.if-table-end.false))
+returns-then-table-end c =
+    -- the model passes its questions
+    let asks : model_questions c.args.model.now ≡ 0 = sym c.questions-q.ensures ∙ c.if-q-ne0.false in
+    check_short _ _ asks (omega (arith, c.table_size-end.ensures, c.if-table-end.true))
 
 pub slice_bounds-table_questions-end : goal.slice_bounds-table_questions-end
-slice_bounds-table_questions-end c = sym (size c.before)
+slice_bounds-table_questions-end c =
+    -- the part that is lent
+    let size : length (take c.table_size-end.result c.args.table.now) ≡ c.table_size-end.result =
+        length-take-le _ _ (omega (arith, c.if-table-end.false))
+    in
+    sym size
 
 pub table_questions-q-requires : goal.table_questions-q-requires
-table_questions-q-requires c = record { passes = asks c.before.before.before; size = size c.before ∙ c.table_size-end.ensures }
-
--- its questions are those of the list that is given
-asked : (c : goal.After-table_questions-q) → c.table_questions-q.result ≡ table_questions c.args.model.now (front c.args.model.now c.args.table.now)
-asked c = c.table_questions-q.ensures ∙ ap (λ (k : ℕ). table_questions c.args.model.now (take k c.args.table.now)) c.table_size-end.ensures
+table_questions-q-requires c =
+    -- the model passes its questions
+    let asks : model_questions c.args.model.now ≡ 0 = sym c.questions-q.ensures ∙ c.if-q-ne0.false in
+    -- the part that is lent
+    let size : length (take c.table_size-end.result c.args.table.now) ≡ c.table_size-end.result =
+        length-take-le _ _ (omega (arith, c.if-table-end.false))
+    in
+    record { passes = asks; size = size ∙ c.table_size-end.ensures }
 
 pub returns-then-q-ne0-2 : goal.returns-then-q-ne0-2
-returns-then-q-ne0-2 c = check_table _ _ (asks c.before.before.before.before.before) (room c.before.before.before) _ (asked c.before) c.if-q-ne0-2.true
+returns-then-q-ne0-2 c =
+    -- the model passes its questions
+    let asks : model_questions c.args.model.now ≡ 0 = sym c.questions-q.ensures ∙ c.if-q-ne0.false in
+    -- the table is long enough
+    let room : table_size c.args.model.now ≤ length c.args.table.now = omega (arith, c.table_size-end.ensures, c.if-table-end.false) in
+    -- its questions are those of the list that is given
+    let asked : c.table_questions-q.result ≡ table_questions c.args.model.now (front c.args.model.now c.args.table.now) =
+        c.table_questions-q.ensures ∙ ap (λ (k : ℕ). table_questions c.args.model.now (take k c.args.table.now)) c.table_size-end.ensures
+    in
+    check_table _ _ asks room _ asked c.if-q-ne0-2.true
 
 pub returns : goal.returns
-returns c = check_accepted _ _ (asks c.before.before.before.before.before) (room c.before.before.before) _ (asked c.before) c.if-q-ne0-2.false
+returns c =
+    -- the model passes its questions
+    let asks : model_questions c.args.model.now ≡ 0 = sym c.questions-q.ensures ∙ c.if-q-ne0.false in
+    -- the table is long enough
+    let room : table_size c.args.model.now ≤ length c.args.table.now = omega (arith, c.table_size-end.ensures, c.if-table-end.false) in
+    -- its questions are those of the list that is given
+    let asked : c.table_questions-q.result ≡ table_questions c.args.model.now (front c.args.model.now c.args.table.now) =
+        c.table_questions-q.ensures ∙ ap (λ (k : ℕ). table_questions c.args.model.now (take k c.args.table.now)) c.table_size-end.ensures
+    in
+    check_accepted _ _ asks room _ asked c.if-q-ne0-2.false

@@ -56,16 +56,15 @@ made_kept q = q.fixpoint.kept.1.1.1.0 ∙ work_kept (head q)
 
 -- ---- the turns
 pub link-requires : goal.link-requires
-link-requires c = let s = c.before.before.before in (s.requires.0.passes, none_linked s.args.model.now)
+link-requires c = (c.requires.0.passes, none_linked c.args.model.now)
 
 pub clear-requires : goal.clear-requires
 clear-requires c = tt
 
 pub loop-last-init : goal.loop-last-init
 loop-last-init c =
-    let s = c.before.before.before.before.before.before.before in
-    let a = s.args in
-    let p = s.requires in
+    let a = c.args in
+    let p = c.requires in
     subst (λ (t : List ℤ). Going a.model.now a.limit t a.work.now 0) (sym c.clear.ensures)
     (going_first a.model.now a.limit a.table.now a.work.now p.0.size p.2.size)
 
@@ -77,9 +76,8 @@ slice_bounds-touching-end-in-loop-last c = sym (linked c.before.before).before_l
 
 pub touching-requires : goal.touching-requires
 touching-requires c =
-    let h = c.before.before.before in
-    let p = (start h).requires in
-    (record { passes = p.0.passes; room = omega (arith, table_size_lem h) }, p.1, valid h, linked h)
+    let p = (start c).requires in
+    (record { passes = p.0.passes; room = omega (arith, table_size_lem c) }, p.1, valid c, linked c)
 
 pub shape_of-table-then-touching : goal.shape_of-table-then-touching
 shape_of-table-then-touching c = table_kept c.before.before.before.before.before
@@ -92,9 +90,8 @@ returns-then-touching c = going_unknown _ _ _ _ _ c.loop-last.invariant (sym c.t
 
 pub fixpoint-requires : goal.fixpoint-requires
 fixpoint-requires c =
-    let h = c.before.before.before.before.before.before.before in
-    let p = (start h).requires in
-    (record { passes = p.0.passes; size = table_size_lem h }, p.1, valid h, record { passes = p.0.passes; size = h.loop.invariant.work_size })
+    let p = (start c).requires in
+    (record { passes = p.0.passes; size = table_size_lem c }, p.1, valid c, record { passes = p.0.passes; size = c.loop.invariant.work_size })
 
 pub shape_of-table-then-fixpoint : goal.shape_of-table-then-fixpoint
 shape_of-table-then-fixpoint c = table_kept (head c.before.before)
@@ -103,7 +100,7 @@ pub shape_of-work-then-fixpoint : goal.shape_of-work-then-fixpoint
 shape_of-work-then-fixpoint c = made_kept c.before.before
 
 pub returns-then-fixpoint : goal.returns-then-fixpoint
-returns-then-fixpoint c = let q = c.before.before in going_safe _ _ _ _ _ (head q).loop.invariant (untouched q) (sym q.fixpoint.ensures.0 ∙ c.if-fixpoint.true)
+returns-then-fixpoint c = going_safe _ _ _ _ _ (head c).loop.invariant (untouched c) (sym c.fixpoint.ensures.0 ∙ c.if-fixpoint.true)
 
 pub shape_of-table-then-k-limit : goal.shape_of-table-then-k-limit
 shape_of-table-then-k-limit c = table_kept (head c.before.before.before)
@@ -112,26 +109,32 @@ pub shape_of-work-then-k-limit : goal.shape_of-work-then-k-limit
 shape_of-work-then-k-limit c = made_kept c.before.before.before
 
 pub returns-then-k-limit : goal.returns-then-k-limit
-returns-then-k-limit c = let q = c.before.before.before in going_limit _ _ _ _ _ (head q).loop.invariant (untouched q) (sym q.fixpoint.ensures.0 ∙ c.if-fixpoint.false) c.if-k-limit.true
+returns-then-k-limit c = going_limit _ _ _ _ _ (head c).loop.invariant (untouched c) (sym c.fixpoint.ensures.0 ∙ c.if-fixpoint.false) c.if-k-limit.true
 
 pub copy-requires : goal.copy-requires
 copy-requires c =
-    let q = c.before.before.before.before.before in
-    let p = (start (head q)).pre in
-    made_kept q ∙ p.2.size ∙ sym p.0.size ∙ sym (table_kept (head q))
-
-below_limit : (c : goal.After-copy-arg2) → let h = head c.before.before.before.before.before in h.loop.k < (start h).args.limit
-below_limit c = let h = head c.before.before.before.before.before in omega (arith, h.loop.inv.k_within, c.before.before.if3.false)
+    let p = (start (head c)).pre in
+    made_kept c ∙ p.2.size ∙ sym p.0.size ∙ sym (table_kept (head c))
 
 pub overflow_add-k : goal.overflow_add-k
-overflow_add-k c = let h = head c.before.before.before.before.before.before.before in omega (arith, below_limit c.before.before, (start h).fits.limit)
+overflow_add-k c =
+    let below_limit : (let h = head c.before.before.before.before.before in h.loop.k < (start h).args.limit) =
+        let h = head c.before.before.before.before.before in omega (arith, h.loop.inv.k_within, c.if3.false)
+    in
+    let h = head c.before.before.before.before.before.before.before in omega (arith, below_limit, (start h).fits.limit)
 
 pub loop-last-smaller : goal.loop-last-smaller
-loop-last-smaller c = omega (arith, below_limit c.before.before)
+loop-last-smaller c =
+    let below_limit : (let h = head c.before.before.before.before.before in h.loop.k < (start h).args.limit) =
+        let h = head c.before.before.before.before.before in omega (arith, h.loop.inv.k_within, c.if3.false)
+    in
+    omega (arith, below_limit)
 
 pub loop-last-preserved : goal.loop-last-preserved
 loop-last-preserved c =
-    let q = c.before.before.before.before.before.before.before in
-    let h = head q in
-    subst (λ (t : List ℤ). Going (start h).args.model.now (start h).args.limit t q.fixpoint.new.1.1.1.0 (h.loop.k + 1)) (sym (c.copy.ensures ∙ q.fixpoint.ensures.1))
-    (going_more _ _ _ _ _ h.loop.inv (untouched q) (sym q.fixpoint.ensures.0 ∙ c.if-fixpoint.false) (below_limit c.before.before) q.fixpoint.new.1.1.1.0 (made_kept q ∙ (start h).pre.2.size))
+    let below_limit : (let h = head c.before.before.before.before.before in h.loop.k < (start h).args.limit) =
+        let h = head c.before.before.before.before.before in omega (arith, h.loop.inv.k_within, c.if3.false)
+    in
+    let h = head c in
+    subst (λ (t : List ℤ). Going (start h).args.model.now (start h).args.limit t c.fixpoint.new.1.1.1.0 (h.loop.k + 1)) (sym (c.copy.ensures ∙ c.fixpoint.ensures.1))
+    (going_more _ _ _ _ _ h.loop.inv (untouched c) (sym c.fixpoint.ensures.0 ∙ c.if-fixpoint.false) below_limit c.fixpoint.new.1.1.1.0 (made_kept c ∙ (start h).pre.2.size))

@@ -13,22 +13,30 @@ use Rattle.analysis.proofs.questions.Goals as goal
 pub returns-then-q-ne0 : goal.returns-then-q-ne0
 returns-then-q-ne0 c = asks_model _ _ _ _ c.questions-q.ensures c.if-q-ne0.true
 
--- the model passes its questions
-asks : (c : goal.Else-q-ne0) → model_questions c.args.model.now ≡ 0
-asks c = sym c.questions-q.ensures ∙ c.if-q-ne0.false
-
 pub table_size-size-requires : goal.table_size-size-requires
-table_size-size-requires c = whole _ (asks c)
+table_size-size-requires c =
+    -- the model passes its questions
+    let asks : model_questions c.args.model.now ≡ 0 = sym c.questions-q.ensures ∙ c.if-q-ne0.false in
+    whole _ asks
 
 pub returns-then-table-size : goal.returns-then-table-size
-returns-then-table-size c = short_table _ _ _ (asks c.before.before) (omega (arith, c.table_size-size.ensures, c.if-table-size.true))
-
--- the table buffer is long enough
-room : (c : goal.Else-table-size) → table_size c.args.model.now ≤ length c.args.table.now
-room c = omega (arith, c.table_size-size.ensures, c.if-table-size.false)
+returns-then-table-size c =
+    -- the model passes its questions
+    let asks : model_questions c.args.model.now ≡ 0 = sym c.questions-q.ensures ∙ c.if-q-ne0.false in
+    short_table _ _ _ asks (omega (arith, c.table_size-size.ensures, c.if-table-size.true))
 
 pub returns-then-work-size : goal.returns-then-work-size
-returns-then-work-size c = short_work _ _ _ (asks c.before.before.before) (room c.before) (omega (arith, c.table_size-size.ensures, c.if-work-size.true))
+returns-then-work-size c =
+    -- the model passes its questions
+    let asks : model_questions c.args.model.now ≡ 0 = sym c.questions-q.ensures ∙ c.if-q-ne0.false in
+    -- the table buffer is long enough
+    let room : table_size c.args.model.now ≤ length c.args.table.now = omega (arith, c.table_size-size.ensures, c.if-table-size.false) in
+    short_work _ _ _ asks room (omega (arith, c.table_size-size.ensures, c.if-work-size.true))
 
 pub returns : goal.returns
-returns c = all_yes _ _ _ (asks c.before.before.before) (room c.before) (omega (arith, c.table_size-size.ensures, c.if-work-size.false))
+returns c =
+    -- the model passes its questions
+    let asks : model_questions c.args.model.now ≡ 0 = sym c.questions-q.ensures ∙ c.if-q-ne0.false in
+    -- the table buffer is long enough
+    let room : table_size c.args.model.now ≤ length c.args.table.now = omega (arith, c.table_size-size.ensures, c.if-table-size.false) in
+    all_yes _ _ _ asks room (omega (arith, c.table_size-size.ensures, c.if-work-size.false))

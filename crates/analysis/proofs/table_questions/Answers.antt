@@ -14,12 +14,14 @@ places-requires c = (whole _ c.requires.passes, refl)
 pub returns-then-not-table_ok : goal.returns-then-not-table_ok
 returns-then-not-table_ok c = not_valid _ _ (sym c.table_ok.ensures ∙ not-true _ c.if-not-table_ok.true-raw)
 
--- after 32
-valid : (c : goal.Else-not-table_ok) → let a = c.args in table_ok a.model.now a.table.now ≡ true
-valid c = sym c.table_ok.ensures ∙ not-false _ c.if-not-table_ok.false-raw
-
 pub certificate_held-requires : goal.certificate_held-requires
-certificate_held-requires c = let i = c.before in (i.requires, i.places.ensures, valid i)
+certificate_held-requires c =
+    -- after 32
+    let valid : (let a = c.args in table_ok a.model.now a.table.now ≡ true) = sym c.table_ok.ensures ∙ not-false _ c.if-not-table_ok.false-raw in
+    (c.requires, c.places.ensures, valid)
 
 pub returns : goal.returns
-returns c = valid_asked _ _ (valid c.before.before) c.certificate_held.ensures
+returns c =
+    -- after 32
+    let valid : (let a = c.args in table_ok a.model.now a.table.now ≡ true) = sym c.table_ok.ensures ∙ not-false _ c.if-not-table_ok.false-raw in
+    valid_asked _ _ valid c.certificate_held.ensures
