@@ -59,4 +59,4 @@ pub returns : goal.returns
 returns c =
     let work = c.args.work.now in
     is_answered _ _ _ work _ c.counted_passes-answer.ensures.0 _ c.counted_passes-answer.ensures.1 _ c.table_size-size.ensures
-    _ (c.clear.ensures ∙ ap (λ (n : ℕ). replicate n (pos 0)) (length_front work c.counted_passes-answer.new.1.1.1.1.0 c.table_size-size.result c.counted_passes-answer.auto.1.1.1.1.0))
+    _ (c.clear.ensures ∙ ap (λ (n : ℕ). replicate n (pos 0)) (length_front work c.counted_passes-answer.new.work c.table_size-size.result c.counted_passes-answer.auto.work))

@@ -13,7 +13,7 @@ pass-requires c =
     (record { ready = record { passes = p.0.passes; room = omega (arith, p.0.size) }; valid = p.2 }, p.1, p.3.size)
 
 pub equal-requires : goal.equal-requires
-equal-requires c = let p = c.requires in c.pass.auto.1.1.1.0 ∙ p.3.size ∙ sym p.0.size
+equal-requires c = let p = c.requires in c.pass.auto.out ∙ p.3.size ∙ sym p.0.size
 
 pub returns : goal.returns
 returns c = (c.equal.ensures ∙ ap (λ (w : List ℤ). equal w c.args.table.now) c.pass.ensures, c.pass.ensures)
