@@ -6,9 +6,10 @@ use Rattle.files.specs.Fields.{field_at, is_field}
 use Rattle.files.specs.declared.Field.{Field}
 use Rattle.model_files.proofs.CutTurns.{no_tag, not_whole, words_decide, whole_there}
 use Rattle.model_files.proofs.cut_questions.Goals as goal
+use Rattle.model_files.proofs.cut_questions.Goals.{After-is_field}
 
 -- what was asked of the field
-whole : (c : goal.After-is_field) → let a = c.args in c.is_field.result ≡ is_field (field_at a.file.now a.at) 8 12
+whole : (c : After-is_field) → let a = c.args in c.is_field.result ≡ is_field (field_at a.file.now a.at) 8 12
 whole c = c.is_field.ensures ∙ ap₂ (λ (f : Field) (len : ℕ). is_field f 8 len) c.next_field-field.ensures c.payload_length.ensures
 
 pub returns-then-file-at-ne8 : goal.returns-then-file-at-ne8

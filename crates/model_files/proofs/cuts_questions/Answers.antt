@@ -6,9 +6,10 @@ use lib.ListN.{length}
 use Rattle.files.proofs.Cuts.{CutYes, cut_yes}
 use Rattle.model_files.proofs.CutTurns.{is_there, CutsAsked, asked_none, asked_stop, asked_more, asked_all}
 use Rattle.model_files.proofs.cuts_questions.Goals as goal
+use Rattle.model_files.proofs.cuts_questions.Goals.{Else-r-ne0}
 
 -- the field that was asked
-passed : (c : goal.Else-r-ne0) → let a = c.args in CutYes a.file.now c.loop-at.at c.loop-at.least a.count
+passed : (c : Else-r-ne0) → let a = c.args in CutYes a.file.now c.loop-at.at c.loop-at.least a.count
 passed c =
     let s = c.before.before.before.before.before in
     cut_yes s.args.file.now c.loop-at.at c.loop-at.least s.args.count s.requires.0 (sym c.cut_questions-r.ensures ∙ c.if-r-ne0.false)

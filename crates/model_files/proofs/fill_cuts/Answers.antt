@@ -6,9 +6,10 @@ use native.Mathlib.Omega.{arith}
 use lib.ListN.{length}
 use Rattle.model_files.proofs.CutTurns.{CutsFilled, filled_none, next_there, named_there, filled_more, filled_all}
 use Rattle.model_files.proofs.fill_cuts.Goals as goal
+use Rattle.model_files.proofs.fill_cuts.Goals.{After-names_location-named}
 
 -- a field that names the location stands whole
-whole : (c : goal.After-names_location-named) → c.names_location-named.result ≡ true → c.loop-l.at + 15 ≤ length c.args.file.now
+whole : (c : After-names_location-named) → c.names_location-named.result ≡ true → c.loop-l.at + 15 ≤ length c.args.file.now
 whole c n =
     let s = c.before.before.before.before in
     named_there s.args.file.now s.args.from s.args.count s.args.words.now s.args.to s.requires c.loop-l.invariant.2 c.loop-l-test.true c.names_location-named.ensures n

@@ -19,22 +19,23 @@ use Rattle.files.specs.ModelFile.{head_words, is_head, head_questions, buffer_qu
 use Rattle.files.proofs.FirstField.{length_head}
 use Rattle.files.proofs.ModelReading.{then_assoc, buffer_room}
 use Rattle.model_files.proofs.read_model.Goals as goal
+use Rattle.model_files.proofs.read_model.Goals.{After-ask-q1, Else-q1-ne0, After-read_head, After-sizes_questions-q}
 
 -- question 1, as the definition asks it
-asked : (c : goal.After-ask-q1) → c.ask-q1.result ≡ ask (is_head (field_at c.args.file.now 0)) 1
+asked : (c : After-ask-q1) → c.ask-q1.result ≡ ask (is_head (field_at c.args.file.now 0)) 1
 asked c = c.ask-q1.ensures ∙ ap (λ (t : Bool). ask t 1) (c.is_head.ensures ∙ ap is_head c.next_field.ensures)
 
-is_first : (c : goal.Else-q1-ne0) → T (is_head (field_at c.args.file.now 0))
+is_first : (c : Else-q1-ne0) → T (is_head (field_at c.args.file.now 0))
 is_first c = ask_yes (is_head (field_at c.args.file.now 0)) 1 (omega arith) (sym (asked c.before) ∙ c.if-q1-ne0.false)
 
 -- what is read first are the file's head words
-read : (c : goal.After-read_head) → c.read_head.new.1.0 ≡ head_words c.args.file.now
+read : (c : After-read_head) → c.read_head.new.1.0 ≡ head_words c.args.file.now
 read c =
     let file = c.args.file.now in
     c.read_head.ensures ∙ onto_all (head_words file) _ (length_head file)
 
 -- their questions, as the definition asks them
-sized : (c : goal.After-sizes_questions-q) → let a = c.args in
+sized : (c : After-sizes_questions-q) → let a = c.args in
     c.sizes_questions-q.result ≡ (ranges_questions (head_words a.file.now) then buffer_question (head_words a.file.now) (length a.words.now))
 sized c =
     let a = c.args in

@@ -13,6 +13,7 @@ use Rattle.files.specs.ModelFile.{file_words, records_file_questions}
 use Rattle.files.proofs.FirstField.{length_head}
 use Rattle.files.proofs.ModelReading.{file_whole, front_of}
 use Rattle.model_files.proofs.read_records.Goals as goal
+use Rattle.model_files.proofs.read_records.Goals.{After-fill-arg-1, After-records-questions-arg}
 
 pub returns-then-q-ne0 : goal.returns-then-q-ne0
 unfolding records_file_questions
@@ -27,11 +28,11 @@ pub slice_bounds-records_questions-end-2 : goal.slice_bounds-records_questions-e
 slice_bounds-records_questions-end-2 c = sym (length-take-le c.size-size.result c.fill.new.1.1.0 (omega arith))
 
 -- the head words are five
-five : (c : goal.After-fill-arg-1) → length c.args.head.now ≡ 5
+five : (c : After-fill-arg-1) → length c.args.head.now ≡ 5
 five c = ap length c.requires.is_read ∙ length_head c.args.file.now
 
 -- what is asked are the words of the file
-asked : (c : goal.After-records-questions-arg) → let a = c.before.before.before.before.before.before.before.before.args in
+asked : (c : After-records-questions-arg) → let a = c.before.before.before.before.before.before.before.before.args in
     take c.before.size.result c.before.before.before.fill.new.1.1.0 ≡ file_words a.file.now a.head.now
 asked c =
     let a = c.before.before.before.before.before.before.before.before.args in

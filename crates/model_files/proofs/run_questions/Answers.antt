@@ -2,7 +2,7 @@
 use mathlib.Core.List.{List}
 use mathlib.Core.Path.{◌≡◌, sym, ap, ap₂, ◌∙◌}
 use Prim.Native.Nat.{ℕ, ◌+◌, ◌-◌, ◌≤◌}
-use native.Mathlib.Nat.{add_mul}
+use native.Mathlib.Nat.{add-mul}
 use native.Mathlib.Omega.{arith}
 use borrow.Author.Rules.{rules}
 use lib.Dec.{T}
@@ -14,26 +14,27 @@ use Rattle.plant.specs.Ask.{first}
 use Rattle.files.specs.ModelFile.{field_questions, run_questions}
 use Rattle.files.proofs.ModelReading.{field_passed}
 use Rattle.model_files.proofs.run_questions.Goals as goal
+use Rattle.model_files.proofs.run_questions.Goals.{After-field_questions-r, Else-r-ne0, In-Whole}
 
 -- the questions of field i
 abbrev question : (s : List ℕ) (from tag w i : ℕ) → ℕ
 question s from tag w i = field_questions (field_at s (field_place from w i)) tag (payload_length w)
 
 -- the call asks them
-asked : (c : goal.After-field_questions-r) → let a = c.args in c.field_questions-r.result ≡ question a.file.now a.from a.tag a.w c.loop-i.i
+asked : (c : After-field_questions-r) → let a = c.args in c.field_questions-r.result ≡ question a.file.now a.from a.tag a.w c.loop-i.i
 asked c = let a = c.args in
     c.field_questions-r.ensures
     ∙ ap₂ (λ (f : Field) (len : ℕ). field_questions f a.tag len) (c.next_field-field.ensures ∙ ap (field_at a.file.now) c.loop-i.invariant.1) c.payload_length-len.ensures
 
 -- a yes: the field is the due one
-passed : (c : goal.Else-r-ne0) → let a = c.args in T (is_field c.next_field-field.result a.tag (payload_length a.w))
+passed : (c : Else-r-ne0) → let a = c.args in T (is_field c.next_field-field.result a.tag (payload_length a.w))
 passed c =
     let a = c.args in
     field_passed c.next_field-field.result a.tag (payload_length a.w)
     (ap (field_questions c.next_field-field.result a.tag) (sym c.payload_length-len.ensures) ∙ sym c.field_questions-r.ensures ∙ c.if-r-ne0.false)
 
 -- so the position after it is that of field i + 1
-stepped : (c : goal.In-Whole) → let a = c.args in
+stepped : (c : In-Whole) → let a = c.args in
     c.field-1.given.0.1.1.1.0 ≡ field_place a.from a.w (c.loop-i.i + 1)
 stepped c =
     let a = c.args in
@@ -41,7 +42,7 @@ stepped c =
     let f = c.field-1.given in
     let e = c.next_field-field.ensures in
     let g = due_given a.file.now p.at a.tag (payload_length a.w) _ _ _ _ (rw e at (passed c.before.before.before)) (sym e ∙ f.1) in
-    omega (arith, g.2, p.invariant.1, add_mul p.i 1 (field_length a.w))
+    omega (arith, g.2, p.invariant.1, add-mul p.i 1 (field_length a.w))
 
 pub loop-i-init : goal.loop-i-init
 loop-i-init c = (omega arith, omega arith, first_none _)

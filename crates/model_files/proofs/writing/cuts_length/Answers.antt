@@ -15,9 +15,10 @@ use Rattle.files.specs.ModelFile.{cut_field_size}
 use Rattle.files.proofs.ModelLength.{cut_field_of, cut_le, cuts_le}
 use Rattle.model_files.proofs.ModelWriting.{cuts_more, cuts_all}
 use Rattle.model_files.proofs.writing.cuts_length.Goals as goal
+use Rattle.model_files.proofs.writing.cuts_length.Goals.{After-cut_length-bytes}
 
 -- what a turn adds
-by_variable : (c : goal.After-cut_length-bytes)
+by_variable : (c : After-cut_length-bytes)
     → c.cut_length-bytes.result ≡ cond (eq_z (cut_variable c.args.model.now c.loop-l.l) (negsuc 0)) 0 (field_length cut_field_size)
 by_variable c = let v = c.cut_variable in rw (got32 v.result v.type_inv, v.ensures) at c.cut_length-bytes.ensures
 

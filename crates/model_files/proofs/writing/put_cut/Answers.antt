@@ -16,25 +16,26 @@ use Rattle.plant.proofs.Positions.{cut-within}
 use Rattle.files.specs.ModelFile.{cut_field_size}
 use Rattle.model_files.proofs.ModelWriting.{cut_skip, skip_next, cut_next, cut_put}
 use Rattle.model_files.proofs.writing.put_cut.Goals as goal
+use Rattle.model_files.proofs.writing.put_cut.Goals.{Start, After-same, Then-same, Else-same}
 
-within : (c : goal.Start) → cut_at c.args.model.now c.args.l + cut_size ≤ length c.args.model.now
+within : (c : Start) → cut_at c.args.model.now c.args.l + cut_size ≤ length c.args.model.now
 within c = cut-within _ c.requires.whole _ c.requires.location
 
 -- what the test of its variable tells
-told : (c : goal.After-same) → c.same.result ≡ eq_z (cut_variable c.args.model.now c.args.l) (negsuc 0)
+told : (c : After-same) → c.same.result ≡ eq_z (cut_variable c.args.model.now c.args.l) (negsuc 0)
 unfolding cut_variable
 told c =
     let m = c.args.model.now in
     let at = c.cut_at-at in
     simp (got32 (word m at.result) c.same-arg-1.given) at c.same.ensures ∙ ap (λ (k : ℕ). eq_z (word m k) (negsuc 0)) at.ensures
 
-not_cut : (c : goal.Then-same) → eq_z (cut_variable c.args.model.now c.args.l) (negsuc 0) ≡ true
+not_cut : (c : Then-same) → eq_z (cut_variable c.args.model.now c.args.l) (negsuc 0) ≡ true
 not_cut c = sym (told c.before) ∙ c.if-same.true
 
-is_cut : (c : goal.Else-same) → eq_z (cut_variable c.args.model.now c.args.l) (negsuc 0) ≡ false
+is_cut : (c : Else-same) → eq_z (cut_variable c.args.model.now c.args.l) (negsuc 0) ≡ false
 is_cut c = sym (told c.before) ∙ c.if-same.false
 
-room : (c : goal.Else-same) → c.args.to + field_length cut_field_size ≤ length c.args.file.now
+room : (c : Else-same) → c.args.to + field_length cut_field_size ≤ length c.args.file.now
 room c = let s = c.before.before.before.before.before in omega (arith, s.requires.room, cut_next _ _ (is_cut c) s.args.to refl)
 
 pub offset_bounds-model-at : goal.offset_bounds-model-at

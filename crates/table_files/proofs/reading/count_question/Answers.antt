@@ -12,9 +12,10 @@ use Rattle.files.specs.declared.Field.{Field}
 use Rattle.files.proofs.TableSizes.{pieces_few}
 use Rattle.table_files.proofs.TableReading.{count_refused, head_there, count_asked}
 use Rattle.table_files.proofs.reading.count_question.Goals as goal
+use Rattle.table_files.proofs.reading.count_question.Goals.{After-is_field}
 
 -- the test of the head field
-tested : (c : goal.After-is_field) → is_field (field_at c.args.file.now 0) 6 4 ≡ c.is_field.result
+tested : (c : After-is_field) → is_field (field_at c.args.file.now 0) 6 4 ≡ c.is_field.result
 tested c = sym (c.is_field.ensures ∙ ap₂ (λ (f : Field) (len : ℕ). is_field f 6 len) c.next_field-first.ensures c.payload_length.ensures)
 
 pub returns-then-not-is_field : goal.returns-then-not-is_field

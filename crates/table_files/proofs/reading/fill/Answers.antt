@@ -15,37 +15,38 @@ use Rattle.table_files.specs.TableRoom.{KeyAt}
 use Rattle.table_files.proofs.TableReading.{row_length, asked_count, counted_at, count_few, ready_size, field_due, field_key, field_ends, place_is, place_inside, place_yes_at, place_next, table_none, table_put, table_size_lem, table_end}
 use Rattle.files.proofs.TableAsked.{FieldsYes, fields_yes}
 use Rattle.table_files.proofs.reading.fill.Goals as goal
+use Rattle.table_files.proofs.reading.fill.Goals.{Start, In-loop-i, In-Whole, In_default, After-face_size-size, After-key_at}
 
 -- the file passes 35 to 38
-yes : (c : goal.Start) → FieldsYes c.args.model.now c.args.file.now
+yes : (c : Start) → FieldsYes c.args.model.now c.args.file.now
 yes c = fields_yes _ _ c.requires.0.whole.head.n_positive c.requires.0.whole.head.L_positive c.requires.1
 
 -- field i is the due one
-is_due : (c : goal.In-loop-i) → let a = c.args in T (is_field (field_at a.file.now c.loop-i.at) 5 (payload_length (piece_field_size a.model.now)))
+is_due : (c : In-loop-i) → let a = c.args in T (is_field (field_at a.file.now c.loop-i.at) 5 (payload_length (piece_field_size a.model.now)))
 is_due c = let s = c.before.before.before.before.before.before.before.before.before.before.before.before in field_due _ s.requires.0.whole _ (yes s) c.count_of-count.ensures _ _ c.loop-i-test.true c.loop-i.invariant.1
 
 -- what the cursor gives of it
-lies : (c : goal.In-Whole) → let a = c.args in let f = c.field-1.given.0.1 in let at = c.loop-i.at in
+lies : (c : In-Whole) → let a = c.args in let f = c.field-1.given.0.1 in let at = c.loop-i.at in
     (f.0 ≡ at + header_size) × (f.1.0 ≡ payload_length (piece_field_size a.model.now)) × (f.1.1.0 ≡ at + header_size + payload_length (piece_field_size a.model.now))
 lies c = due_given _ _ _ _ _ _ _ _ (is_due c.before.before.before.before) (sym c.next_field-field.ensures ∙ c.field-1.given.1)
 
-no_other : (c : goal.In_default) → ⊥
+no_other : (c : In_default) → ⊥
 no_other c =
     let a = c.args in
     due_whole c.next_field-field.result 5 (payload_length (piece_field_size a.model.now)) (rw (← c.next_field-field.ensures) at (is_due c.before.before)) c.in_default.keys2
 
 -- it names a piece, whose words lie in the table
-named : (c : goal.In-Whole) → let a = c.args in KeyAt a.model.now a.places.now a.file.now c.field-1.given.0.1.0 a.width
+named : (c : In-Whole) → let a = c.args in KeyAt a.model.now a.places.now a.file.now c.field-1.given.0.1.0 a.width
 named c = let s = c.before.before.before.before.before.before.before.before.before.before.before.before.before.before.before.before in field_key _ s.requires.0.whole _ (yes s) c.count_of-count.ensures _ _ c.loop-i-test.true c.loop-i.invariant.1 (lies c).0 s.requires.0
 
-sized : (c : goal.After-face_size-size) → c.face_size-size.result ≡ face_size (n# c.args.model.now)
+sized : (c : After-face_size-size) → c.face_size-size.result ≡ face_size (n# c.args.model.now)
 sized c = omega (arith, c.face_size-size.ensures, c.variables-n.ensures)
 
-inside : (c : goal.After-key_at) → c.key_at.result * c.face_size-size.result + c.face_size-size.result ≤ table_size c.args.model.now
+inside : (c : After-key_at) → c.key_at.result * c.face_size-size.result + c.face_size-size.result ≤ table_size c.args.model.now
 inside c = let s = c.before.before.before.before.before.before.before.before.before.before.before.before.before.before.before.before.before in
     place_inside _ s.requires.0.whole _ (yes s) c.count_of-count.ensures _ _ c.loop-i-test.true c.loop-i.invariant.1 (lies c.before).0 c.key_at.ensures (sized c.before.before.before.before.before.before.before.before.before.before)
 
-ends : (c : goal.In-Whole) → c.field-1.given.0.1.0 + payload_length c.args.width + payload_length (2 * c.variables-n.result) ≤ length c.args.file.now
+ends : (c : In-Whole) → c.field-1.given.0.1.0 + payload_length c.args.width + payload_length (2 * c.variables-n.result) ≤ length c.args.file.now
 ends c = let s = c.before.before.before.before.before.before.before.before.before.before.before.before.before.before.before.before in field_ends _ s.requires.0.whole _ (yes s) c.count_of-count.ensures _ _ c.loop-i-test.true c.loop-i.invariant.1 (lies c).0 s.requires.0.width_is c.variables-n.ensures
 
 pub clear-requires : goal.clear-requires

@@ -9,8 +9,9 @@ use Rattle.files.specs.TableFile.{piece_field_size, piece_key}
 use Rattle.files.proofs.PlaceWords.{place_least}
 use Rattle.table_files.proofs.TableReading.{before_is, number_few, key_made, key_few}
 use Rattle.table_files.proofs.reading.key_at.Goals as goal
+use Rattle.table_files.proofs.reading.key_at.Goals.{After-per_face}
 
-made : (c : goal.After-per_face) → let a = c.args in get_or a.places.now c.number_at-l.result 0 + (c.number_at-f.result * c.per_face.result + c.index_at-k.result) ≡ piece_key a.model.now (words_at a.file.now a.start (piece_field_size a.model.now))
+made : (c : After-per_face) → let a = c.args in get_or a.places.now c.number_at-l.result 0 + (c.number_at-f.result * c.per_face.result + c.index_at-k.result) ≡ piece_key a.model.now (words_at a.file.now a.start (piece_field_size a.model.now))
 made c = let r = c.requires in
     key_made _ _ _ r.ready.width_is c.number_at-l.ensures c.number_at-f.ensures c.index_at-k.ensures c.per_face.ensures
     (before_is r.ready _ (omega (arith, c.number_at-l.ensures, r.location_below)))

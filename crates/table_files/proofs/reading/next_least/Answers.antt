@@ -20,28 +20,29 @@ use Rattle.table_files.specs.TableRoom.{location_word, face_word, index_word, Ke
 use Rattle.files.proofs.PlaceWords.{place_least}
 use Rattle.table_files.proofs.TableReading.{place_no_location, place_no_face, place_no_piece, place_by_key, key_there, key_few, least_no, least_late, least_made}
 use Rattle.table_files.proofs.reading.next_least.Goals as goal
+use Rattle.table_files.proofs.reading.next_least.Goals.{After-number_within, After-number_within-2, After-index_within, Else-not-number_within, Else-not-number_within-2, Else-not-index_within, After-key_at-key}
 
 -- the three tests
-location_tested : (c : goal.After-number_within) → let a = c.args in within (pos 0) (pos (L# a.model.now - 1)) (location_word a.file.now a.start) ≡ c.number_within.result
+location_tested : (c : After-number_within) → let a = c.args in within (pos 0) (pos (L# a.model.now - 1)) (location_word a.file.now a.start) ≡ c.number_within.result
 location_tested c = let a = c.args in
     sym (c.number_within.ensures ∙ ap (λ (x : ℕ). within (pos 0) (pos (x - 1)) (location_word a.file.now a.start)) c.locations.ensures)
 
-face_tested : (c : goal.After-number_within-2) → let a = c.args in within (pos 0) (pos (2 * n# a.model.now - 1)) (face_word a.file.now a.start) ≡ c.number_within-2.result
+face_tested : (c : After-number_within-2) → let a = c.args in within (pos 0) (pos (2 * n# a.model.now - 1)) (face_word a.file.now a.start) ≡ c.number_within-2.result
 face_tested c = let a = c.args in
     sym (c.number_within-2.ensures ∙ ap (λ (x : ℕ). within (pos 0) (pos (2 * x - 1)) (face_word a.file.now a.start)) c.variables-faces.ensures)
 
-piece_tested : (c : goal.After-index_within) → let a = c.args in within (pos 0) (pos (per_face a.model.now (nat_abs (location_word a.file.now a.start)) - 1)) (index_word a.file.now a.start a.width) ≡ c.index_within.result
+piece_tested : (c : After-index_within) → let a = c.args in within (pos 0) (pos (per_face a.model.now (nat_abs (location_word a.file.now a.start)) - 1)) (index_word a.file.now a.start a.width) ≡ c.index_within.result
 piece_tested c = let a = c.args in
     sym (c.index_within.ensures ∙ ap (λ (x : ℕ). within (pos 0) (pos (x - 1)) (index_word a.file.now a.start a.width)) (c.per_face-per.ensures ∙ ap (per_face a.model.now) c.number_at.ensures))
 
 -- which said yes
-is_location : (c : goal.Else-not-number_within) → let a = c.args in within (pos 0) (pos (L# a.model.now - 1)) (location_word a.file.now a.start) ≡ true
+is_location : (c : Else-not-number_within) → let a = c.args in within (pos 0) (pos (L# a.model.now - 1)) (location_word a.file.now a.start) ≡ true
 is_location c = location_tested c.before ∙ not-false _ c.if-not-number_within.false-raw
 
-is_face : (c : goal.Else-not-number_within-2) → let a = c.args in within (pos 0) (pos (2 * n# a.model.now - 1)) (face_word a.file.now a.start) ≡ true
+is_face : (c : Else-not-number_within-2) → let a = c.args in within (pos 0) (pos (2 * n# a.model.now - 1)) (face_word a.file.now a.start) ≡ true
 is_face c = face_tested c.before ∙ not-false _ c.if-not-number_within-2.false-raw
 
-is_piece : (c : goal.Else-not-index_within) → let a = c.args in within (pos 0) (pos (per_face a.model.now (nat_abs (location_word a.file.now a.start)) - 1)) (index_word a.file.now a.start a.width) ≡ true
+is_piece : (c : Else-not-index_within) → let a = c.args in within (pos 0) (pos (per_face a.model.now (nat_abs (location_word a.file.now a.start)) - 1)) (index_word a.file.now a.start a.width) ≡ true
 is_piece c = piece_tested c.before ∙ not-false _ c.if-not-index_within.false-raw
 
 pub number_within-requires : goal.number_within-requires
@@ -72,14 +73,14 @@ pub returns-then-not-index_within : goal.returns-then-not-index_within
 returns-then-not-index_within c = least_no _ _ _ (place_no_piece _ _ _ _ (is_location c.before.before.before.before.before.before.before) (is_face c.before.before.before.before) c.requires.0.width_is (piece_tested c.before ∙ not-true _ c.if-not-index_within.true-raw))
 
 -- the place names a piece
-is_key : (c : goal.Else-not-index_within) → let a = c.args in KeyAt a.model.now a.places.now a.file.now a.start a.width
+is_key : (c : Else-not-index_within) → let a = c.args in KeyAt a.model.now a.places.now a.file.now a.start a.width
 is_key c = key_there _ _ _ c.args.least (is_location c.before.before.before.before.before.before.before) (is_face c.before.before.before.before) c.requires.0.width_is c.requires.0 c.requires.1 (is_piece c)
 
 pub key_at-key-requires : goal.key_at-key-requires
 key_at-key-requires c = is_key c
 
 -- the comparison
-by_key : (c : goal.After-key_at-key) → let a = c.args in leb a.least c.key_at-key.result ≡ place_ok a.model.now (words_at a.file.now a.start (piece_field_size a.model.now)) a.least
+by_key : (c : After-key_at-key) → let a = c.args in leb a.least c.key_at-key.result ≡ place_ok a.model.now (words_at a.file.now a.start (piece_field_size a.model.now)) a.least
 by_key c = place_by_key _ _ _ _ (is_location c.before.before.before.before.before.before.before.before) (is_face c.before.before.before.before.before) c.requires.0.width_is (is_piece c.before) c.key_at-key.ensures
 
 pub returns-then-key-least : goal.returns-then-key-least

@@ -17,28 +17,29 @@ use Rattle.files.specs.TableFile.{piece_field_size, piece_field_at, least_key, p
 use Rattle.table_files.proofs.TableWriting.{sizes_fit, size_is, size_few}
 use Rattle.table_files.proofs.TableReading.{piece_refused, field_there, piece_answered, place_next, least_zero, least_above, least_next}
 use Rattle.table_files.proofs.reading.pieces_questions.Goals as goal
+use Rattle.table_files.proofs.reading.pieces_questions.Goals.{In-loop-i, After-is_field, Else-not-is_field, In-Whole, After-next_least-least, Else-least-eq0}
 
 -- the question of field i, by the position and the least key
-asked : (c : goal.In-loop-i) → let a = c.args in let p = c.loop-i in piece_question a.model.now a.file.now p.at p.least ≡ piece_questions a.model.now a.file.now p.i
+asked : (c : In-loop-i) → let a = c.args in let p = c.loop-i in piece_question a.model.now a.file.now p.at p.least ≡ piece_questions a.model.now a.file.now p.i
 asked c = let a = c.args in ap₂ (piece_question a.model.now a.file.now) c.loop-i.invariant.1 c.loop-i.invariant.2
 
 -- the test of the field
-tested : (c : goal.After-is_field) → let a = c.args in is_field (field_at a.file.now c.loop-i.at) 5 (payload_length (piece_field_size a.model.now)) ≡ c.is_field.result
+tested : (c : After-is_field) → let a = c.args in is_field (field_at a.file.now c.loop-i.at) 5 (payload_length (piece_field_size a.model.now)) ≡ c.is_field.result
 tested c = sym (c.is_field.ensures ∙ ap₂ (λ (f : Field) (len : ℕ). is_field f 5 len) c.next_field-field.ensures (c.payload_length-len.ensures ∙ ap payload_length (size_is _ c.requires.whole c.requires.width_is c.variables.ensures c.field_size.ensures)))
 
-whole : (c : goal.Else-not-is_field) → let a = c.args in T (is_field (field_at a.file.now c.loop-i.at) 5 (payload_length (piece_field_size a.model.now)))
+whole : (c : Else-not-is_field) → let a = c.args in T (is_field (field_at a.file.now c.loop-i.at) 5 (payload_length (piece_field_size a.model.now)))
 whole c = true_is (tested c.before ∙ not-false _ c.if-not-is_field.false-raw)
 
 -- what the cursor gives of it
-lies : (c : goal.In-Whole) → let a = c.args in let f = c.field-1.given.0.1 in let at = c.loop-i.at in
+lies : (c : In-Whole) → let a = c.args in let f = c.field-1.given.0.1 in let at = c.loop-i.at in
     (f.0 ≡ at + header_size) × (f.1.0 ≡ payload_length (piece_field_size a.model.now)) × (f.1.1.0 ≡ at + header_size + payload_length (piece_field_size a.model.now))
 lies c = due_given _ _ _ _ _ _ _ _ (whole c.before.before.before) (sym c.next_field-field.ensures ∙ c.field-1.given.1)
 
 -- the question's answer, by the test of the place
-answered : (c : goal.After-next_least-least) → let a = c.args in (b : Bool) → b ≡ place_ok a.model.now (words_at a.file.now c.field-1.given.0.1.0 (piece_field_size a.model.now)) c.loop-i.least → ask b 37 ≡ piece_questions a.model.now a.file.now c.loop-i.i
+answered : (c : After-next_least-least) → let a = c.args in (b : Bool) → b ≡ place_ok a.model.now (words_at a.file.now c.field-1.given.0.1.0 (piece_field_size a.model.now)) c.loop-i.least → ask b 37 ≡ piece_questions a.model.now a.file.now c.loop-i.i
 answered c b e = sym (piece_answered _ _ _ _ (whole c.before.before.before.before) (lies c.before).0 e) ∙ asked c.before.before.before.before.before.before.before
 
-passed : (c : goal.Else-least-eq0) → let a = c.args in 0 ≡ piece_questions a.model.now a.file.now c.loop-i.i
+passed : (c : Else-least-eq0) → let a = c.args in 0 ≡ piece_questions a.model.now a.file.now c.loop-i.i
 passed c = answered c.before _ (least_above _ _ _ c.next_least-least.ensures c.if-least-eq0.false).0
 
 pub field_size-requires : goal.field_size-requires

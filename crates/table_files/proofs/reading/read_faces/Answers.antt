@@ -8,9 +8,10 @@ use Rattle.table_files.specs.TableRoom.{FieldsReady}
 use Rattle.plant.proofs.Passing.{whole}
 use Rattle.table_files.proofs.TableReading.{prefix_length, front_length, table_front, table_onto, table_zeroed, fields_refused, table_refused, table_read}
 use Rattle.table_files.proofs.reading.read_faces.Goals as goal
+use Rattle.table_files.proofs.reading.read_faces.Goals.{After-places}
 
 -- the fields are read by how many pieces stand before each location and by the width of places
-ready : (c : goal.After-places) → FieldsReady c.args.model.now c.places.new.1.0 c.place_size-width.result
+ready : (c : After-places) → FieldsReady c.args.model.now c.places.new.1.0 c.place_size-width.result
 ready c = record { whole = whole _ c.requires.passes; are_places = c.places.ensures; width_is = c.place_size-width.ensures }
 
 pub place_size-width-requires : goal.place_size-width-requires

@@ -15,15 +15,16 @@ use Rattle.tables.proofs.Faces.{table_most}
 use Rattle.files.proofs.PlaceWords.{place_most}
 use Rattle.table_files.proofs.TableWriting.{sizes_fit, size_is, size_few, piece_skip, skip_next, piece_put, piece_next}
 use Rattle.table_files.proofs.writing.put_piece.Goals as goal
+use Rattle.table_files.proofs.writing.put_piece.Goals.{Start, After-field_size-size}
 
 -- its words lie in the table
-there : (c : goal.Start) → c.args.at + face_size (n# c.args.model.now) ≤ length c.args.table.now
+there : (c : Start) → c.args.at + face_size (n# c.args.model.now) ≤ length c.args.table.now
 there c = omega (arith, c.requires.at_is, piece_inside _ _ _ c.requires.is_piece.location c.requires.is_piece.piece, c.requires.there)
 
-few : (c : goal.Start) → c.args.at + face_size (n# c.args.model.now) ≤ 19968
+few : (c : Start) → c.args.at + face_size (n# c.args.model.now) ≤ 19968
 few c = omega (arith, c.requires.at_is, piece_inside _ _ _ c.requires.is_piece.location c.requires.is_piece.piece, table_most _ c.requires.is_piece.whole.head)
 
-sized : (c : goal.After-field_size-size) → c.field_size-size.result ≤ 15
+sized : (c : After-field_size-size) → c.field_size-size.result ≤ 15
 sized c = let p = c.requires.is_piece in size_few _ p.whole p.width_is c.variables-n.ensures c.field_size-size.ensures
 
 pub offset_bounds-table-at : goal.offset_bounds-table-at

@@ -10,12 +10,13 @@ use Rattle.plant.proofs.Pieces.{per_face_most, per_face_least, face_below, index
 use Rattle.files.proofs.PlaceWords.{place_least, cut_by_size, uncut_by_size}
 use Rattle.table_files.proofs.TableWriting.{face_is, index_is, place_put_two, place_put_three}
 use Rattle.table_files.proofs.writing.put_place.Goals as goal
+use Rattle.table_files.proofs.writing.put_place.Goals.{After-per_face-per}
 
 -- both numbers are small
-face_few : (c : goal.After-per_face-per) → c.args.q / c.per_face-per.result < 12
+face_few : (c : After-per_face-per) → c.args.q / c.per_face-per.result < 12
 face_few c = let r = c.requires.0 in omega (arith, face_is c.args.model.now c.args.l c.args.q c.per_face-per.ensures, face_below c.args.model.now c.args.l c.args.q r.piece, r.whole.head.n_small)
 
-index_few : (c : goal.After-per_face-per) → c.args.q % c.per_face-per.result < 2
+index_few : (c : After-per_face-per) → c.args.q % c.per_face-per.result < 2
 index_few c = let a = c.args in omega (arith, index_is a.model.now a.l a.q c.per_face-per.ensures, index_below a.model.now a.l a.q, per_face_most a.model.now a.l)
 
 pub nonzero_div-f : goal.nonzero_div-f
