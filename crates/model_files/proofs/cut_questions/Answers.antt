@@ -20,14 +20,13 @@ returns-then-file-at-ne8 c =
 pub returns-then-not-is_field : goal.returns-then-not-is_field
 returns-then-not-is_field c =
     let a = c.args in
-    not_whole a.file.now a.at a.least a.count c.if-file-at-ne8.false (whole c.before) c.if-not-is_field.true-raw
+    not_whole a.file.now a.at a.least a.count c.if-file-at-ne8.false (whole (goal.at.returns-then-not-is_field c).After-is_field) c.if-not-is_field.true-raw
 
 pub cut_words_ok-requires : goal.cut_words_ok-requires
 cut_words_ok-requires c =
-    let s = c.before.before.before.before.before.before.before in
-    (whole_there s.args.file.now s.args.at (whole c.before) c.if-not-is_field.false-raw, s.requires.1, s.requires.2, s.requires.3)
+    (whole_there c.args.file.now c.args.at (whole (goal.at.cut_words_ok-requires c).After-is_field) c.if-not-is_field.false-raw, c.requires.1, c.requires.2, c.requires.3)
 
 pub returns : goal.returns
 returns c =
     let a = c.args in
-    words_decide a.file.now a.at a.least a.count c.if-file-at-ne8.false (whole c.before.before.before) c.if-not-is_field.false-raw c.cut_words_ok.ensures c.ask.ensures
+    words_decide a.file.now a.at a.least a.count c.if-file-at-ne8.false (whole (goal.at.returns c).After-is_field) c.if-not-is_field.false-raw c.cut_words_ok.ensures c.ask.ensures

@@ -39,7 +39,7 @@ sized : (c : After-sizes_questions-q) → let a = c.args in
     c.sizes_questions-q.result ≡ (ranges_questions (head_words a.file.now) then buffer_question (head_words a.file.now) (length a.words.now))
 sized c =
     let a = c.args in
-    c.sizes_questions-q.ensures ∙ ap (λ (h : List ℤ). ranges_questions h then buffer_question h (length a.words.now)) (read c.before.before.before)
+    c.sizes_questions-q.ensures ∙ ap (λ (h : List ℤ). ranges_questions h then buffer_question h (length a.words.now)) (read c.before)
 
 -- 1 to 5 as one chain
 chain : (s : List ℕ) (room : ℕ) → (head_questions s then buffer_question (head_words s) room)
@@ -49,23 +49,23 @@ chain s room = then_assoc (ask (is_head (field_at s 0)) 1) (ranges_questions (he
 
 pub returns-then-q1-ne0 : goal.returns-then-q1-ne0
 unfolding read_model_call
-returns-then-q1-ne0 c = refused_at _ (halt _ (asked c.before) c.if-q1-ne0.true ∙ sym (chain _ _)) c.if-q1-ne0.true refl
+returns-then-q1-ne0 c = refused_at _ (halt _ (asked (goal.at.returns-then-q1-ne0 c).After-ask-q1) c.if-q1-ne0.true ∙ sym (chain _ _)) c.if-q1-ne0.true refl
 
 pub read_head-requires : goal.read_head-requires
-read_head-requires c = (is_first c.before, omega arith)
+read_head-requires c = (is_first (goal.at.read_head-requires c).Else-q1-ne0, omega arith)
 
 pub returns-then-q-ne0 : goal.returns-then-q-ne0
 unfolding read_model_call
-returns-then-q-ne0 c = refused_at _ (go (asked c.before.before.before.before.before.before.before) c.if-q1-ne0.false (sized c.before) ∙ sym (chain _ _)) c.if-q-ne0.true refl
+returns-then-q-ne0 c = refused_at _ (go (asked (goal.at.returns-then-q-ne0 c).After-ask-q1) c.if-q1-ne0.false (sized (goal.at.returns-then-q-ne0 c).After-sizes_questions-q) ∙ sym (chain _ _)) c.if-q-ne0.true refl
 
 pub read_records-requires : goal.read_records-requires
 read_records-requires c =
     let a = c.args in
     let h = head_words a.file.now in
-    let is = read c.before.before.before.before.before.before in
-    let p = then_both (ranges_questions h) (buffer_question h (length a.words.now)) (sym (sized c.before.before.before) ∙ c.if-q-ne0.false) in
+    let is = read (goal.at.read_records-requires c).After-read_head in
+    let p = then_both (ranges_questions h) (buffer_question h (length a.words.now)) (sym (sized (goal.at.read_records-requires c).After-sizes_questions-q) ∙ c.if-q-ne0.false) in
     record {
-      first_field = is_first c.before.before.before.before.before.before.before.before;
+      first_field = is_first (goal.at.read_records-requires c).Else-q1-ne0;
       is_read = is;
       head = rw is (head_passed h (omega (arith, length_head a.file.now)) p.0);
       room = rw is (buffer_room h (length a.words.now) p.1);
@@ -75,5 +75,5 @@ pub returns : goal.returns
 unfolding read_model_call
 returns c =
     let a = c.args in
-    past _ (chain _ _ ∙ then_intro (sym (asked c.before.before.before.before.before.before.before.before.before.before.before) ∙ c.if-q1-ne0.false) (sym (sized c.before.before.before.before.before) ∙ c.if-q-ne0.false))
-    (c.read_records.ensures ∙ ap (λ (h : List ℤ). read_records a.file.now h a.words.now) (read c.before.before.before.before.before.before.before.before))
+    past _ (chain _ _ ∙ then_intro (sym (asked (goal.at.returns c).After-ask-q1) ∙ c.if-q1-ne0.false) (sym (sized (goal.at.returns c).After-sizes_questions-q) ∙ c.if-q-ne0.false))
+    (c.read_records.ensures ∙ ap (λ (h : List ℤ). read_records a.file.now h a.words.now) (read (goal.at.returns c).After-read_head))

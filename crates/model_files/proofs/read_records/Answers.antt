@@ -32,26 +32,26 @@ five : (c : After-fill-arg-1) → length c.args.head.now ≡ 5
 five c = ap length c.requires.is_read ∙ length_head c.args.file.now
 
 -- what is asked are the words of the file
-asked : (c : After-records-questions-arg) → let a = c.before.before.before.before.before.before.before.before.args in
-    take c.before.size.result c.before.before.before.fill.new.1.1.0 ≡ file_words a.file.now a.head.now
+asked : (c : After-records-questions-arg) → let a = c.args in
+    take c.size.result c.fill.new.1.1.0 ≡ file_words a.file.now a.head.now
 asked c =
-    let a = c.before.before.before.before.before.before.before.before.args in
-    front_of a.file.now a.head.now (five c.before.before.before.before) a.words.now _ c.before.size.result c.before.before.before.fill.ensures c.before.size.ensures
+    let a = c.args in
+    front_of a.file.now a.head.now (five c.before) a.words.now _ c.size.result c.fill.ensures c.size.ensures
 
 pub records_questions-r-requires : goal.records_questions-r-requires
-records_questions-r-requires c = rw (asked c) (file_whole _ _ (five c.before.before.before.before) c.requires.head)
+records_questions-r-requires c = rw (asked (goal.at.records_questions-r-requires c).After-records-questions-arg) (file_whole _ _ (five (goal.at.records_questions-r-requires c).After-fill-arg-1) c.requires.head)
 
 pub returns-then-r-ne0 : goal.returns-then-r-ne0
 unfolding records_file_questions
 returns-then-r-ne0 c =
     let a = c.args in
     let e : length c.fill.new.1.1.0 ≡ length a.words.now = omega arith in
-    refused_at _ (go c.body_questions-q.ensures c.if-q-ne0.false (c.records_questions-r.ensures ∙ ap records_questions (asked c.before.before.before.before.before))) c.if-r-ne0.true
+    refused_at _ (go c.body_questions-q.ensures c.if-q-ne0.false (c.records_questions-r.ensures ∙ ap records_questions (asked (goal.at.returns-then-r-ne0 c).After-records-questions-arg))) c.if-r-ne0.true
     (c.clear-then-r-ne0.ensures ∙ ap (λ (k : ℕ). replicate k (pos 0)) e)
 
 pub returns : goal.returns
 unfolding records_file_questions
 returns c =
     past _
-    (then_intro (sym c.body_questions-q.ensures ∙ c.if-q-ne0.false) (sym (c.records_questions-r.ensures ∙ ap records_questions (asked c.before.before)) ∙ c.if-r-ne0.false))
+    (then_intro (sym c.body_questions-q.ensures ∙ c.if-q-ne0.false) (sym (c.records_questions-r.ensures ∙ ap records_questions (asked (goal.at.returns c).After-records-questions-arg)) ∙ c.if-r-ne0.false))
     (rw (c.size-size.ensures, c.fill.ensures) refl)

@@ -36,15 +36,14 @@ cut_length-bytes-requires c = tt
 
 pub overflow_add-bytes : goal.overflow_add-bytes
 overflow_add-bytes c =
-    let s = c.before.before.before.before.before in
     let l = c.loop-l in
-    record { fits = omega (arith, l.invariant, cuts_le s.args.model.now l.l, c.locations-locations.ensures, s.requires.head.L_small, by_variable c, cut_le (eq_z (cut_variable s.args.model.now l.l) (negsuc 0))) }
+    record { fits = omega (arith, l.invariant, cuts_le c.args.model.now l.l, c.locations-locations.ensures, c.requires.head.L_small, by_variable (goal.at.overflow_add-bytes c).After-cut_length-bytes, cut_le (eq_z (cut_variable c.args.model.now l.l) (negsuc 0))) }
 
 pub overflow_add-l : goal.overflow_add-l
 overflow_add-l c = record { fits = omega (arith, c.locations-locations.ensures, c.requires.head.L_small) }
 
 pub loop-l-preserved : goal.loop-l-preserved
-loop-l-preserved c = (omega arith, cuts_more _ c.loop-l.l c.loop-l.invariant.1 (by_variable c))
+loop-l-preserved c = (omega arith, cuts_more _ c.loop-l.l c.loop-l.invariant.1 (by_variable (goal.at.loop-l-preserved c).After-cut_length-bytes))
 
 pub returns : goal.returns
 returns c = cuts_all _ (omega (arith, c.locations-locations.ensures, c.loop-l.invariant.0, c.loop-l-test.false)) c.loop-l.invariant.1

@@ -36,33 +36,31 @@ is_cut : (c : Else-same) → eq_z (cut_variable c.args.model.now c.args.l) (negs
 is_cut c = sym (told c.before) ∙ c.if-same.false
 
 room : (c : Else-same) → c.args.to + field_length cut_field_size ≤ length c.args.file.now
-room c = let s = c.before.before.before.before.before in omega (arith, s.requires.room, cut_next _ _ (is_cut c) s.args.to refl)
+room c = omega (arith, c.requires.room, cut_next _ _ (is_cut c) c.args.to refl)
 
 pub offset_bounds-model-at : goal.offset_bounds-model-at
-offset_bounds-model-at c = record { fits = omega (arith, c.cut_at-at.ensures, within c.before.before) }
+offset_bounds-model-at c = record { fits = omega (arith, c.cut_at-at.ensures, within (goal.at.offset_bounds-model-at c).Start) }
 
 pub bounds-model-at : goal.bounds-model-at
-bounds-model-at c = omega (arith, c.cut_at-at.ensures, within c.before.before)
+bounds-model-at c = omega (arith, c.cut_at-at.ensures, within (goal.at.bounds-model-at c).Start)
 
 pub returns-then-same : goal.returns-then-same
 returns-then-same c =
-    let s = c.before.before.before.before.before in
-    (cut_skip _ _ (not_cut c) s.args.file.now s.args.to (omega (arith, s.requires.room)), skip_next _ _ (not_cut c) s.args.to)
+    (cut_skip _ _ (not_cut (goal.at.returns-then-same c).Then-same) c.args.file.now c.args.to (omega (arith, c.requires.room)), skip_next _ _ (not_cut (goal.at.returns-then-same c).Then-same) c.args.to)
 
 pub put_header-requires : goal.put_header-requires
-put_header-requires c = (omega (arith, c.payload_length.ensures), omega (arith, room c.before.before))
+put_header-requires c = (omega (arith, c.payload_length.ensures), omega (arith, room (goal.at.put_header-requires c).Else-same))
 
 pub put_word-requires : goal.put_word-requires
-put_word-requires c = omega (arith, room c.before.before.before.before.before.before, c.put_header.auto.0)
+put_word-requires c = omega (arith, room (goal.at.put_word-requires c).Else-same, c.put_header.auto.0)
 
 pub put_words-requires : goal.put_words-requires
-put_words-requires c = (omega (arith, c.cut_at-at.ensures, within c.before.before.before.before.before.before.before.before.before.before.before.before.before.before.before), omega (arith, room c.before.before.before.before.before.before.before.before.before.before, c.put_header.auto.0, c.put_word.auto.0))
+put_words-requires c = (omega (arith, c.cut_at-at.ensures, within (goal.at.put_words-requires c).Start), omega (arith, room (goal.at.put_words-requires c).Else-same, c.put_header.auto.0, c.put_word.auto.0))
 
 pub returns : goal.returns
 returns c =
-    let s = c.before.before.before.before.before.before.before.before.before.before.before.before.before.before.before.before.before.before.before in
-    let a = s.args in
-    let el = to_z_pos w32 {n = a.l} (omega (arith, s.requires.location, s.requires.whole.head.L_small)) in (
-      cut_put a.model.now a.l (is_cut c.before.before.before.before.before.before.before.before.before.before.before.before.before.before) a.file.now _ _ _ a.to s.requires.whole s.requires.location c.cut_at-at.ensures (omega (arith, s.requires.room)) c.payload_length.ensures c.put_header.ensures (rw el at c.put_word.ensures) c.put_words.ensures,
-      cut_next a.model.now a.l (is_cut c.before.before.before.before.before.before.before.before.before.before.before.before.before.before) a.to c.field_length.ensures,
+    let a = c.args in
+    let el = to_z_pos w32 {n = a.l} (omega (arith, c.requires.location, c.requires.whole.head.L_small)) in (
+      cut_put a.model.now a.l (is_cut (goal.at.returns c).Else-same) a.file.now _ _ _ a.to c.requires.whole c.requires.location c.cut_at-at.ensures (omega (arith, c.requires.room)) c.payload_length.ensures c.put_header.ensures (rw el at c.put_word.ensures) c.put_words.ensures,
+      cut_next a.model.now a.l (is_cut (goal.at.returns c).Else-same) a.to c.field_length.ensures,
     )

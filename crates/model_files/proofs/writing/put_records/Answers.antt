@@ -6,7 +6,7 @@ use Rattle.model_files.proofs.ModelWriting.{cuts_room, locations_room, switches_
 use Rattle.model_files.proofs.writing.put_records.Goals as goal
 
 pub put_record-requires : goal.put_record-requires
-put_record-requires c = let s = c.before.before.before.before.before in (omega (arith, s.requires.whole.head.there), omega (arith, cuts_room _ _ s.requires), omega arith)
+put_record-requires c = (omega (arith, c.requires.whole.head.there), omega (arith, cuts_room _ _ c.requires), omega arith)
 
 pub put_run-requires : goal.put_run-requires
 put_run-requires c =
@@ -40,11 +40,10 @@ shape_of-file c = omega (arith, c.put_record.auto.1.1.1.1.0, c.put_run.auto.1.1.
 
 pub returns : goal.returns
 returns c =
-    let s = c.before.before.before.before.before.before.before.before.before.before.before.before.before.before.before.before.before.before.before.before.before.before.before.before.before.before.before.before.before.before.before.before in
-    let a = s.args in
+    let a = c.args in
     let n = c.variables-n.ensures in
     let v = c.edition in
-    records_put a.model.now s.requires.whole a.file.now _ _ _ _
+    records_put a.model.now c.requires.whole a.file.now _ _ _ _
     (rw (c.first_tag-tag.ensures, got32 v.result v.type_inv, v.ensures) at c.put_record.ensures)
     (rw (c.location_at.ensures, c.locations.ensures, c.location_size.ensures, n, c.locations_from.ensures) at c.put_run.ensures)
     (rw (c.switch_at.ensures, c.switches.ensures, c.switch_size.ensures, n, c.switches_from.ensures) at c.put_run-2.ensures)

@@ -18,6 +18,5 @@ shape_of-piece c = c.copy_words.auto.1.1.1.0 ∙ length-set c.args.piece.now 0 (
 
 pub returns : goal.returns
 returns c =
-    let s = c.before.before.before.before in
-    let a = s.args in
-    piece_filled a.piece.now _ (words_at a.file.now a.from (2 * a.n)) (2 * a.n) s.requires.1 (length_words a.file.now a.from (2 * a.n)) c.copy_words.ensures
+    let a = c.args in
+    piece_filled a.piece.now _ (words_at a.file.now a.from (2 * a.n)) (2 * a.n) c.requires.1 (length_words a.file.now a.from (2 * a.n)) c.copy_words.ensures

@@ -26,10 +26,10 @@ pub overflow_mul-result : goal.overflow_mul-result
 overflow_mul-result c = record { fits = omega (arith, number_few c.requires _ c.number_at-f.ensures c.per_face.ensures) }
 
 pub overflow_add-result : goal.overflow_add-result
-overflow_add-result c = record { fits = omega (arith, made c, key_few c.requires) }
+overflow_add-result c = record { fits = omega (arith, made (goal.at.overflow_add-result c).After-per_face, key_few c.requires) }
 
 pub overflow_add-result-2 : goal.overflow_add-result-2
-overflow_add-result-2 c = record { fits = omega (arith, made c, key_few c.requires) }
+overflow_add-result-2 c = record { fits = omega (arith, made (goal.at.overflow_add-result-2 c).After-per_face, key_few c.requires) }
 
 pub returns : goal.returns
-returns c = made c
+returns c = made (goal.at.returns c).After-per_face

@@ -33,11 +33,11 @@ whole c = true_is (tested c.before ∙ not-false _ c.if-not-is_field.false-raw)
 -- what the cursor gives of it
 lies : (c : In-Whole) → let a = c.args in let f = c.field-1.given.0.1 in let at = c.loop-i.at in
     (f.0 ≡ at + header_size) × (f.1.0 ≡ payload_length (piece_field_size a.model.now)) × (f.1.1.0 ≡ at + header_size + payload_length (piece_field_size a.model.now))
-lies c = due_given _ _ _ _ _ _ _ _ (whole c.before.before.before) (sym c.next_field-field.ensures ∙ c.field-1.given.1)
+lies c = due_given _ _ _ _ _ _ _ _ (whole c.before) (sym c.next_field-field.ensures ∙ c.field-1.given.1)
 
 -- the question's answer, by the test of the place
 answered : (c : After-next_least-least) → let a = c.args in (b : Bool) → b ≡ place_ok a.model.now (words_at a.file.now c.field-1.given.0.1.0 (piece_field_size a.model.now)) c.loop-i.least → ask b 37 ≡ piece_questions a.model.now a.file.now c.loop-i.i
-answered c b e = sym (piece_answered _ _ _ _ (whole c.before.before.before.before) (lies c.before).0 e) ∙ asked c.before.before.before.before.before.before.before
+answered c b e = sym (piece_answered _ _ _ _ (whole c.before) (lies c.before).0 e) ∙ asked c.before
 
 passed : (c : Else-least-eq0) → let a = c.args in 0 ≡ piece_questions a.model.now a.file.now c.loop-i.i
 passed c = answered c.before _ (least_above _ _ _ c.next_least-least.ensures c.if-least-eq0.false).0
@@ -52,25 +52,25 @@ pub loop-i-init : goal.loop-i-init
 loop-i-init c = (omega arith, omega (arith, c.pieces_from-at.ensures), refl, first_none _)
 
 pub returns-then-not-is_field : goal.returns-then-not-is_field
-returns-then-not-is_field c = run_stop _ _ _ (piece_refused _ _ _ _ (tested c.before ∙ not-true _ c.if-not-is_field.true-raw) ∙ asked c.before.before.before) (λ z. omega arith) c.loop-i.invariant.3 c.loop-i-test.true
+returns-then-not-is_field c = run_stop _ _ _ (piece_refused _ _ _ _ (tested (goal.at.returns-then-not-is_field c).After-is_field ∙ not-true _ c.if-not-is_field.true-raw) ∙ asked (goal.at.returns-then-not-is_field c).In-loop-i) (λ z. omega arith) c.loop-i.invariant.3 c.loop-i-test.true
 
 pub returns-in_default : goal.returns-in_default
 returns-in_default c =
     let a = c.args in
-    absurd (due_whole c.next_field-field.result 5 (payload_length (piece_field_size a.model.now)) (rw (← c.next_field-field.ensures) at (whole c.before)) c.in_default.keys2)
+    absurd (due_whole c.next_field-field.result 5 (payload_length (piece_field_size a.model.now)) (rw (← c.next_field-field.ensures) at (whole (goal.at.returns-in_default c).Else-not-is_field)) c.in_default.keys2)
 
 pub next_least-least-requires : goal.next_least-least-requires
-next_least-least-requires c = (c.requires, field_there c.args.model.now c.args.file.now c.loop-i.at c.loop-i.least (whole c.before.before.before) (lies c).0 c.requires.width_is)
+next_least-least-requires c = (c.requires, field_there c.args.model.now c.args.file.now c.loop-i.at c.loop-i.least (whole (goal.at.next_least-least-requires c).Else-not-is_field) (lies (goal.at.next_least-least-requires c).In-Whole).0 c.requires.width_is)
 
 pub returns-then-least-eq0 : goal.returns-then-least-eq0
-returns-then-least-eq0 c = run_stop _ _ _ (answered c.before _ (least_zero _ _ _ c.next_least-least.ensures c.if-least-eq0.true)) (λ z. omega arith) c.loop-i.invariant.3 c.loop-i-test.true
+returns-then-least-eq0 c = run_stop _ _ _ (answered (goal.at.returns-then-least-eq0 c).After-next_least-least _ (least_zero _ _ _ c.next_least-least.ensures c.if-least-eq0.true)) (λ z. omega arith) c.loop-i.invariant.3 c.loop-i-test.true
 
 pub loop-i-preserved : goal.loop-i-preserved
 loop-i-preserved c =
     let a = c.args in
     let p = c.loop-i in
-    let l = lies c.before.before in
-    (omega arith, place_next a.model.now a.file.now p.i p.invariant.1 l.2, least_next a.model.now a.file.now p.i p.invariant.1 l.0 (least_above _ _ _ c.next_least-least.ensures c.if-least-eq0.false).1, run_more _ p.i (passed c) refl p.invariant.3)
+    let l = lies (goal.at.loop-i-preserved c).In-Whole in
+    (omega arith, place_next a.model.now a.file.now p.i p.invariant.1 l.2, least_next a.model.now a.file.now p.i p.invariant.1 l.0 (least_above _ _ _ c.next_least-least.ensures c.if-least-eq0.false).1, run_more _ p.i (passed (goal.at.loop-i-preserved c).Else-least-eq0) refl p.invariant.3)
 
 pub returns : goal.returns
 returns c = run_end _ _ _ c.loop-i.invariant.3 (omega arith)

@@ -21,7 +21,7 @@ pub places-requires : goal.places-requires
 places-requires c = (whole _ c.requires.passes, refl)
 
 pub fields_questions-q-requires : goal.fields_questions-q-requires
-fields_questions-q-requires c = ready c.before
+fields_questions-q-requires c = ready (goal.at.fields_questions-q-requires c).After-places
 
 pub returns-then-q-ne0 : goal.returns-then-q-ne0
 returns-then-q-ne0 c = let a = c.args in fields_refused a.model.now a.file.now a.table.now c.fields_questions-q.ensures c.if-q-ne0.true c.clear.ensures
@@ -33,7 +33,7 @@ pub slice_bounds-fill-end-3 : goal.slice_bounds-fill-end-3
 slice_bounds-fill-end-3 c = sym (prefix_length _ c.table_size-size.ensures c.requires.room)
 
 pub fill-requires : goal.fill-requires
-fill-requires c = (ready c.before.before.before.before.before.before, sym c.fields_questions-q.ensures ∙ c.if-q-ne0.false, prefix_length _ c.table_size-size.ensures c.requires.room ∙ c.table_size-size.ensures)
+fill-requires c = (ready (goal.at.fill-requires c).After-places, sym c.fields_questions-q.ensures ∙ c.if-q-ne0.false, prefix_length _ c.table_size-size.ensures c.requires.room ∙ c.table_size-size.ensures)
 
 pub slice_bounds-table_ok-end-3 : goal.slice_bounds-table_ok-end-3
 slice_bounds-table_ok-end-3 c = let a = c.args in sym (front_length a.model.now a.file.now a.table.now c.fill.new.1.1.1.1.0 c.table_size-size.ensures c.requires.room c.fill.ensures)
