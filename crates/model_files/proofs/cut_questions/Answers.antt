@@ -1,5 +1,6 @@
 -- The tag, then the field, then its words.
-use mathlib.Core.Path.{◌≡◌, ap₂, ◌∙◌}
+use mathlib.Core.Path.{◌≡◌, ap, ap₂, ◌∙◌}
+use mathlib.Core.Bool.{not}
 use Prim.Native.Nat.{ℕ}
 use borrow.Author.Rules.{rules}
 use Rattle.files.specs.Fields.{field_at, is_field}
@@ -20,13 +21,13 @@ returns-then-file-at-ne8 c =
 pub returns-then-not-is_field : goal.returns-then-not-is_field
 returns-then-not-is_field c =
     let a = c.args in
-    not_whole a.file.now a.at a.least a.count c.if-file-at-ne8.false (whole (goal.at.returns-then-not-is_field c).After-is_field) c.if-not-is_field.true-raw
+    not_whole a.file.now a.at a.least a.count c.if-file-at-ne8.false (whole (goal.at.returns-then-not-is_field c).After-is_field) (ap not c.if-not-is_field.true)
 
 pub cut_words_ok-requires : goal.cut_words_ok-requires
 cut_words_ok-requires c =
-    (whole_there c.args.file.now c.args.at (whole (goal.at.cut_words_ok-requires c).After-is_field) c.if-not-is_field.false-raw, c.requires.1, c.requires.2, c.requires.3)
+    (whole_there c.args.file.now c.args.at (whole (goal.at.cut_words_ok-requires c).After-is_field) (ap not c.if-not-is_field.false), c.requires.1, c.requires.2, c.requires.3)
 
 pub returns : goal.returns
 returns c =
     let a = c.args in
-    words_decide a.file.now a.at a.least a.count c.if-file-at-ne8.false (whole (goal.at.returns c).After-is_field) c.if-not-is_field.false-raw c.cut_words_ok.ensures c.ask.ensures
+    words_decide a.file.now a.at a.least a.count c.if-file-at-ne8.false (whole (goal.at.returns c).After-is_field) (ap not c.if-not-is_field.false) c.cut_words_ok.ensures c.ask.ensures

@@ -13,7 +13,7 @@ use Rattle.files.specs.ModelFile.{file_words, records_file_questions}
 use Rattle.files.proofs.FirstField.{length_head}
 use Rattle.files.proofs.ModelReading.{file_whole, front_of}
 use Rattle.model_files.proofs.read_records.Goals as goal
-use Rattle.model_files.proofs.read_records.Goals.{After-fill-arg-1, After-records-questions-arg}
+use Rattle.model_files.proofs.read_records.Goals.{After-size-size}
 
 pub returns-then-q-ne0 : goal.returns-then-q-ne0
 unfolding records_file_questions
@@ -25,33 +25,31 @@ fill-requires c =
     (p, sym c.body_questions-q.ensures ∙ c.if-q-ne0.false)
 
 pub slice_bounds-records_questions-end-2 : goal.slice_bounds-records_questions-end-2
-slice_bounds-records_questions-end-2 c = sym (length-take-le c.size-size.result c.fill.new.1.1.0 (omega arith))
-
--- the head words are five
-five : (c : After-fill-arg-1) → length c.args.head.now ≡ 5
-five c = ap length c.requires.is_read ∙ length_head c.args.file.now
+slice_bounds-records_questions-end-2 c = sym (length-take-le c.size-size.result c.fill.new.words (omega arith))
 
 -- what is asked are the words of the file
-asked : (c : After-records-questions-arg) → let a = c.args in
-    take c.size.result c.fill.new.1.1.0 ≡ file_words a.file.now a.head.now
+asked : (c : After-size-size) → let a = c.args in take c.size-size.result c.fill.new.words ≡ file_words a.file.now a.head.now
 asked c =
     let a = c.args in
-    front_of a.file.now a.head.now (five c.before) a.words.now _ c.size.result c.fill.ensures c.size.ensures
+    let five : length a.head.now ≡ 5 = ap length c.requires.is_read ∙ length_head a.file.now in
+    front_of a.file.now a.head.now five a.words.now _ c.size-size.result c.fill.ensures c.size-size.ensures
 
 pub records_questions-r-requires : goal.records_questions-r-requires
-records_questions-r-requires c = rw (asked (goal.at.records_questions-r-requires c).After-records-questions-arg) (file_whole _ _ (five (goal.at.records_questions-r-requires c).After-fill-arg-1) c.requires.head)
+records_questions-r-requires c =
+    let five = ap length c.requires.is_read ∙ length_head c.args.file.now in
+    rw (asked (goal.at.records_questions-r-requires c).After-size-size) (file_whole _ _ five c.requires.head)
 
 pub returns-then-r-ne0 : goal.returns-then-r-ne0
 unfolding records_file_questions
 returns-then-r-ne0 c =
     let a = c.args in
-    let e : length c.fill.new.1.1.0 ≡ length a.words.now = omega arith in
-    refused_at _ (go c.body_questions-q.ensures c.if-q-ne0.false (c.records_questions-r.ensures ∙ ap records_questions (asked (goal.at.returns-then-r-ne0 c).After-records-questions-arg))) c.if-r-ne0.true
+    let e : length c.fill.new.words ≡ length a.words.now = omega arith in
+    refused_at _ (go c.body_questions-q.ensures c.if-q-ne0.false (c.records_questions-r.ensures ∙ ap records_questions (asked (goal.at.returns-then-r-ne0 c).After-size-size))) c.if-r-ne0.true
     (c.clear-then-r-ne0.ensures ∙ ap (λ (k : ℕ). replicate k (pos 0)) e)
 
 pub returns : goal.returns
 unfolding records_file_questions
 returns c =
     past _
-    (then_intro (sym c.body_questions-q.ensures ∙ c.if-q-ne0.false) (sym (c.records_questions-r.ensures ∙ ap records_questions (asked (goal.at.returns c).After-records-questions-arg)) ∙ c.if-r-ne0.false))
+    (then_intro (sym c.body_questions-q.ensures ∙ c.if-q-ne0.false) (sym (c.records_questions-r.ensures ∙ ap records_questions (asked (goal.at.returns c).After-size-size)) ∙ c.if-r-ne0.false))
     (rw (c.size-size.ensures, c.fill.ensures) refl)

@@ -23,10 +23,12 @@ pub overflow_add-l : goal.overflow_add-l
 overflow_add-l c = record { fits = omega (arith, c.locations-locations.ensures, c.requires.whole.head.L_small) }
 
 pub loop-l-preserved : goal.loop-l-preserved
-loop-l-preserved c = (omega arith, written_more _ _ _ (omega (arith, cuts_room _ _ c.requires)) c.loop-l.invariant.1 c.put_cut-to.ensures.0 c.put_cut-to.ensures.1)
+loop-l-preserved c = (omega arith, written_more _ _ _ (omega (arith, cuts_room _ _ c.requires)) c.loop-l.invariant.1 c.put_cut-to.ensures.bytes c.put_cut-to.ensures.next)
 
 pub shape_of-file : goal.shape_of-file
 shape_of-file c = cut_place _ _ c.requires (omega (arith, c.locations-locations.ensures, c.loop-l.invariant.0)) c.loop-l.invariant.1
 
 pub returns : goal.returns
-returns c = cuts_written _ _ c.requires (omega (arith, c.locations-locations.ensures, c.loop-l.invariant.0, c.loop-l-test.false)) c.loop-l.invariant.1
+returns c =
+    let w = cuts_written _ _ c.requires (omega (arith, c.locations-locations.ensures, c.loop-l.invariant.0, c.loop-l-test.false)) c.loop-l.invariant.1 in
+    record { bytes = w.0; end = w.1 }

@@ -8,4 +8,4 @@ use Rattle.model_files.proofs.writing.put_model.Goals as goal
 pub returns : goal.returns
 returns c =
     let w = c.requires.whole in
-    (file_put _ w _ _ _ c.put_records.ensures c.put_cuts.ensures.0, c.put_cuts.ensures.1 ∙ sym (file_length_lem _ w))
+    record { bytes = file_put _ w _ _ _ c.put_records.ensures c.put_cuts.ensures.bytes; count = c.put_cuts.ensures.end ∙ sym (file_length_lem _ w) }

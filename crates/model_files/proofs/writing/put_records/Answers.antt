@@ -11,12 +11,12 @@ put_record-requires c = (omega (arith, c.requires.whole.head.there), omega (arit
 pub put_run-requires : goal.put_run-requires
 put_run-requires c =
     rw (c.location_at.ensures, c.locations.ensures, c.location_size.ensures, c.variables-n.ensures, c.locations_from.ensures)
-    (locations_room _ _ c.requires (omega (arith, c.put_record.auto.1.1.1.1.0)))
+    (locations_room _ _ c.requires (omega (arith, c.put_record.auto.file)))
 
 pub put_run-requires-2 : goal.put_run-requires-2
 put_run-requires-2 c =
     rw (c.switch_at.ensures, c.switches.ensures, c.switch_size.ensures, c.variables-n.ensures, c.switches_from.ensures)
-    (switches_room _ _ c.requires (omega (arith, c.put_record.auto.1.1.1.1.0, c.put_run.auto.1.1.1.1.1.0)))
+    (switches_room _ _ c.requires (omega (arith, c.put_record.auto.file, c.put_run.auto.file)))
 
 pub forbidden_at-requires : goal.forbidden_at-requires
 forbidden_at-requires c = (c.requires.whole.head, omega arith)
@@ -33,10 +33,10 @@ forbiddens_from-requires c = c.requires.whole.head
 pub put_run-requires-3 : goal.put_run-requires-3
 put_run-requires-3 c =
     rw (c.forbidden_at.ensures, c.forbidden_boxes.ensures, c.forbidden_size.ensures, c.variables-n.ensures, c.forbiddens_from.ensures)
-    (forbiddens_room _ _ c.requires (omega (arith, c.put_record.auto.1.1.1.1.0, c.put_run.auto.1.1.1.1.1.0, c.put_run-2.auto.1.1.1.1.1.0)))
+    (forbiddens_room _ _ c.requires (omega (arith, c.put_record.auto.file, c.put_run.auto.file, c.put_run-2.auto.file)))
 
 pub shape_of-file : goal.shape_of-file
-shape_of-file c = omega (arith, c.put_record.auto.1.1.1.1.0, c.put_run.auto.1.1.1.1.1.0, c.put_run-2.auto.1.1.1.1.1.0, c.put_run-3.auto.1.1.1.1.1.0)
+shape_of-file c = omega (arith, c.put_record.auto.file, c.put_run.auto.file, c.put_run-2.auto.file, c.put_run-3.auto.file)
 
 pub returns : goal.returns
 returns c =

@@ -15,4 +15,4 @@ put_model-requires c = write_yes _ _ (sym c.write_questions-q.ensures ∙ c.if-q
 
 pub returns : goal.returns
 unfolding write_model_call
-returns c = write_done _ _ c.write_questions-q.ensures c.if-q-ne0.false c.put_model.ensures.1 c.put_model.ensures.0
+returns c = write_done _ _ c.write_questions-q.ensures c.if-q-ne0.false c.put_model.ensures.count c.put_model.ensures.bytes

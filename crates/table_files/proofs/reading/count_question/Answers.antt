@@ -19,12 +19,12 @@ tested : (c : After-is_field) → is_field (field_at c.args.file.now 0) 6 4 ≡ 
 tested c = sym (c.is_field.ensures ∙ ap₂ (λ (f : Field) (len : ℕ). is_field f 6 len) c.next_field-first.ensures c.payload_length.ensures)
 
 pub returns-then-not-is_field : goal.returns-then-not-is_field
-returns-then-not-is_field c = count_refused _ _ (tested (goal.at.returns-then-not-is_field c).After-is_field ∙ not-true _ c.if-not-is_field.true-raw)
+returns-then-not-is_field c = count_refused _ _ (tested (goal.at.returns-then-not-is_field c).After-is_field ∙ c.if-not-is_field.true)
 
 pub number_within-requires : goal.number_within-requires
-number_within-requires c = (head_there c.args.model.now _ (tested (goal.at.number_within-requires c).After-is_field ∙ not-false _ c.if-not-is_field.false-raw), omega (arith, c.piece_count-most.ensures, pieces_few _ c.requires))
+number_within-requires c = (head_there c.args.model.now _ (tested (goal.at.number_within-requires c).After-is_field ∙ c.if-not-is_field.false), omega (arith, c.piece_count-most.ensures, pieces_few _ c.requires))
 
 pub returns : goal.returns
 returns c =
     let most = ap (λ (k : ℕ). within (pos 0) (pos k) (word_at c.args.file.now 3)) c.piece_count-most.ensures in
-    count_asked _ _ (tested (goal.at.returns c).After-is_field ∙ not-false _ c.if-not-is_field.false-raw) (sym (c.number_within.ensures ∙ most)) c.ask.ensures
+    count_asked _ _ (tested (goal.at.returns c).After-is_field ∙ c.if-not-is_field.false) (sym (c.number_within.ensures ∙ most)) c.ask.ensures

@@ -37,25 +37,25 @@ piece_tested c = let a = c.args in
 
 -- which said yes
 is_location : (c : Else-not-number_within) → let a = c.args in within (pos 0) (pos (L# a.model.now - 1)) (location_word a.file.now a.start) ≡ true
-is_location c = location_tested c.before ∙ not-false _ c.if-not-number_within.false-raw
+is_location c = location_tested c.before ∙ c.if-not-number_within.false
 
 is_face : (c : Else-not-number_within-2) → let a = c.args in within (pos 0) (pos (2 * n# a.model.now - 1)) (face_word a.file.now a.start) ≡ true
-is_face c = face_tested c.before ∙ not-false _ c.if-not-number_within-2.false-raw
+is_face c = face_tested c.before ∙ c.if-not-number_within-2.false
 
 is_piece : (c : Else-not-index_within) → let a = c.args in within (pos 0) (pos (per_face a.model.now (nat_abs (location_word a.file.now a.start)) - 1)) (index_word a.file.now a.start a.width) ≡ true
-is_piece c = piece_tested c.before ∙ not-false _ c.if-not-index_within.false-raw
+is_piece c = piece_tested c.before ∙ c.if-not-index_within.false
 
 pub number_within-requires : goal.number_within-requires
 number_within-requires c = (omega (arith, c.requires.1, c.requires.0.width_is, place_least c.args.model.now), omega (arith, c.locations.ensures, c.requires.0.whole.head.L_small))
 
 pub returns-then-not-number_within : goal.returns-then-not-number_within
-returns-then-not-number_within c = least_no _ _ _ (place_no_location _ _ _ _ (location_tested (goal.at.returns-then-not-number_within c).After-number_within ∙ not-true _ c.if-not-number_within.true-raw))
+returns-then-not-number_within c = least_no _ _ _ (place_no_location _ _ _ _ (location_tested (goal.at.returns-then-not-number_within c).After-number_within ∙ c.if-not-number_within.true))
 
 pub number_within-requires-2 : goal.number_within-requires-2
 number_within-requires-2 c = (omega (arith, c.requires.1, c.requires.0.width_is, place_least c.args.model.now), omega (arith, c.variables-faces.ensures, c.requires.0.whole.head.n_small))
 
 pub returns-then-not-number_within-2 : goal.returns-then-not-number_within-2
-returns-then-not-number_within-2 c = least_no _ _ _ (place_no_face _ _ _ _ (is_location (goal.at.returns-then-not-number_within-2 c).Else-not-number_within) (face_tested (goal.at.returns-then-not-number_within-2 c).After-number_within-2 ∙ not-true _ c.if-not-number_within-2.true-raw))
+returns-then-not-number_within-2 c = least_no _ _ _ (place_no_face _ _ _ _ (is_location (goal.at.returns-then-not-number_within-2 c).Else-not-number_within) (face_tested (goal.at.returns-then-not-number_within-2 c).After-number_within-2 ∙ c.if-not-number_within-2.true))
 
 pub number_at-requires : goal.number_at-requires
 number_at-requires c = (omega (arith, c.requires.1, c.requires.0.width_is, place_least c.args.model.now), within_nonneg (L# c.args.model.now - 1) (location_word c.args.file.now c.args.start) (true_is (is_location (goal.at.number_at-requires c).Else-not-number_within)))
@@ -70,7 +70,7 @@ pub index_within-requires : goal.index_within-requires
 index_within-requires c = (c.requires.1, omega (arith, c.per_face-per.ensures, per_face_most c.args.model.now c.number_at.result))
 
 pub returns-then-not-index_within : goal.returns-then-not-index_within
-returns-then-not-index_within c = least_no _ _ _ (place_no_piece _ _ _ _ (is_location (goal.at.returns-then-not-index_within c).Else-not-number_within) (is_face (goal.at.returns-then-not-index_within c).Else-not-number_within-2) c.requires.0.width_is (piece_tested (goal.at.returns-then-not-index_within c).After-index_within ∙ not-true _ c.if-not-index_within.true-raw))
+returns-then-not-index_within c = least_no _ _ _ (place_no_piece _ _ _ _ (is_location (goal.at.returns-then-not-index_within c).Else-not-number_within) (is_face (goal.at.returns-then-not-index_within c).Else-not-number_within-2) c.requires.0.width_is (piece_tested (goal.at.returns-then-not-index_within c).After-index_within ∙ c.if-not-index_within.true))
 
 -- the place names a piece
 is_key : (c : Else-not-index_within) → let a = c.args in KeyAt a.model.now a.places.now a.file.now a.start a.width

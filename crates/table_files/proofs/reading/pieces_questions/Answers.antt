@@ -28,7 +28,7 @@ tested : (c : After-is_field) → let a = c.args in is_field (field_at a.file.no
 tested c = sym (c.is_field.ensures ∙ ap₂ (λ (f : Field) (len : ℕ). is_field f 5 len) c.next_field-field.ensures (c.payload_length-len.ensures ∙ ap payload_length (size_is _ c.requires.whole c.requires.width_is c.variables.ensures c.field_size.ensures)))
 
 whole : (c : Else-not-is_field) → let a = c.args in T (is_field (field_at a.file.now c.loop-i.at) 5 (payload_length (piece_field_size a.model.now)))
-whole c = true_is (tested c.before ∙ not-false _ c.if-not-is_field.false-raw)
+whole c = true_is (tested c.before ∙ c.if-not-is_field.false)
 
 -- what the cursor gives of it
 lies : (c : In-Whole) → let a = c.args in let f = c.field-1.given.0.1 in let at = c.loop-i.at in
@@ -52,7 +52,7 @@ pub loop-i-init : goal.loop-i-init
 loop-i-init c = (omega arith, omega (arith, c.pieces_from-at.ensures), refl, first_none _)
 
 pub returns-then-not-is_field : goal.returns-then-not-is_field
-returns-then-not-is_field c = run_stop _ _ _ (piece_refused _ _ _ _ (tested (goal.at.returns-then-not-is_field c).After-is_field ∙ not-true _ c.if-not-is_field.true-raw) ∙ asked (goal.at.returns-then-not-is_field c).In-loop-i) (λ z. omega arith) c.loop-i.invariant.3 c.loop-i-test.true
+returns-then-not-is_field c = run_stop _ _ _ (piece_refused _ _ _ _ (tested (goal.at.returns-then-not-is_field c).After-is_field ∙ c.if-not-is_field.true) ∙ asked (goal.at.returns-then-not-is_field c).In-loop-i) (λ z. omega arith) c.loop-i.invariant.3 c.loop-i-test.true
 
 pub returns-in_default : goal.returns-in_default
 returns-in_default c =

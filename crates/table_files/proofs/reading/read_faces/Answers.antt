@@ -46,7 +46,7 @@ returns-then-not-table_ok c =
     let a = c.args in
     let front = table_front a.model.now a.file.now a.table.now c.fill.new.1.1.1.1.0 c.table_size-size.ensures c.requires.room c.fill.ensures in
     table_refused a.model.now a.file.now a.table.now c.fields_questions-q.ensures c.if-q-ne0.false
-    (ap (table_ok _) (sym front) ∙ sym c.table_ok.ensures ∙ not-true _ c.if-not-table_ok.true-raw)
+    (ap (table_ok _) (sym front) ∙ sym c.table_ok.ensures ∙ c.if-not-table_ok.true)
     (table_zeroed a.model.now a.file.now a.table.now c.fill.new.1.1.1.1.0 c.table_size-size.ensures c.requires.room c.fill.ensures c.clear-then-not-table_ok.ensures)
 
 pub returns : goal.returns
@@ -54,5 +54,5 @@ returns c =
     let a = c.args in
     let front = table_front a.model.now a.file.now a.table.now c.fill.new.1.1.1.1.0 c.table_size-size.ensures c.requires.room c.fill.ensures in
     table_read a.model.now a.file.now a.table.now c.fields_questions-q.ensures c.if-q-ne0.false
-    (ap (table_ok _) (sym front) ∙ sym c.table_ok.ensures ∙ not-false _ c.if-not-table_ok.false-raw) c.table_size-size.ensures
+    (ap (table_ok _) (sym front) ∙ sym c.table_ok.ensures ∙ c.if-not-table_ok.false) c.table_size-size.ensures
     (table_onto a.model.now a.file.now a.table.now c.fill.new.1.1.1.1.0 c.table_size-size.ensures c.requires.room c.fill.ensures)

@@ -37,7 +37,7 @@ pub returns-then-not-same : goal.returns-then-not-same
 returns-then-not-same c =
     let a = c.args in
     let e = simp (got32 (word a.table.now a.at) c.same-arg-1.given) at c.same.ensures in
-    let f = sym e ∙ not-true _ c.if-not-same.true-raw in
+    let f = sym e ∙ c.if-not-same.true in
     (piece_skip a.model.now a.table.now a.l a.q c.requires.at_is (there s) a.file.now a.to f (omega (arith, c.requires.room)), skip_next a.model.now a.table.now a.l a.q c.requires.at_is (there s) a.to f)
 
 pub field_size-size-requires : goal.field_size-size-requires
@@ -69,7 +69,7 @@ returns c =
     let a = c.args in
     let p = c.requires.is_piece in
     let e = simp (got32 (word a.table.now a.at) c.same-arg-1.given) at c.same.ensures in
-    let f = sym e ∙ not-false _ c.if-not-same.false-raw in
+    let f = sym e ∙ c.if-not-same.false in
     let n = c.variables-n.ensures in
     let size = size_is _ p.whole p.width_is n c.field_size-size.ensures in (
       piece_put a.model.now a.table.now a.l a.q c.requires.at_is (there s) a.file.now c.put_header.new.0 c.put_place.new.1.1.1.1.0 _ a.to f (omega (arith, c.requires.room))
