@@ -14,7 +14,7 @@ pub copy_words-requires : goal.copy_words-requires
 copy_words-requires c = (omega (arith, c.requires.0), simp length-set (omega (arith, c.requires.1)))
 
 pub shape_of-piece : goal.shape_of-piece
-shape_of-piece c = c.copy_words.auto.1.1.1.0 ∙ length-set c.args.piece.now 0 (pos 1)
+shape_of-piece c = c.copy_words.auto.words ∙ length-set c.args.piece.now 0 (pos 1)
 
 pub returns : goal.returns
 returns c =

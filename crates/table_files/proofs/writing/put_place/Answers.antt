@@ -29,7 +29,7 @@ pub overflow_cast-f : goal.overflow_cast-f
 overflow_cast-f c = fits32 (omega (arith, face_few (goal.at.overflow_cast-f c).After-per_face-per))
 
 pub put_word-requires-2 : goal.put_word-requires-2
-put_word-requires-2 c = omega (arith, c.requires.1, c.requires.0.width_is, place_least c.args.model.now, c.put_word.auto.0)
+put_word-requires-2 c = omega (arith, c.requires.1, c.requires.0.width_is, place_least c.args.model.now, c.put_word.auto.out)
 
 pub nonzero_rem-q : goal.nonzero_rem-q
 nonzero_rem-q c = omega (arith, c.per_face-per.ensures, per_face_least c.args.model.now c.args.l)
@@ -40,16 +40,18 @@ overflow_cast-q c = fits32 (omega (arith, index_few (goal.at.overflow_cast-q c).
 pub returns-then-width-eq-CUT_PLACE_SIZE : goal.returns-then-width-eq-CUT_PLACE_SIZE
 returns-then-width-eq-CUT_PLACE_SIZE c =
     let a = c.args in
+    let p = (goal.at.returns-then-width-eq-CUT_PLACE_SIZE c).After-per_face-per in
     let el = to_z_pos w32 {n = a.l} (omega (arith, c.requires.0.location, c.requires.0.whole.head.L_small)) in
     let ef = to_z_pos w32 {n = a.q / c.per_face-per.result} (omega (arith, face_few p)) in
     let ek = to_z_pos w32 {n = a.q % c.per_face-per.result} (omega (arith, index_few p)) in
-    place_put_three a.model.now a.l a.q c.per_face-per.ensures a.file.now c.put_word.new.0 c.put_word-2.new.0 a.to (omega (arith, c.requires.1)) (rw el at c.put_word.ensures) (rw ef at c.put_word-2.ensures)
+    place_put_three a.model.now a.l a.q c.per_face-per.ensures a.file.now c.put_word.new.out c.put_word-2.new.out a.to (omega (arith, c.requires.1)) (rw el at c.put_word.ensures) (rw ef at c.put_word-2.ensures)
     (cut_by_size _ (sym c.requires.0.width_is ∙ c.if-width-eq-CUT_PLACE_SIZE.true)) (rw ek at c.put_word-then-width-eq-CUT_PLACE_SIZE.ensures)
 
 pub returns-else-width-eq-CUT_PLACE_SIZE : goal.returns-else-width-eq-CUT_PLACE_SIZE
 returns-else-width-eq-CUT_PLACE_SIZE c =
     let a = c.args in
+    let p = (goal.at.returns-else-width-eq-CUT_PLACE_SIZE c).After-per_face-per in
     let el = to_z_pos w32 {n = a.l} (omega (arith, c.requires.0.location, c.requires.0.whole.head.L_small)) in
     let ef = to_z_pos w32 {n = a.q / c.per_face-per.result} (omega (arith, face_few p)) in
-    place_put_two a.model.now a.l a.q c.per_face-per.ensures a.file.now c.put_word.new.0 c.put_word-2.new.0 a.to (omega (arith, c.requires.1)) (rw el at c.put_word.ensures) (rw ef at c.put_word-2.ensures)
+    place_put_two a.model.now a.l a.q c.per_face-per.ensures a.file.now c.put_word.new.out c.put_word-2.new.out a.to (omega (arith, c.requires.1)) (rw el at c.put_word.ensures) (rw ef at c.put_word-2.ensures)
     (uncut_by_size _ (λ e. c.if-width-eq-CUT_PLACE_SIZE.false (c.requires.0.width_is ∙ e)))
