@@ -1,17 +1,13 @@
 -- So far the words of i fields are copied, and each turn copies those of one more.
-use mathlib.Core.List.{◌++◌}
 use mathlib.Core.Path.{◌≡◌, refl, sym, ◌∙◌}
-use Prim.Native.Nat.{◌+◌, ◌*◌, ◌-◌, ◌≤◌}
+use Prim.Native.Nat.{◌+◌, ◌≤◌}
 use native.Mathlib.Nat.{add-mul}
 use native.Mathlib.Omega.{arith}
-use borrow.Author.Rules.{rules}
 use lib.Dec.{T}
-use lib.ListN.{length, take}
-use Rattle.integers.specs.Words.{onto}
-use Rattle.files.specs.Fields.{header_size, payload_length, field_length, field_place, field_at, is_field}
+use lib.ListN.{length}
+use Rattle.files.specs.Fields.{payload_length, field_length, field_at, is_field}
 use Rattle.files.proofs.Fields.{due, due_given}
 use Rattle.plant.proofs.Positions.{row_within}
-use Rattle.files.specs.ModelFile.{run_words}
 use Rattle.files.proofs.ModelReading.{run_start, run_turn}
 use Rattle.model_files.proofs.copy_run.Goals as goal
 use Rattle.model_files.proofs.copy_run.Goals.{In-loop-i}

@@ -1,7 +1,6 @@
 -- The first word of the field, which is no negative number.
 use mathlib.Core.Path.{sym, ap, ◌∙◌}
 use lib.IntN.{nat_abs}
-use borrow.Author.Rules.{rules}
 use Rattle.integers.proofs.Signed.{got32}
 use Rattle.model_files.proofs.CutTurns.{location_word}
 use Rattle.model_files.proofs.cut_location.Goals as goal

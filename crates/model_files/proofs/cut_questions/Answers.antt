@@ -2,7 +2,6 @@
 use mathlib.Core.Path.{◌≡◌, ap, ap₂, ◌∙◌}
 use mathlib.Core.Bool.{not}
 use Prim.Native.Nat.{ℕ}
-use borrow.Author.Rules.{rules}
 use Rattle.files.specs.Fields.{field_at, is_field}
 use Rattle.files.specs.declared.Field.{Field}
 use Rattle.model_files.proofs.CutTurns.{no_tag, not_whole, words_decide, whole_there}

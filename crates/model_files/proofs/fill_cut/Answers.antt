@@ -2,7 +2,6 @@
 use native.Mathlib.Omega.{arith}
 use lib.IntN.{negsuc, pos}
 use lib.ListN.{length-set}
-use borrow.Author.Rules.{rules}
 use Rattle.model_files.proofs.CutTurns.{cut_words_lem, two_stored}
 use Rattle.model_files.proofs.fill_cut.Goals as goal
 

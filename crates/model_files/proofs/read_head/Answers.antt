@@ -1,7 +1,6 @@
 -- Four words of the first field, and the edition behind them.
 use mathlib.Core.Path.{◌∙◌}
 use native.Mathlib.Omega.{arith}
-use borrow.Author.Rules.{rules}
 use Rattle.integers.proofs.Signed.{got32}
 use Rattle.files.proofs.FirstField.{first_field, head_read}
 use Rattle.model_files.proofs.read_head.Goals as goal

@@ -1,16 +1,13 @@
 -- Field i begins at field_place from w i, and the fields before it have passed.
-use mathlib.Core.List.{List}
 use mathlib.Core.Path.{◌≡◌, sym, ap, ap₂, ◌∙◌}
-use Prim.Native.Nat.{ℕ, ◌+◌, ◌-◌, ◌≤◌}
+use Prim.Native.Nat.{ℕ}
 use native.Mathlib.Nat.{add-mul}
 use native.Mathlib.Omega.{arith}
-use borrow.Author.Rules.{rules}
 use lib.Dec.{T}
-use Rattle.files.specs.Fields.{payload_length, field_length, field_place, field_at, is_field}
+use Rattle.files.specs.Fields.{payload_length, field_length, field_at, is_field}
 use Rattle.files.specs.declared.Field.{Field}
 use Rattle.files.proofs.Fields.{due, due_given}
 use Rattle.plant.proofs.Asks.{first_none, run_stop, run_more, run_end}
-use Rattle.plant.specs.Ask.{first}
 use Rattle.files.specs.ModelFile.{field_questions, run_questions}
 use Rattle.files.proofs.ModelReading.{field_passed}
 use Rattle.model_files.proofs.run_questions.Invariants.{question}

@@ -2,7 +2,6 @@
 use mathlib.Core.Path.{sym, ap₂, ◌∙◌}
 use Prim.Native.Nat.{◌+◌}
 use native.Mathlib.Omega.{arith}
-use borrow.Author.Rules.{rules}
 use Rattle.files.proofs.ModelReading.{cuts_small}
 use Rattle.files.proofs.ModelLength.{cuts_most, file_length_lem}
 use Rattle.model_files.proofs.writing.file_length.Goals as goal

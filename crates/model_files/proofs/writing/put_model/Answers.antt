@@ -1,6 +1,5 @@
 -- The records, then the cuts behind them.
 use mathlib.Core.Path.{sym, ◌∙◌}
-use borrow.Author.Rules.{rules}
 use Rattle.files.proofs.ModelLength.{file_length_lem}
 use Rattle.model_files.proofs.ModelWriting.{file_put}
 use Rattle.model_files.proofs.writing.put_model.Goals as goal

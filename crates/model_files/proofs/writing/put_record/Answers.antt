@@ -1,6 +1,5 @@
 -- The header, and the words behind it.
 use native.Mathlib.Omega.{arith}
-use borrow.Author.Rules.{rules}
 use Rattle.model_files.proofs.ModelWriting.{record_put}
 use Rattle.model_files.proofs.writing.put_record.Goals as goal
 

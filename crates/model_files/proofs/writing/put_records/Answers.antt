@@ -1,6 +1,5 @@
 -- The first field, then the three runs, each behind the one before.
 use native.Mathlib.Omega.{arith}
-use borrow.Author.Rules.{rules}
 use Rattle.integers.proofs.Signed.{got32}
 use Rattle.model_files.proofs.ModelWriting.{cuts_room, locations_room, switches_room, forbiddens_room, records_put}
 use Rattle.model_files.proofs.writing.put_records.Goals as goal

@@ -1,11 +1,9 @@
 -- The invariant: the fields of the records passed stand behind the position, and end at the next.
-use mathlib.Core.Path.{◌≡◌, refl, subst}
-use Prim.Native.Nat.{ℕ, ◌+◌, ◌*◌, ◌-◌, ◌≤◌}
+use mathlib.Core.Path.{refl, subst}
+use Prim.Native.Nat.{ℕ, ◌+◌, ◌*◌, ◌≤◌}
 use native.Mathlib.Omega.{arith}
-use borrow.Author.Rules.{rules}
 use lib.ListN.{length}
-use Rattle.integers.proofs.Filling.{Written, written_none, written_more}
-use Rattle.model_files.specs.Room.{field_of}
+use Rattle.integers.proofs.Filling.{written_none, written_more}
 use Rattle.model_files.proofs.ModelWriting.{length_record, run_room, run_place, record_room, run_written}
 use Rattle.model_files.proofs.writing.put_run.Goals as goal
 
