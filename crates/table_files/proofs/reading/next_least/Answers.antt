@@ -4,18 +4,14 @@ use mathlib.Core.Bool.{Bool, true}
 use mathlib.Core.List.{List}
 use Prim.Native.Nat.{ℕ, ◌*◌, ◌-◌}
 use native.Mathlib.Omega.{arith}
-use borrow.Author.Rules.{rules}
-use lib.Dec.{leb}
 use lib.IntN.{ℤ, pos, nat_abs}
 use Rattle.integers.specs.Words.{within}
 use Rattle.integers.proofs.Tests.{true_is}
 use Rattle.integers.proofs.Counted.{within_abs}
-use Rattle.files.specs.Bytes.{words_at}
 use Rattle.plant.specs.Model.{n#, L#}
 use Rattle.plant.specs.Pieces.{per_face}
 use Rattle.plant.proofs.Passed.{within_nonneg}
 use Rattle.plant.proofs.Pieces.{per_face_most, per_face_least}
-use Rattle.files.specs.TableFile.{piece_field_size, place_ok}
 use Rattle.table_files.specs.TableRoom.{location_word, face_word, index_word, KeyAt}
 use Rattle.files.proofs.PlaceWords.{place_least}
 use Rattle.table_files.proofs.TableReading.{place_no_location, place_no_face, place_no_piece, place_by_key, key_there, key_few, least_no, least_late, least_made}

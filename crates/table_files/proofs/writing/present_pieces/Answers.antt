@@ -1,6 +1,5 @@
 -- The invariant: the count is that of the pieces passed, by key.
-use mathlib.Core.Path.{◌≡◌, refl, ap, ◌∙◌}
-use Prim.Native.Nat.{◌*◌, ◌-◌, ◌≤◌}
+use mathlib.Core.Path.{refl, ap, ◌∙◌}
 use native.Mathlib.Omega.{arith}
 use borrow.Author.Rules.{rules}
 use lib.IntN.{pos}
@@ -8,10 +7,9 @@ use lib.ListN.{get_or}
 use mir.Syntax.{w32}
 use mir.Val.{SFits}
 use Rattle.integers.proofs.Signed.{got32}
-use Rattle.plant.specs.Model.{n#}
 use Rattle.plant.specs.Tables.{face_size}
 use Rattle.files.proofs.TableSizes.{pieces_few}
-use Rattle.table_files.proofs.TableWriting.{row_inside, row_few, count_few, next_row, counted_below, counted_none, counted_more, counted_all}
+use Rattle.table_files.proofs.TableWriting.{row_inside, row_few, count_few, next_row, counted_none, counted_more, counted_all}
 use Rattle.table_files.proofs.writing.present_pieces.Goals as goal
 
 pub loop-k-init : goal.loop-k-init

@@ -1,12 +1,9 @@
 -- The invariant: the fields of the locations passed stand behind the head field, and end at the position; so many pieces stand before.
-use mathlib.Core.Path.{◌≡◌, sym, ap₂, ◌∙◌}
-use Prim.Native.Nat.{◌+◌, ◌-◌, ◌≤◌}
+use mathlib.Core.Path.{sym, ap₂, ◌∙◌}
+use Prim.Native.Nat.{◌+◌}
 use native.Mathlib.Omega.{arith}
-use borrow.Author.Rules.{rules}
-use Rattle.plant.specs.Tables.{pieces_before}
 use Rattle.plant.proofs.PieceCases.{before_more, before_none}
-use Rattle.files.specs.TableFile.{location_fields}
-use Rattle.integers.proofs.Filling.{Written, written_none, written_more}
+use Rattle.integers.proofs.Filling.{written_none, written_more}
 use Rattle.files.proofs.TableSizes.{location_counted, pieces_few}
 use Rattle.table_files.proofs.TableWriting.{head_room, pieces_room, room_of_location, all_written}
 use Rattle.table_files.proofs.writing.put_pieces.Goals as goal
