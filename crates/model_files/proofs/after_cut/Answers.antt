@@ -1,6 +1,5 @@
 -- By the case.
 use native.Mathlib.Omega.{arith}
-use borrow.Author.Rules.{rules}
 use Rattle.model_files.proofs.after_cut.Goals as goal
 
 pub overflow_add-result : goal.overflow_add-result

@@ -1,5 +1,4 @@
 -- The three runs of fields, then the cuts' fields.
-use borrow.Author.Rules.{rules}
 use Rattle.files.proofs.ModelReading.{body_made}
 use Rattle.model_files.proofs.body_questions.Goals as goal
 

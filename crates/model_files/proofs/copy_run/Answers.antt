@@ -1,71 +1,57 @@
 -- So far the words of i fields are copied, and each turn copies those of one more.
-use mathlib.Core.List.{◌++◌}
 use mathlib.Core.Path.{◌≡◌, refl, sym, ◌∙◌}
-use Prim.Native.Nat.{◌+◌, ◌*◌, ◌-◌, ◌≤◌}
-use native.Mathlib.Nat.{add_mul}
+use Prim.Native.Nat.{◌+◌, ◌≤◌}
+use native.Mathlib.Nat.{add-mul}
 use native.Mathlib.Omega.{arith}
-use borrow.Author.Rules.{rules}
 use lib.Dec.{T}
-use lib.ListN.{length, take}
-use Rattle.integers.specs.Words.{onto}
-use Rattle.files.specs.Fields.{header_size, payload_length, field_length, field_place, field_at, is_field}
-use Rattle.files.proofs.Fields.{due, due_given, due_whole}
+use lib.ListN.{length}
+use Rattle.files.specs.Fields.{payload_length, field_length, field_at, is_field}
+use Rattle.files.proofs.Fields.{due, due_given}
 use Rattle.plant.proofs.Positions.{row_within}
-use Rattle.files.specs.ModelFile.{run_words}
 use Rattle.files.proofs.ModelReading.{run_start, run_turn}
 use Rattle.model_files.proofs.copy_run.Goals as goal
+use Rattle.model_files.proofs.copy_run.Goals.{In-loop-i}
 
 -- field i is whole, and its words have room
-is_due : (c : goal.In-loop-i) → let a = c.args in T (is_field (field_at a.file.now c.loop-i.at) c.requires.tag (payload_length a.w))
+is_due : (c : In-loop-i) → let a = c.args in T (is_field (field_at a.file.now c.loop-i.at) c.requires.tag (payload_length a.w))
 is_due c = let a = c.args in
     rw c.loop-i.invariant.1 (c.requires.whole c.loop-i.i c.loop-i-test.true)
 
-fits : (c : goal.In-loop-i) → let a = c.args in c.loop-i.place + a.w ≤ length a.words.now
+fits : (c : In-loop-i) → let a = c.args in c.loop-i.place + a.w ≤ length a.words.now
 fits c =
     let a = c.args in
     omega (arith, row_within a.w c.loop-i-test.true, c.loop-i.invariant.2, c.requires.room)
-
--- the cursor gives where its payload starts, and where field i + 1 begins
-lies : (c : goal.In-Whole) → let a = c.args in let f = c.field-1.given.0.1 in
-    (f.0 ≡ c.loop-i.at + header_size) × (f.1.0 ≡ payload_length a.w) × (f.1.1.0 ≡ c.loop-i.at + header_size + payload_length a.w)
-lies c =
-    due_given _ _ _ _ _ _ _ _ (is_due c.before.before.before.before) (sym c.next_field-field.ensures ∙ c.field-1.given.1)
-
-there : (c : goal.In-Whole) → let a = c.args in
-    c.field-1.given.0.1.0 + payload_length a.w ≤ length a.file.now
-there c = omega (arith, (due _ _ _ _ (is_due c.before.before.before.before)).there, (lies c).0)
-
--- no field that is not whole
-no_other : (c : goal.In_default) → ⊥
-no_other c =
-    let s = c.before.before.before.before.before in
-    due_whole c.next_field-field.result s.requires.tag (payload_length s.args.w) (rw (← c.next_field-field.ensures) at (is_due c.before.before)) c.in_default.keys2
 
 pub loop-i-init : goal.loop-i-init
 loop-i-init c =
     let a = c.args in
     (omega arith, omega arith, omega arith, refl, run_start a.file.now a.from a.w a.to a.words.now (omega (arith, c.requires.room)))
 
-pub shape_of-words-in_default : goal.shape_of-words-in_default
-shape_of-words-in_default c = absurd (no_other c)
-
 pub returns-in_default : goal.returns-in_default
-returns-in_default c = absurd (no_other c)
+returns-in_default c =
+    -- no field that is not whole
+    let f = due _ _ _ _ (is_due (goal.at.returns-in_default c).In-loop-i) in
+    absurd (c.in_default.not-Whole _ _ _ _ (c.next_field-field.ensures ∙ f.field_is))
 
 pub copy_words-requires : goal.copy_words-requires
-copy_words-requires c = (there c.before, omega (arith, fits c.before.before.before.before.before, c.loop-i.invariant.3))
+copy_words-requires c =
+    let here = goal.at.copy_words-requires c in
+    let d = is_due here.In-loop-i in
+    let l = due_given _ _ _ _ _ _ _ _ d (sym c.next_field-field.ensures ∙ c.in-Whole.is) in
+    (omega (arith, (due _ _ _ _ d).there, l.0), omega (arith, fits here.In-loop-i, c.loop-i.invariant.3))
 
 pub overflow_add-place : goal.overflow_add-place
-overflow_add-place c = omega (arith, fits c.before.before.before.before.before.before.before)
+overflow_add-place c = omega (arith, fits (goal.at.overflow_add-place c).In-loop-i)
 
 pub loop-i-preserved : goal.loop-i-preserved
 loop-i-preserved c =
     let a = c.args in
     let own = c.loop-i in
-    let l = lies c.before.before.before in (
+    -- the cursor gives where its payload starts, and where field i + 1 begins
+    let l = due_given _ _ _ _ _ _ _ _ (is_due (goal.at.loop-i-preserved c).In-loop-i) (sym c.next_field-field.ensures ∙ c.in-Whole.is) in (
       omega arith,
-      omega (arith, l.2, own.invariant.1, add_mul own.i 1 (field_length a.w)),
-      omega (arith, own.invariant.2, add_mul own.i 1 a.w),
+      omega (arith, l.2, own.invariant.1, add-mul own.i 1 (field_length a.w)),
+      omega (arith, own.invariant.2, add-mul own.i 1 a.w),
       omega arith,
       run_turn a.file.now a.from a.w a.to own.i _ own.place a.words.now own.words _ own.invariant.4 (omega (arith, c.requires.room)) (omega (arith, l.0, own.invariant.1)) own.invariant.2 c.copy_words.ensures,
     )

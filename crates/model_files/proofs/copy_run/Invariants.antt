@@ -1,18 +1,11 @@
 -- So far the words of i fields are copied, and each turn copies those of one more.
 use mathlib.Core.List.{◌++◌}
-use mathlib.Core.Path.{◌≡◌, refl, sym, ◌∙◌}
+use mathlib.Core.Path.{◌≡◌}
 use Prim.Native.Nat.{◌+◌, ◌*◌, ◌-◌, ◌≤◌}
-use native.Mathlib.Nat.{add_mul}
-use native.Mathlib.Omega.{arith}
-use borrow.Author.Rules.{rules}
-use lib.Dec.{T}
 use lib.ListN.{length, take}
 use Rattle.integers.specs.Words.{onto}
-use Rattle.files.specs.Fields.{header_size, payload_length, field_length, field_place, field_at, is_field}
-use Rattle.files.proofs.Fields.{due, due_given, due_whole}
-use Rattle.plant.proofs.Positions.{row_within}
+use Rattle.files.specs.Fields.{field_place}
 use Rattle.files.specs.ModelFile.{run_words}
-use Rattle.files.proofs.ModelReading.{run_start, run_turn}
 use Rattle.model_files.proofs.copy_run.Given as goal
 
 abbrev pub invariant-loop-i : goal.invariant-loop-i

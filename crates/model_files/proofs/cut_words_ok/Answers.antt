@@ -1,5 +1,5 @@
 -- The words as they stand in the file, the location in 64 bits.
-use borrow.Author.Rules.{rules, sfits_of}
+use borrow.Author.Rules.{sfits_of}
 use mir.Syntax.{w32}
 use mir.Facts.{to_z-of_z}
 use Rattle.integers.proofs.Signed.{widened}
@@ -11,7 +11,4 @@ overflow_cast-location c = rw (to_z-of_z {w = w32} (sfits_of c.word_at-location.
 
 pub returns : goal.returns
 returns c =
-    let s = c.before.before.before.before.before in
-    let v = c.before.before in
-    let l = c.before.before.before in
-    words_asked s.args.file.now s.args.at c.within-named.ensures c.same.ensures l.word_at-location.type_inv l.word_at-location.ensures v.word_at-variable.type_inv v.word_at-variable.ensures s.requires.1 s.requires.3
+    words_asked c.args.file.now c.args.at c.within-named.ensures c.same.ensures c.word_at-location.type_inv c.word_at-location.ensures c.word_at-variable.type_inv c.word_at-variable.ensures c.requires.1 c.requires.3

@@ -1,6 +1,5 @@
 -- After the fields of the forbidden boxes.
 use native.Mathlib.Omega.{arith}
-use borrow.Author.Rules.{rules}
 use Rattle.files.proofs.ModelReading.{forbiddens_small}
 use Rattle.model_files.proofs.cuts_from.Goals as goal
 

@@ -1,49 +1,43 @@
 -- The invariant: the fields passed are all answered yes, and the next may name a location from the least on.
 use mathlib.Core.Path.{sym, ◌∙◌}
-use Prim.Native.Nat.{◌-◌}
 use native.Mathlib.Omega.{arith}
-use lib.ListN.{length}
 use Rattle.files.proofs.Cuts.{CutYes, cut_yes}
-use Rattle.model_files.proofs.CutTurns.{is_there, CutsAsked, asked_none, asked_stop, asked_more, asked_all}
+use Rattle.model_files.proofs.CutTurns.{is_there, asked_none, asked_stop, asked_more, asked_all}
 use Rattle.model_files.proofs.cuts_questions.Goals as goal
+use Rattle.model_files.proofs.cuts_questions.Goals.{Else-r-ne0}
 
 -- the field that was asked
-passed : (c : goal.Else-r-ne0) → let a = c.args in CutYes a.file.now c.loop-at.at c.loop-at.least a.count
+passed : (c : Else-r-ne0) → let a = c.args in CutYes a.file.now c.loop-at.at c.loop-at.least a.count
 passed c =
-    let s = c.before.before.before.before.before in
-    cut_yes s.args.file.now c.loop-at.at c.loop-at.least s.args.count s.requires.0 (sym c.cut_questions-r.ensures ∙ c.if-r-ne0.false)
+    cut_yes c.args.file.now c.loop-at.at c.loop-at.least c.args.count c.requires.0 (sym c.cut_questions-r.ensures ∙ c.if-r-ne0.false)
 
 pub loop-at-init : goal.loop-at-init
 loop-at-init c = asked_none _ _ _
 
 pub cut_questions-r-requires : goal.cut_questions-r-requires
 cut_questions-r-requires c =
-    let s = c.before.before.before in
-    (omega arith, omega (arith, c.loop-at.invariant.most, s.requires.1), s.requires.0, s.requires.1)
+    (omega arith, omega (arith, c.loop-at.invariant.most, c.requires.1), c.requires.0, c.requires.1)
 
 pub returns-then-r-ne0 : goal.returns-then-r-ne0
 returns-then-r-ne0 c =
-    let s = c.before.before.before.before.before in
-    asked_stop s.args.file.now s.args.from s.args.count c.loop-at.invariant (omega arith) c.cut_questions-r.ensures c.if-r-ne0.true
+    asked_stop c.args.file.now c.args.from c.args.count c.loop-at.invariant (omega arith) c.cut_questions-r.ensures c.if-r-ne0.true
 
 pub cut_location-least-requires : goal.cut_location-least-requires
-cut_location-least-requires c = is_there _ _ (passed c)
+cut_location-least-requires c = is_there _ _ (passed (goal.at.cut_location-least-requires c).Else-r-ne0)
 
 pub overflow_add-least : goal.overflow_add-least
-overflow_add-least c = omega (arith, (passed c.before).below, c.cut_location-least.ensures, c.requires.1)
+overflow_add-least c = omega (arith, (passed (goal.at.overflow_add-least c).Else-r-ne0).below, c.cut_location-least.ensures, c.requires.1)
 
 pub overflow_add-at : goal.overflow_add-at
-overflow_add-at c = omega (arith, (passed c.before.before).whole.there, c.field_length-at.ensures)
+overflow_add-at c = omega (arith, (passed (goal.at.overflow_add-at c).Else-r-ne0).whole.there, c.field_length-at.ensures)
 
 pub loop-at-smaller : goal.loop-at-smaller
-loop-at-smaller c = omega (arith, (passed c.before.before).whole.there, c.field_length-at.ensures)
+loop-at-smaller c = omega (arith, (passed (goal.at.loop-at-smaller c).Else-r-ne0).whole.there, c.field_length-at.ensures)
 
 pub loop-at-preserved : goal.loop-at-preserved
 loop-at-preserved c =
-    let s = c.before.before.before.before.before.before.before in
-    asked_more s.args.file.now s.args.from s.args.count c.loop-at.invariant (omega arith) c.cut_questions-r.ensures c.if-r-ne0.false (passed c.before.before) c.cut_location-least.ensures (omega (arith, c.field_length-at.ensures))
+    asked_more c.args.file.now c.args.from c.args.count c.loop-at.invariant (omega arith) c.cut_questions-r.ensures c.if-r-ne0.false (passed (goal.at.loop-at-preserved c).Else-r-ne0) c.cut_location-least.ensures (omega (arith, c.field_length-at.ensures))
 
 pub returns : goal.returns
 returns c =
-    let s = c.before.before.before in
-    asked_all s.args.file.now s.args.from s.args.count c.loop-at.invariant (omega arith)
+    asked_all c.args.file.now c.args.from c.args.count c.loop-at.invariant (omega arith)

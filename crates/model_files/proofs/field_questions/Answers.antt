@@ -1,5 +1,4 @@
 -- The two questions, in their order.
-use borrow.Author.Rules.{rules}
 use Rattle.model_files.proofs.field_questions.Goals as goal
 
 pub returns : goal.returns

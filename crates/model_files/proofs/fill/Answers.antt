@@ -2,7 +2,6 @@
 use mathlib.Core.Path.{ap, ◌∙◌}
 use native.Mathlib.Omega.{arith}
 use lib.ListN.{length}
-use borrow.Author.Rules.{rules}
 use Rattle.files.proofs.FirstField.{length_head}
 use Rattle.files.proofs.ModelReading.{body_passed, all_filled}
 use Rattle.model_files.proofs.Filling.{cuts_ready}
@@ -15,7 +14,6 @@ fill_cuts-requires c =
 
 pub returns : goal.returns
 returns c =
-    let s = c.before.before.before.before.before.before.before.before.before.before in
-    let a = s.args in
-    all_filled a.file.now a.head.now (ap length s.requires.0.is_read ∙ length_head a.file.now) a.words.now _ _ c.fill_records.ensures
+    let a = c.args in
+    all_filled a.file.now a.head.now (ap length c.requires.0.is_read ∙ length_head a.file.now) a.words.now _ _ c.fill_records.ensures
     (rw (c.cuts_from.ensures, c.locations-count.ensures, c.cut_at-to.ensures) at c.fill_cuts.ensures)

@@ -2,7 +2,6 @@
 use native.Mathlib.Omega.{arith}
 use lib.IntN.{negsuc, pos}
 use lib.ListN.{length-set}
-use borrow.Author.Rules.{rules}
 use Rattle.model_files.proofs.CutTurns.{cut_words_lem, two_stored}
 use Rattle.model_files.proofs.fill_cut.Goals as goal
 
@@ -20,10 +19,8 @@ slice_set_of-words-else-named c = simp length-set (omega (arith, c.requires.1))
 
 pub returns-then-named : goal.returns-then-named
 returns-then-named c =
-    let s = c.before.before.before.before.before in
-    rw (c.if-named.true, ← (cut_words_lem s.args.file.now s.args.at)) c.copy_words.ensures
+    rw (c.if-named.true, ← (cut_words_lem c.args.file.now c.args.at)) c.copy_words.ensures
 
 pub returns-else-named : goal.returns-else-named
 returns-else-named c =
-    let s = c.before.before in
-    rw c.if-named.false (two_stored s.args.words.now s.args.to (negsuc 0) (pos 0) s.requires.1)
+    rw c.if-named.false (two_stored c.args.words.now c.args.to (negsuc 0) (pos 0) c.requires.1)

@@ -1,10 +1,8 @@
 -- The invariant: the words of the locations passed are filled in, and the next field is the first that names none of them.
-use mathlib.Core.Bool.{true}
-use mathlib.Core.Path.{◌≡◌, refl}
-use Prim.Native.Nat.{◌+◌, ◌-◌, ◌≤◌}
-use native.Mathlib.Omega.{arith}
+use mathlib.Core.Path.{◌≡◌}
+use Prim.Native.Nat.{◌-◌, ◌≤◌}
 use lib.ListN.{length}
-use Rattle.model_files.proofs.CutTurns.{CutsFilled, filled_none, next_there, named_there, filled_more, filled_all}
+use Rattle.model_files.proofs.CutTurns.{CutsFilled}
 use Rattle.model_files.proofs.fill_cuts.Given as goal
 
 abbrev pub invariant-loop-l : goal.invariant-loop-l

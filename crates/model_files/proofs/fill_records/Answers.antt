@@ -10,7 +10,6 @@ use Rattle.files.proofs.FirstField.{length_head}
 use Rattle.files.proofs.ModelReading.{body_passed, filled}
 use Rattle.model_files.proofs.Filling.{locations_ready, switches_ready, forbiddens_ready}
 use Rattle.plant.proofs.Heads.{locations_at}
-use borrow.Author.Rules.{rules}
 use Rattle.model_files.proofs.fill_records.Goals as goal
 
 pub read_head-requires : goal.read_head-requires

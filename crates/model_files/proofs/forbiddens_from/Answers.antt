@@ -1,6 +1,5 @@
 -- After the fields of the switches.
 use native.Mathlib.Omega.{arith}
-use borrow.Author.Rules.{rules}
 use Rattle.files.proofs.ModelReading.{switches_small}
 use Rattle.model_files.proofs.forbiddens_from.Goals as goal
 

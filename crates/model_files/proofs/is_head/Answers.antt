@@ -1,7 +1,6 @@
 -- Either tag, with the length that the payload has.
 use mathlib.Core.Path.{ap₂}
 use mathlib.Core.Bool.{Bool, ◌||◌}
-use borrow.Author.Rules.{rules}
 use Rattle.model_files.proofs.is_head.Goals as goal
 
 pub returns : goal.returns

@@ -1,7 +1,6 @@
 -- Four words of the first field, and the edition behind them.
 use mathlib.Core.Path.{◌∙◌}
 use native.Mathlib.Omega.{arith}
-use borrow.Author.Rules.{rules}
 use Rattle.integers.proofs.Signed.{got32}
 use Rattle.files.proofs.FirstField.{first_field, head_read}
 use Rattle.model_files.proofs.read_head.Goals as goal
@@ -14,5 +13,4 @@ bounds-file-0 c = omega (arith, (first_field c.args.file.now c.requires.0).is_du
 
 pub returns : goal.returns
 returns c =
-    let s = c.before.before.before.before.before.before in
-    head_read s.args.file.now s.args.words.now _ _ s.requires.1 c.copy_words.ensures (got32 c.edition_of.result c.edition_of.type_inv ∙ c.edition_of.ensures)
+    head_read c.args.file.now c.args.words.now _ _ c.requires.1 c.copy_words.ensures (got32 c.edition_of.result c.edition_of.type_inv ∙ c.edition_of.ensures)

@@ -1,6 +1,5 @@
 -- 2 to 4 tell that the head words are allowed; then 5 can be asked.
 use mathlib.Core.Path.{sym, ◌∙◌}
-use borrow.Author.Rules.{rules}
 use Rattle.plant.proofs.Asks.{go, halt}
 use Rattle.plant.proofs.Passing.{head_passed}
 use Rattle.model_files.proofs.sizes_questions.Goals as goal

@@ -1,5 +1,4 @@
 -- After the fields of the locations.
-use borrow.Author.Rules.{rules}
 use Rattle.model_files.proofs.switches_from.Goals as goal
 
 pub returns : goal.returns

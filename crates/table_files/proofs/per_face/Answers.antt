@@ -1,6 +1,5 @@
 -- Places that don't name the piece are those of a model without cuts.
 use mathlib.Core.Path.{sym, ◌∙◌}
-use borrow.Author.Rules.{rules}
 use Rattle.plant.proofs.Pieces.{one_piece}
 use Rattle.files.proofs.PlaceWords.{uncut_by_size}
 use Rattle.table_files.proofs.per_face.Goals as goal

@@ -1,8 +1,6 @@
 -- The invariant: none of the locations passed is cut.
-use Prim.Native.Nat.{◌-◌, ◌≤◌}
 use native.Mathlib.Omega.{arith}
-use borrow.Author.Rules.{rules}
-use Rattle.files.proofs.PlaceWords.{none_cut, none_cut_lem, none_more, cut_found, none_all}
+use Rattle.files.proofs.PlaceWords.{none_cut_lem, none_more, cut_found, none_all}
 use Rattle.table_files.proofs.place_size.Goals as goal
 
 pub loop-l-init : goal.loop-l-init

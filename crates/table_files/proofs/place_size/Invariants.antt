@@ -1,8 +1,6 @@
 -- The invariant: none of the locations passed is cut.
 use Prim.Native.Nat.{◌-◌, ◌≤◌}
-use native.Mathlib.Omega.{arith}
-use borrow.Author.Rules.{rules}
-use Rattle.files.proofs.PlaceWords.{none_cut, none_cut_lem, none_more, cut_found, none_all}
+use Rattle.files.proofs.PlaceWords.{none_cut}
 use Rattle.table_files.proofs.place_size.Given as goal
 
 abbrev pub invariant-loop-l : goal.invariant-loop-l

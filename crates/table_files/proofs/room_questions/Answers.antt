@@ -1,7 +1,6 @@
 -- The model's questions, then the size of a table.
 use mathlib.Core.Path.{sym, ap, ◌∙◌}
 use Prim.Native.Nat.{ℕ}
-use borrow.Author.Rules.{rules}
 use lib.Dec.{leb}
 use Rattle.plant.proofs.Asks.{go, halt}
 use Rattle.plant.specs.Ask.{ask}

@@ -1,6 +1,5 @@
 -- The bytes are those of the file.
 use Rattle.files.specs.Bytes.{bits_at}
-use borrow.Author.Rules.{rules}
 use Rattle.wire.proofs.bits_at.Goals as goal
 
 pub returns : goal.returns

@@ -1,7 +1,6 @@
 -- Each way out is a case of the definition.
 use native.Mathlib.Omega.{arith}
 use Rattle.files.proofs.Fields.{field_short, field_cut, field_whole}
-use borrow.Author.Rules.{rules}
 use Rattle.wire.proofs.field_at.Goals as goal
 
 pub returns-then-file-lt-HEADER_SIZE : goal.returns-then-file-lt-HEADER_SIZE

@@ -1,7 +1,6 @@
 -- At most 1,536 fields of at most 151 bytes each.
 use Prim.Native.Nat.{◌*◌, ◌≤◌}
 use native.Mathlib.Omega.{arith}
-use borrow.Author.Rules.{rules}
 use Rattle.files.specs.Fields.{field_length}
 use Rattle.files.proofs.Fields.{place_small}
 use Rattle.wire.proofs.field_place.Goals as goal

@@ -2,7 +2,6 @@
 use native.Mathlib.Omega.{arith}
 use lib.ListN.{length-set}
 use Rattle.integers.proofs.Filling.{set_four}
-use borrow.Author.Rules.{rules}
 use Rattle.wire.proofs.put_bits.Goals as goal
 
 pub bounds-out-at-2 : goal.bounds-out-at-2

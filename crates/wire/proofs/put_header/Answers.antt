@@ -2,7 +2,6 @@
 use native.Mathlib.Omega.{arith}
 use lib.ListN.{length-set}
 use Rattle.integers.proofs.Filling.{set_three}
-use borrow.Author.Rules.{rules}
 use Rattle.wire.proofs.put_header.Goals as goal
 
 pub bounds-out-to-2 : goal.bounds-out-to-2

@@ -8,7 +8,6 @@ use mir.Syntax.{w32}
 use mir.Val.{of_z}
 use Rattle.integers.specs.Words.{onto}
 use Rattle.files.specs.Bytes.{bits_bytes, word_bytes}
-use borrow.Author.Rules.{rules}
 use Rattle.wire.proofs.put_word.Goals as goal
 
 pub returns : goal.returns

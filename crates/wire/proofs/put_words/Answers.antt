@@ -1,15 +1,15 @@
 -- So far the bytes of i words are written, and each turn writes one word more.
 use mathlib.Core.Path.{◌≡◌, refl, ap, ◌∙◌}
 use mathlib.Core.List.{List, ◌++◌}
-use Prim.Native.Nat.{ℕ, ◌+◌, ◌-◌, ◌≤◌}
+use Prim.Native.Nat.{ℕ, ◌+◌}
 use native.Mathlib.Omega.{arith}
 use lib.IntN.{pos}
-use lib.ListN.{length, get_or, take}
+use lib.ListN.{get_or, take}
 use mir.Facts.{to_z-of_z}
 use mir.Syntax.{w32}
-use borrow.Author.Rules.{sfits_of}
+use mir.Val.{SFits}
+use borrow.Author.Rules.{rules}
 use Rattle.integers.specs.Words.{onto}
-use Rattle.files.specs.Bytes.{words_bytes, part}
 use Rattle.integers.proofs.Buffers.{onto_start}
 use Rattle.files.proofs.Words.{bytes_none, put_turn}
 use Rattle.wire.proofs.put_words.Goals as goal
@@ -23,10 +23,11 @@ loop-i-init c =
 pub loop-i-preserved : goal.loop-i-preserved
 loop-i-preserved c =
     let a = c.args in
-    let l = c.loop-i in (
+    let l = c.loop-i in
+    let w : SFits w32 (get_or a.words.now (a.from + l.i) (pos 0)) = search rules in (
       omega arith,
       omega arith,
-      rw (to_z-of_z {w = w32} {z = get_or a.words.now (a.from + l.i) (pos 0)} (sfits_of c.put_word-arg-in-loop-i-1.given)) at c.put_word.ensures
+      rw (to_z-of_z {w = w32} {z = get_or a.words.now (a.from + l.i) (pos 0)} w) at c.put_word.ensures
           ∙ put_turn a.words.now a.from l.i a.out.now l.out a.to l.invariant.2 (omega arith) (omega arith),
     )
 

@@ -1,17 +1,10 @@
 -- So far the bytes of i words are written, and each turn writes one word more.
-use mathlib.Core.Path.{◌≡◌, refl, ap, ◌∙◌}
-use mathlib.Core.List.{List, ◌++◌}
-use Prim.Native.Nat.{ℕ, ◌+◌, ◌-◌, ◌≤◌}
-use native.Mathlib.Omega.{arith}
-use lib.IntN.{pos}
-use lib.ListN.{length, get_or, take}
-use mir.Facts.{to_z-of_z}
-use mir.Syntax.{w32}
-use borrow.Author.Rules.{sfits_of}
+use mathlib.Core.Path.{◌≡◌}
+use mathlib.Core.List.{◌++◌}
+use Prim.Native.Nat.{◌-◌, ◌≤◌}
+use lib.ListN.{length, take}
 use Rattle.integers.specs.Words.{onto}
 use Rattle.files.specs.Bytes.{words_bytes, part}
-use Rattle.integers.proofs.Buffers.{onto_start}
-use Rattle.files.proofs.Words.{bytes_none, put_turn}
 use Rattle.wire.proofs.put_words.Given as goal
 
 abbrev pub invariant-loop-i : goal.invariant-loop-i

@@ -1,7 +1,6 @@
 -- The upper half of the bits stands for the negative words.
 use mir.Facts.{to_z-of_z, sfits_to_z}
 use Rattle.wire.proofs.Bits.{word_neg}
-use borrow.Author.Rules.{rules}
 use Rattle.wire.proofs.signed.Goals as goal
 
 pub overflow_sub-result-else-u-lt2147483648 : goal.overflow_sub-result-else-u-lt2147483648

@@ -3,7 +3,6 @@ use mir.Syntax.{w32}
 use mir.Facts.{to_z-of_z}
 use borrow.Author.Rules.{sfits_of}
 use Rattle.files.specs.Bytes.{word_at}
-use borrow.Author.Rules.{rules}
 use Rattle.wire.proofs.word_at.Goals as goal
 
 pub returns : goal.returns

@@ -1,7 +1,6 @@
 -- By the edition.
 use mathlib.Core.Path.{◌≡◌, refl, sym, ◌∙◌}
 use mathlib.Core.Bool.{true, false}
-use borrow.Author.Rules.{rules}
 use lib.IntN.{pos}
 use mir.Facts.{to_z-of_z}
 use Rattle.integers.specs.Words.{eq_z}

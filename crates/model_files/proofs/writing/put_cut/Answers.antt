@@ -1,6 +1,6 @@
 -- The field of an uncut location is nothing; of a cut one the header, the location, and the cut's words, each behind the one before.
 use mathlib.Core.Path.{◌≡◌, refl, sym, ap, ◌∙◌}
-use mathlib.Core.Bool.{true, false}
+use mathlib.Core.Bool.{false}
 use native.Mathlib.Omega.{arith}
 use borrow.Author.Rules.{rules}
 use Prim.Native.Nat.{ℕ, ◌+◌, ◌≤◌}
@@ -8,6 +8,7 @@ use lib.IntN.{negsuc}
 use lib.ListN.{length}
 use mir.Facts.{to_z_pos}
 use mir.Syntax.{w32}
+use mir.Val.{SFits}
 use Rattle.integers.specs.Words.{word, eq_z}
 use Rattle.integers.proofs.Signed.{got32}
 use Rattle.files.specs.Fields.{field_length}
@@ -16,52 +17,59 @@ use Rattle.plant.proofs.Positions.{cut-within}
 use Rattle.files.specs.ModelFile.{cut_field_size}
 use Rattle.model_files.proofs.ModelWriting.{cut_skip, skip_next, cut_next, cut_put}
 use Rattle.model_files.proofs.writing.put_cut.Goals as goal
+use Rattle.model_files.proofs.writing.put_cut.Goals.{Start, After-same}
 
-within : (c : goal.Start) → cut_at c.args.model.now c.args.l + cut_size ≤ length c.args.model.now
+within : (c : Start) → cut_at c.args.model.now c.args.l + cut_size ≤ length c.args.model.now
 within c = cut-within _ c.requires.whole _ c.requires.location
 
 -- what the test of its variable tells
-told : (c : goal.After-same) → c.same.result ≡ eq_z (cut_variable c.args.model.now c.args.l) (negsuc 0)
+told : (c : After-same) → c.same.result ≡ eq_z (cut_variable c.args.model.now c.args.l) (negsuc 0)
 unfolding cut_variable
 told c =
     let m = c.args.model.now in
     let at = c.cut_at-at in
-    simp (got32 (word m at.result) c.same-arg-1.given) at c.same.ensures ∙ ap (λ (k : ℕ). eq_z (word m k) (negsuc 0)) at.ensures
+    let h : SFits w32 (word m at.result) = search rules in
+    simp (got32 (word m at.result) h.sfits) at c.same.ensures ∙ ap (λ (k : ℕ). eq_z (word m k) (negsuc 0)) at.ensures
 
-not_cut : (c : goal.Then-same) → eq_z (cut_variable c.args.model.now c.args.l) (negsuc 0) ≡ true
-not_cut c = sym (told c.before) ∙ c.if-same.true
-
-is_cut : (c : goal.Else-same) → eq_z (cut_variable c.args.model.now c.args.l) (negsuc 0) ≡ false
-is_cut c = sym (told c.before) ∙ c.if-same.false
-
-room : (c : goal.Else-same) → c.args.to + field_length cut_field_size ≤ length c.args.file.now
-room c = let s = c.before.before.before.before.before in omega (arith, s.requires.room, cut_next _ _ (is_cut c) s.args.to refl)
+-- a cut location's field has room
+room : (c : After-same) → c.same.result ≡ false → c.args.to + field_length cut_field_size ≤ length c.args.file.now
+room c e = omega (arith, c.requires.room, cut_next _ _ (sym (told c) ∙ e) c.args.to refl)
 
 pub offset_bounds-model-at : goal.offset_bounds-model-at
-offset_bounds-model-at c = record { fits = omega (arith, c.cut_at-at.ensures, within c.before.before) }
+offset_bounds-model-at c = record { fits = omega (arith, c.cut_at-at.ensures, within (goal.at.offset_bounds-model-at c).Start) }
 
 pub bounds-model-at : goal.bounds-model-at
-bounds-model-at c = omega (arith, c.cut_at-at.ensures, within c.before.before)
+bounds-model-at c = omega (arith, c.cut_at-at.ensures, within (goal.at.bounds-model-at c).Start)
 
 pub returns-then-same : goal.returns-then-same
 returns-then-same c =
-    let s = c.before.before.before.before.before in
-    (cut_skip _ _ (not_cut c) s.args.file.now s.args.to (omega (arith, s.requires.room)), skip_next _ _ (not_cut c) s.args.to)
+    let no = sym (told (goal.at.returns-then-same c).After-same) ∙ c.if-same.true in
+    record {
+      bytes = cut_skip _ _ no c.args.file.now c.args.to (omega (arith, c.requires.room));
+      next = skip_next _ _ no c.args.to;
+    }
 
 pub put_header-requires : goal.put_header-requires
-put_header-requires c = (omega (arith, c.payload_length.ensures), omega (arith, room c.before.before))
+put_header-requires c =
+    (omega (arith, c.payload_length.ensures), omega (arith, room (goal.at.put_header-requires c).After-same c.if-same.false))
 
 pub put_word-requires : goal.put_word-requires
-put_word-requires c = omega (arith, room c.before.before.before.before.before.before, c.put_header.auto.0)
+put_word-requires c =
+    omega (arith, room (goal.at.put_word-requires c).After-same c.if-same.false, c.put_header.auto.out)
 
 pub put_words-requires : goal.put_words-requires
-put_words-requires c = (omega (arith, c.cut_at-at.ensures, within c.before.before.before.before.before.before.before.before.before.before.before.before.before.before.before), omega (arith, room c.before.before.before.before.before.before.before.before.before.before, c.put_header.auto.0, c.put_word.auto.0))
+put_words-requires c =
+    let here = goal.at.put_words-requires c in (
+      omega (arith, c.cut_at-at.ensures, within here.Start),
+      omega (arith, room here.After-same c.if-same.false, c.put_header.auto.out, c.put_word.auto.out),
+    )
 
 pub returns : goal.returns
 returns c =
-    let s = c.before.before.before.before.before.before.before.before.before.before.before.before.before.before.before.before.before.before.before in
-    let a = s.args in
-    let el = to_z_pos w32 {n = a.l} (omega (arith, s.requires.location, s.requires.whole.head.L_small)) in (
-      cut_put a.model.now a.l (is_cut c.before.before.before.before.before.before.before.before.before.before.before.before.before.before) a.file.now _ _ _ a.to s.requires.whole s.requires.location c.cut_at-at.ensures (omega (arith, s.requires.room)) c.payload_length.ensures c.put_header.ensures (rw el at c.put_word.ensures) c.put_words.ensures,
-      cut_next a.model.now a.l (is_cut c.before.before.before.before.before.before.before.before.before.before.before.before.before.before) a.to c.field_length.ensures,
-    )
+    let a = c.args in
+    let yes = sym (told (goal.at.returns c).After-same) ∙ c.if-same.false in
+    let el = to_z_pos w32 {n = a.l} (omega (arith, c.requires.location, c.requires.whole.head.L_small)) in
+    record {
+      bytes = cut_put a.model.now a.l yes a.file.now _ _ _ a.to c.requires.whole c.requires.location c.cut_at-at.ensures (omega (arith, c.requires.room)) c.payload_length.ensures c.put_header.ensures (rw el at c.put_word.ensures) c.put_words.ensures;
+      next = cut_next a.model.now a.l yes a.to c.field_length.ensures;
+    }

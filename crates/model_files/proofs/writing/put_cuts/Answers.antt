@@ -1,9 +1,6 @@
 -- The invariant: the fields of the cuts of the locations passed stand behind those of the records, and end at the position.
-use Prim.Native.Nat.{◌-◌, ◌≤◌}
 use native.Mathlib.Omega.{arith}
-use Rattle.integers.proofs.Filling.{Written, written_none, written_more}
-use Rattle.files.specs.ModelFile.{cuts_from}
-use Rattle.files.proofs.ModelLength.{cut_field_of}
+use Rattle.integers.proofs.Filling.{written_none, written_more}
 use Rattle.model_files.proofs.ModelWriting.{cuts_room, cut_place, cut_room, cuts_written}
 use Rattle.model_files.proofs.writing.put_cuts.Goals as goal
 
@@ -23,10 +20,12 @@ pub overflow_add-l : goal.overflow_add-l
 overflow_add-l c = record { fits = omega (arith, c.locations-locations.ensures, c.requires.whole.head.L_small) }
 
 pub loop-l-preserved : goal.loop-l-preserved
-loop-l-preserved c = (omega arith, written_more _ _ _ (omega (arith, cuts_room _ _ c.requires)) c.loop-l.invariant.1 c.put_cut-to.ensures.0 c.put_cut-to.ensures.1)
+loop-l-preserved c = (omega arith, written_more _ _ _ (omega (arith, cuts_room _ _ c.requires)) c.loop-l.invariant.1 c.put_cut-to.ensures.bytes c.put_cut-to.ensures.next)
 
 pub shape_of-file : goal.shape_of-file
 shape_of-file c = cut_place _ _ c.requires (omega (arith, c.locations-locations.ensures, c.loop-l.invariant.0)) c.loop-l.invariant.1
 
 pub returns : goal.returns
-returns c = cuts_written _ _ c.requires (omega (arith, c.locations-locations.ensures, c.loop-l.invariant.0, c.loop-l-test.false)) c.loop-l.invariant.1
+returns c =
+    let w = cuts_written _ _ c.requires (omega (arith, c.locations-locations.ensures, c.loop-l.invariant.0, c.loop-l-test.false)) c.loop-l.invariant.1 in
+    record { bytes = w.0; end = w.1 }

@@ -1,10 +1,8 @@
 -- The invariant: the fields of the cuts of the locations passed stand behind those of the records, and end at the position.
 use Prim.Native.Nat.{◌-◌, ◌≤◌}
-use native.Mathlib.Omega.{arith}
-use Rattle.integers.proofs.Filling.{Written, written_none, written_more}
+use Rattle.integers.proofs.Filling.{Written}
 use Rattle.files.specs.ModelFile.{cuts_from}
 use Rattle.files.proofs.ModelLength.{cut_field_of}
-use Rattle.model_files.proofs.ModelWriting.{cuts_room, cut_place, cut_room, cuts_written}
 use Rattle.model_files.proofs.writing.put_cuts.Given as goal
 
 abbrev pub invariant-loop-l : goal.invariant-loop-l

@@ -1,11 +1,9 @@
 -- The invariant: the fields of the records passed stand behind the position, and end at the next.
-use mathlib.Core.Path.{◌≡◌, refl, subst}
-use Prim.Native.Nat.{ℕ, ◌+◌, ◌*◌, ◌-◌, ◌≤◌}
+use mathlib.Core.Path.{refl, subst}
+use Prim.Native.Nat.{ℕ, ◌+◌, ◌*◌, ◌≤◌}
 use native.Mathlib.Omega.{arith}
-use borrow.Author.Rules.{rules}
 use lib.ListN.{length}
-use Rattle.integers.proofs.Filling.{Written, written_none, written_more}
-use Rattle.model_files.specs.Room.{field_of}
+use Rattle.integers.proofs.Filling.{written_none, written_more}
 use Rattle.model_files.proofs.ModelWriting.{length_record, run_room, run_place, record_room, run_written}
 use Rattle.model_files.proofs.writing.put_run.Goals as goal
 
@@ -20,24 +18,21 @@ put_record-requires c = record_room _ _ _ c.requires c.loop-i-test.true c.loop-i
 
 pub overflow_add-place : goal.overflow_add-place
 overflow_add-place c =
-    let s = c.before.before.before.before.before.before.before.before in
     let l = c.loop-i in
-    record { fits = omega (arith, (record_room _ s.args.tag _ s.requires c.loop-i-test.true l.invariant.1 l.invariant.2).0, s.well_formed) }
+    record { fits = omega (arith, (record_room _ c.args.tag _ c.requires c.loop-i-test.true l.invariant.1 l.invariant.2).0, c.well_formed) }
 
 pub overflow_add-next : goal.overflow_add-next
 overflow_add-next c =
-    let s = c.before.before.before.before.before.before.before.before in
     let l = c.loop-i in
-    let room = (record_room _ s.args.tag _ s.requires c.loop-i-test.true l.invariant.1 l.invariant.2).1 in
-    record { fits = omega (arith, c.field_length-len.ensures, room, (run_place _ s.args.tag _ s.requires l.invariant.0 l.invariant.2).0, s.well_formed) }
+    let room = (record_room _ c.args.tag _ c.requires c.loop-i-test.true l.invariant.1 l.invariant.2).1 in
+    record { fits = omega (arith, c.field_length-len.ensures, room, (run_place _ c.args.tag _ c.requires l.invariant.0 l.invariant.2).0, c.well_formed) }
 
 pub loop-i-preserved : goal.loop-i-preserved
 loop-i-preserved c =
-    let s = c.before.before.before.before.before.before.before.before in
     let l = c.loop-i in
-    let r = run_room _ s.args.tag _ s.requires in
-    let there = (record_room _ s.args.tag _ s.requires c.loop-i-test.true l.invariant.1 l.invariant.2).0 in
-    (omega arith, omega (arith, l.invariant.1), written_more _ _ _ r l.invariant.2 (rw l.invariant.1 at c.put_record.ensures) (omega (arith, c.field_length-len.ensures, length_record s.args.model.now s.args.tag (s.args.from + l.i * s.args.w) s.args.w (subst (λ (k : ℕ). k + s.args.w ≤ length s.args.model.now) l.invariant.1 there))))
+    let r = run_room _ c.args.tag _ c.requires in
+    let there = (record_room _ c.args.tag _ c.requires c.loop-i-test.true l.invariant.1 l.invariant.2).0 in
+    (omega arith, omega (arith, l.invariant.1), written_more _ _ _ r l.invariant.2 (rw l.invariant.1 at c.put_record.ensures) (omega (arith, c.field_length-len.ensures, length_record c.args.model.now c.args.tag (c.args.from + l.i * c.args.w) c.args.w (subst (λ (k : ℕ). k + c.args.w ≤ length c.args.model.now) l.invariant.1 there))))
 
 pub shape_of-file : goal.shape_of-file
 shape_of-file c = (run_place _ c.args.tag _ c.requires c.loop-i.invariant.0 c.loop-i.invariant.2).0

@@ -1,12 +1,8 @@
 -- The invariant: the fields of the records passed stand behind the position, and end at the next.
-use mathlib.Core.Path.{◌≡◌, refl, subst}
-use Prim.Native.Nat.{ℕ, ◌+◌, ◌*◌, ◌-◌, ◌≤◌}
-use native.Mathlib.Omega.{arith}
-use borrow.Author.Rules.{rules}
-use lib.ListN.{length}
-use Rattle.integers.proofs.Filling.{Written, written_none, written_more}
+use mathlib.Core.Path.{◌≡◌}
+use Prim.Native.Nat.{◌+◌, ◌*◌, ◌-◌, ◌≤◌}
+use Rattle.integers.proofs.Filling.{Written}
 use Rattle.model_files.specs.Room.{field_of}
-use Rattle.model_files.proofs.ModelWriting.{length_record, run_room, run_place, record_room, run_written}
 use Rattle.model_files.proofs.writing.put_run.Given as goal
 
 abbrev pub invariant-loop-i : goal.invariant-loop-i

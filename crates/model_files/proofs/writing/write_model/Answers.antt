@@ -1,6 +1,5 @@
 -- A refusal, or the whole file.
 use mathlib.Core.Path.{sym, ◌∙◌}
-use borrow.Author.Rules.{rules}
 use Rattle.plant.proofs.Writing.{write_refused, write_done}
 use Rattle.files.specs.ModelFile.{write_model_call}
 use Rattle.model_files.proofs.ModelWriting.{write_yes}
@@ -15,4 +14,4 @@ put_model-requires c = write_yes _ _ (sym c.write_questions-q.ensures ∙ c.if-q
 
 pub returns : goal.returns
 unfolding write_model_call
-returns c = write_done _ _ c.write_questions-q.ensures c.if-q-ne0.false c.put_model.ensures.1 c.put_model.ensures.0
+returns c = write_done _ _ c.write_questions-q.ensures c.if-q-ne0.false c.put_model.ensures.count c.put_model.ensures.bytes

@@ -1,7 +1,6 @@
 -- 40, once the model's questions are yes.
 use mathlib.Core.Path.{sym, ap, ◌∙◌}
 use Prim.Native.Nat.{ℕ}
-use borrow.Author.Rules.{rules}
 use lib.Dec.{leb}
 use Rattle.plant.specs.Ask.{ask}
 use Rattle.plant.proofs.Asks.{go, halt}

@@ -2,7 +2,6 @@
 use mathlib.Core.Path.{sym, ap₂, ◌∙◌}
 use Prim.Native.Nat.{ℕ}
 use native.Mathlib.Omega.{arith}
-use borrow.Author.Rules.{rules}
 use Rattle.files.specs.Fields.{field_place}
 use Rattle.plant.proofs.Asks.{go, halt}
 use Rattle.files.specs.TableFile.{fields_questions}

@@ -2,7 +2,6 @@
 use mathlib.Core.Path.{◌∙◌}
 use Prim.Native.Nat.{◌*◌}
 use native.Mathlib.Omega.{arith}
-use borrow.Author.Rules.{rules}
 use lib.IntN.{pos}
 use lib.ListN.{length-set}
 use Rattle.files.specs.Bytes.{words_at}
@@ -14,10 +13,9 @@ pub copy_words-requires : goal.copy_words-requires
 copy_words-requires c = (omega (arith, c.requires.0), simp length-set (omega (arith, c.requires.1)))
 
 pub shape_of-piece : goal.shape_of-piece
-shape_of-piece c = c.copy_words.auto.1.1.1.0 ∙ length-set c.args.piece.now 0 (pos 1)
+shape_of-piece c = c.copy_words.auto.words ∙ length-set c.args.piece.now 0 (pos 1)
 
 pub returns : goal.returns
 returns c =
-    let s = c.before.before.before.before in
-    let a = s.args in
-    piece_filled a.piece.now _ (words_at a.file.now a.from (2 * a.n)) (2 * a.n) s.requires.1 (length_words a.file.now a.from (2 * a.n)) c.copy_words.ensures
+    let a = c.args in
+    piece_filled a.piece.now _ (words_at a.file.now a.from (2 * a.n)) (2 * a.n) c.requires.1 (length_words a.file.now a.from (2 * a.n)) c.copy_words.ensures

@@ -2,7 +2,6 @@
 use mathlib.Core.Path.{sym, ap, ◌∙◌}
 use lib.IntN.{nat_abs}
 use native.Mathlib.Omega.{arith}
-use borrow.Author.Rules.{rules}
 use Rattle.table_files.proofs.TableReading.{index_three, index_none}
 use Rattle.table_files.proofs.reading.index_at.Goals as goal
 

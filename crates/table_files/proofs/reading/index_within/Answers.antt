@@ -1,7 +1,6 @@
 -- By how many words a place has.
 use mathlib.Core.Path.{sym, ap, ◌∙◌}
 use lib.IntN.{pos}
-use borrow.Author.Rules.{rules}
 use Rattle.integers.specs.Words.{within}
 use Rattle.table_files.proofs.TableReading.{index_three, index_none, none_within}
 use Rattle.table_files.proofs.reading.index_within.Goals as goal

@@ -1,66 +1,78 @@
 -- Location, face and piece exist; then the key is compared.
 use mathlib.Core.Path.{◌≡◌, sym, ap, ◌∙◌}
-use mathlib.Core.Bool.{true}
+use mathlib.Core.Bool.{Bool, true}
+use mathlib.Core.List.{List}
 use Prim.Native.Nat.{ℕ, ◌*◌, ◌-◌}
 use native.Mathlib.Omega.{arith}
-use borrow.Author.Tests.{not-true, not-false}
-use borrow.Author.Rules.{rules}
-use lib.Dec.{leb}
-use lib.IntN.{pos, nat_abs}
+use lib.IntN.{ℤ, pos, nat_abs}
 use Rattle.integers.specs.Words.{within}
 use Rattle.integers.proofs.Tests.{true_is}
 use Rattle.integers.proofs.Counted.{within_abs}
-use Rattle.files.specs.Bytes.{words_at}
 use Rattle.plant.specs.Model.{n#, L#}
 use Rattle.plant.specs.Pieces.{per_face}
 use Rattle.plant.proofs.Passed.{within_nonneg}
 use Rattle.plant.proofs.Pieces.{per_face_most, per_face_least}
-use Rattle.files.specs.TableFile.{piece_field_size, place_ok}
 use Rattle.table_files.specs.TableRoom.{location_word, face_word, index_word, KeyAt}
 use Rattle.files.proofs.PlaceWords.{place_least}
 use Rattle.table_files.proofs.TableReading.{place_no_location, place_no_face, place_no_piece, place_by_key, key_there, key_few, least_no, least_late, least_made}
 use Rattle.table_files.proofs.reading.next_least.Goals as goal
+use Rattle.table_files.proofs.reading.next_least.Goals.{Else-not-index_within}
 
--- the three tests
-location_tested : (c : goal.After-number_within) → let a = c.args in within (pos 0) (pos (L# a.model.now - 1)) (location_word a.file.now a.start) ≡ c.number_within.result
-location_tested c = let a = c.args in
-    sym (c.number_within.ensures ∙ ap (λ (x : ℕ). within (pos 0) (pos (x - 1)) (location_word a.file.now a.start)) c.locations.ensures)
+-- the three tests, each of a number of the model as the code has it
+module _ (m : List ℤ) (s : List ℕ) (start : ℕ) {x : ℕ} {r : Bool} where
+  location_tested : x ≡ L# m → r ≡ within (pos 0) (pos (x - 1)) (location_word s start) → within (pos 0) (pos (L# m - 1)) (location_word s start) ≡ r
+  location_tested e h = sym (h ∙ ap (λ (x : ℕ). within (pos 0) (pos (x - 1)) (location_word s start)) e)
 
-face_tested : (c : goal.After-number_within-2) → let a = c.args in within (pos 0) (pos (2 * n# a.model.now - 1)) (face_word a.file.now a.start) ≡ c.number_within-2.result
-face_tested c = let a = c.args in
-    sym (c.number_within-2.ensures ∙ ap (λ (x : ℕ). within (pos 0) (pos (2 * x - 1)) (face_word a.file.now a.start)) c.variables-faces.ensures)
+  face_tested : x ≡ n# m → r ≡ within (pos 0) (pos (2 * x - 1)) (face_word s start) → within (pos 0) (pos (2 * n# m - 1)) (face_word s start) ≡ r
+  face_tested e h = sym (h ∙ ap (λ (x : ℕ). within (pos 0) (pos (2 * x - 1)) (face_word s start)) e)
 
-piece_tested : (c : goal.After-index_within) → let a = c.args in within (pos 0) (pos (per_face a.model.now (nat_abs (location_word a.file.now a.start)) - 1)) (index_word a.file.now a.start a.width) ≡ c.index_within.result
-piece_tested c = let a = c.args in
-    sym (c.index_within.ensures ∙ ap (λ (x : ℕ). within (pos 0) (pos (x - 1)) (index_word a.file.now a.start a.width)) (c.per_face-per.ensures ∙ ap (per_face a.model.now) c.number_at.ensures))
+  piece_tested : (width : ℕ) {l : ℕ} → x ≡ per_face m l → l ≡ nat_abs (location_word s start) → r ≡ within (pos 0) (pos (x - 1)) (index_word s start width)
+      → within (pos 0) (pos (per_face m (nat_abs (location_word s start)) - 1)) (index_word s start width) ≡ r
+  piece_tested width e el h = sym (h ∙ ap (λ (x : ℕ). within (pos 0) (pos (x - 1)) (index_word s start width)) (e ∙ ap (per_face m) el))
 
--- which said yes
-is_location : (c : goal.Else-not-number_within) → let a = c.args in within (pos 0) (pos (L# a.model.now - 1)) (location_word a.file.now a.start) ≡ true
-is_location c = location_tested c.before ∙ not-false _ c.if-not-number_within.false-raw
+-- all three said yes
+named : (c : Else-not-index_within) → let a = c.args in
+    (within (pos 0) (pos (L# a.model.now - 1)) (location_word a.file.now a.start) ≡ true)
+    × (within (pos 0) (pos (2 * n# a.model.now - 1)) (face_word a.file.now a.start) ≡ true)
+    × (within (pos 0) (pos (per_face a.model.now (nat_abs (location_word a.file.now a.start)) - 1)) (index_word a.file.now a.start a.width) ≡ true)
+named c = let a = c.args in (
+      location_tested a.model.now a.file.now a.start c.locations.ensures c.number_within.ensures ∙ c.if-not-number_within.false,
+      face_tested a.model.now a.file.now a.start c.variables-faces.ensures c.number_within-2.ensures ∙ c.if-not-number_within-2.false,
+      piece_tested a.model.now a.file.now a.start a.width c.per_face-per.ensures c.number_at.ensures c.index_within.ensures ∙ c.if-not-index_within.false,
+    )
 
-is_face : (c : goal.Else-not-number_within-2) → let a = c.args in within (pos 0) (pos (2 * n# a.model.now - 1)) (face_word a.file.now a.start) ≡ true
-is_face c = face_tested c.before ∙ not-false _ c.if-not-number_within-2.false-raw
-
-is_piece : (c : goal.Else-not-index_within) → let a = c.args in within (pos 0) (pos (per_face a.model.now (nat_abs (location_word a.file.now a.start)) - 1)) (index_word a.file.now a.start a.width) ≡ true
-is_piece c = piece_tested c.before ∙ not-false _ c.if-not-index_within.false-raw
+-- so the place names a piece
+is_key : (c : Else-not-index_within) → let a = c.args in KeyAt a.model.now a.places.now a.file.now a.start a.width
+is_key c = let y = named c in key_there _ _ _ c.args.least y.0 y.1 c.requires.0.width_is c.requires.0 c.requires.1 y.2
 
 pub number_within-requires : goal.number_within-requires
 number_within-requires c = (omega (arith, c.requires.1, c.requires.0.width_is, place_least c.args.model.now), omega (arith, c.locations.ensures, c.requires.0.whole.head.L_small))
 
 pub returns-then-not-number_within : goal.returns-then-not-number_within
-returns-then-not-number_within c = least_no _ _ _ (place_no_location _ _ _ _ (location_tested c.before ∙ not-true _ c.if-not-number_within.true-raw))
+returns-then-not-number_within c =
+    let a = c.args in
+    least_no _ _ _ (place_no_location _ _ _ _ (location_tested a.model.now a.file.now a.start c.locations.ensures c.number_within.ensures ∙ c.if-not-number_within.true))
 
 pub number_within-requires-2 : goal.number_within-requires-2
 number_within-requires-2 c = (omega (arith, c.requires.1, c.requires.0.width_is, place_least c.args.model.now), omega (arith, c.variables-faces.ensures, c.requires.0.whole.head.n_small))
 
 pub returns-then-not-number_within-2 : goal.returns-then-not-number_within-2
-returns-then-not-number_within-2 c = least_no _ _ _ (place_no_face _ _ _ _ (is_location c.before.before.before) (face_tested c.before ∙ not-true _ c.if-not-number_within-2.true-raw))
+returns-then-not-number_within-2 c =
+    let a = c.args in
+    let l = location_tested a.model.now a.file.now a.start c.locations.ensures c.number_within.ensures ∙ c.if-not-number_within.false in
+    least_no _ _ _ (place_no_face _ _ _ _ l (face_tested a.model.now a.file.now a.start c.variables-faces.ensures c.number_within-2.ensures ∙ c.if-not-number_within-2.true))
 
 pub number_at-requires : goal.number_at-requires
-number_at-requires c = (omega (arith, c.requires.1, c.requires.0.width_is, place_least c.args.model.now), within_nonneg (L# c.args.model.now - 1) (location_word c.args.file.now c.args.start) (true_is (is_location c.before.before.before)))
+number_at-requires c =
+    let a = c.args in
+    let l = location_tested a.model.now a.file.now a.start c.locations.ensures c.number_within.ensures ∙ c.if-not-number_within.false in
+    (omega (arith, c.requires.1, c.requires.0.width_is, place_least a.model.now), within_nonneg (L# a.model.now - 1) (location_word a.file.now a.start) (true_is l))
 
 pub per_face-per-requires : goal.per_face-per-requires
-per_face-per-requires c = (c.requires.0.whole, c.requires.0.width_is, omega (arith, c.number_at.ensures, within_abs (location_word c.args.file.now c.args.start) (L# c.args.model.now - 1) (true_is (is_location c.before.before.before.before)), c.requires.0.whole.head.L_positive))
+per_face-per-requires c =
+    let a = c.args in
+    let l = location_tested a.model.now a.file.now a.start c.locations.ensures c.number_within.ensures ∙ c.if-not-number_within.false in
+    (c.requires.0.whole, c.requires.0.width_is, omega (arith, c.number_at.ensures, within_abs (location_word a.file.now a.start) (L# a.model.now - 1) (true_is l), c.requires.0.whole.head.L_positive))
 
 pub overflow_sub-per : goal.overflow_sub-per
 overflow_sub-per c = omega (arith, c.per_face-per.ensures, per_face_least c.args.model.now c.number_at.result)
@@ -69,24 +81,25 @@ pub index_within-requires : goal.index_within-requires
 index_within-requires c = (c.requires.1, omega (arith, c.per_face-per.ensures, per_face_most c.args.model.now c.number_at.result))
 
 pub returns-then-not-index_within : goal.returns-then-not-index_within
-returns-then-not-index_within c = least_no _ _ _ (place_no_piece _ _ _ _ (is_location c.before.before.before.before.before.before.before) (is_face c.before.before.before.before) c.requires.0.width_is (piece_tested c.before ∙ not-true _ c.if-not-index_within.true-raw))
-
--- the place names a piece
-is_key : (c : goal.Else-not-index_within) → let a = c.args in KeyAt a.model.now a.places.now a.file.now a.start a.width
-is_key c = key_there _ _ _ c.args.least (is_location c.before.before.before.before.before.before.before) (is_face c.before.before.before.before) c.requires.0.width_is c.requires.0 c.requires.1 (is_piece c)
+returns-then-not-index_within c =
+    let a = c.args in
+    let l = location_tested a.model.now a.file.now a.start c.locations.ensures c.number_within.ensures ∙ c.if-not-number_within.false in
+    let f = face_tested a.model.now a.file.now a.start c.variables-faces.ensures c.number_within-2.ensures ∙ c.if-not-number_within-2.false in
+    least_no _ _ _ (place_no_piece _ _ _ _ l f c.requires.0.width_is (piece_tested a.model.now a.file.now a.start a.width c.per_face-per.ensures c.number_at.ensures c.index_within.ensures ∙ c.if-not-index_within.true))
 
 pub key_at-key-requires : goal.key_at-key-requires
-key_at-key-requires c = is_key c
+key_at-key-requires c = is_key (goal.at.key_at-key-requires c).Else-not-index_within
 
--- the comparison
-by_key : (c : goal.After-key_at-key) → let a = c.args in leb a.least c.key_at-key.result ≡ place_ok a.model.now (words_at a.file.now a.start (piece_field_size a.model.now)) a.least
-by_key c = place_by_key _ _ _ _ (is_location c.before.before.before.before.before.before.before.before) (is_face c.before.before.before.before.before) c.requires.0.width_is (is_piece c.before) c.key_at-key.ensures
-
+-- then the comparison decides
 pub returns-then-key-least : goal.returns-then-key-least
-returns-then-key-least c = least_late _ _ _ (by_key c.before) c.if-key-least.true
+returns-then-key-least c =
+    let y = named (goal.at.returns-then-key-least c).Else-not-index_within in
+    least_late _ _ _ (place_by_key _ _ _ _ y.0 y.1 c.requires.0.width_is y.2 c.key_at-key.ensures) c.if-key-least.true
 
 pub overflow_add-result : goal.overflow_add-result
-overflow_add-result c = record { fits = omega (arith, c.key_at-key.ensures, key_few (is_key c.before.before)) }
+overflow_add-result c = record { fits = omega (arith, c.key_at-key.ensures, key_few (is_key (goal.at.overflow_add-result c).Else-not-index_within)) }
 
 pub returns : goal.returns
-returns c = least_made _ _ _ (by_key c.before) c.if-key-least.false c.key_at-key.ensures
+returns c =
+    let y = named (goal.at.returns c).Else-not-index_within in
+    least_made _ _ _ (place_by_key _ _ _ _ y.0 y.1 c.requires.0.width_is y.2 c.key_at-key.ensures) c.if-key-least.false c.key_at-key.ensures

@@ -1,5 +1,4 @@
 -- The word that a call gave is what stands in the file.
-use borrow.Author.Rules.{rules}
 use Rattle.integers.proofs.Signed.{got32}
 use Rattle.table_files.proofs.TableReading.{natural_of}
 use Rattle.table_files.proofs.reading.number_at.Goals as goal

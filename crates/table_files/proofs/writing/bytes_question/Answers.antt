@@ -1,7 +1,6 @@
 -- The longest file's length is compared.
 use mathlib.Core.Path.{ap, ◌∙◌}
 use Prim.Native.Nat.{ℕ}
-use borrow.Author.Rules.{rules}
 use lib.Dec.{leb}
 use Rattle.plant.specs.Ask.{ask}
 use Rattle.table_files.proofs.writing.bytes_question.Goals as goal

@@ -1,6 +1,5 @@
 -- A field for each piece, behind the head field.
 use native.Mathlib.Omega.{arith}
-use borrow.Author.Rules.{rules}
 use Rattle.files.proofs.TableSizes.{pieces_few}
 use Rattle.table_files.proofs.TableWriting.{sizes_fit, size_few, longest_made}
 use Rattle.table_files.proofs.writing.longest_file.Goals as goal

@@ -1,13 +1,15 @@
 -- The invariant: the count is that of the pieces passed, by key.
-use mathlib.Core.Path.{◌≡◌, refl, ap, ◌∙◌}
-use Prim.Native.Nat.{◌*◌, ◌-◌, ◌≤◌}
+use mathlib.Core.Path.{refl, ap, ◌∙◌}
 use native.Mathlib.Omega.{arith}
 use borrow.Author.Rules.{rules}
+use lib.IntN.{pos}
+use lib.ListN.{get_or}
+use mir.Syntax.{w32}
+use mir.Val.{SFits}
 use Rattle.integers.proofs.Signed.{got32}
-use Rattle.plant.specs.Model.{n#}
 use Rattle.plant.specs.Tables.{face_size}
 use Rattle.files.proofs.TableSizes.{pieces_few}
-use Rattle.table_files.proofs.TableWriting.{row_inside, row_few, count_few, next_row, counted_below, counted_none, counted_more, counted_all}
+use Rattle.table_files.proofs.TableWriting.{row_inside, row_few, count_few, next_row, counted_none, counted_more, counted_all}
 use Rattle.table_files.proofs.writing.present_pieces.Goals as goal
 
 pub loop-k-init : goal.loop-k-init
@@ -35,7 +37,8 @@ pub loop-k-preserved : goal.loop-k-preserved
 loop-k-preserved c =
     let p = c.loop-k in
     let size = c.face_size-size.ensures ∙ ap face_size c.variables.ensures in
-    (omega arith, next_row _ _ size p.invariant.1, counted_more _ _ _ p.invariant.1 p.invariant.2 (rw (got32 _ c.presence-arg-1.given) at c.presence-count.ensures.0))
+    let f : SFits w32 (get_or c.args.table.now p.at (pos 0)) = search rules in
+    (omega arith, next_row _ _ size p.invariant.1, counted_more _ _ _ p.invariant.1 p.invariant.2 (rw (got32 _ f.sfits) at c.presence-count.ensures.0))
 
 pub returns : goal.returns
 returns c = counted_all _ c.requires.0 refl c.piece_count-pieces.ensures _ c.loop-k.invariant.0 c.loop-k-test.false c.loop-k.invariant.2

@@ -1,11 +1,9 @@
 -- The invariant: the fields of the pieces passed stand behind the position, and end at the next.
 use mathlib.Core.Path.{refl}
-use Prim.Native.Nat.{◌-◌, ◌≤◌}
 use native.Mathlib.Omega.{arith}
-use borrow.Author.Rules.{rules}
 use Rattle.plant.proofs.Tables.{pieces-most}
-use Rattle.integers.proofs.Filling.{Written, written_none, written_more}
-use Rattle.files.proofs.TableSizes.{location_counted, pieces_few, fields_of}
+use Rattle.integers.proofs.Filling.{written_none, written_more}
+use Rattle.files.proofs.TableSizes.{location_counted, pieces_few}
 use Rattle.table_files.proofs.TableWriting.{location_room, piece_room, location_written}
 use Rattle.table_files.proofs.writing.put_location.Goals as goal
 
@@ -25,10 +23,12 @@ pub overflow_add-q : goal.overflow_add-q
 overflow_add-q c = record { fits = omega (arith, c.pieces-pieces.ensures, pieces-most c.args.model.now c.args.l c.requires.whole.head.n_small) }
 
 pub loop-q-preserved : goal.loop-q-preserved
-loop-q-preserved c = (omega arith, written_more _ _ _ (omega (arith, c.requires.room)) c.loop-q.invariant.1 c.put_piece-next.ensures.0 c.put_piece-next.ensures.1)
+loop-q-preserved c = (omega arith, written_more _ _ _ (omega (arith, c.requires.room)) c.loop-q.invariant.1 c.put_piece-next.ensures.bytes c.put_piece-next.ensures.next)
 
 pub shape_of-file : goal.shape_of-file
 shape_of-file c = (location_room _ _ _ c.requires (omega (arith, c.pieces-pieces.ensures, c.loop-q.invariant.0)) c.loop-q.invariant.1).0
 
 pub returns : goal.returns
-returns c = location_written _ _ _ c.requires (omega (arith, c.pieces-pieces.ensures, c.loop-q.invariant.0, c.loop-q-test.false)) c.loop-q.invariant.1
+returns c =
+    let w = location_written _ _ _ c.requires (omega (arith, c.pieces-pieces.ensures, c.loop-q.invariant.0, c.loop-q-test.false)) c.loop-q.invariant.1 in
+    record { bytes = w.0; end = w.1 }

@@ -1,12 +1,7 @@
 -- The invariant: the fields of the pieces passed stand behind the position, and end at the next.
-use mathlib.Core.Path.{refl}
 use Prim.Native.Nat.{◌-◌, ◌≤◌}
-use native.Mathlib.Omega.{arith}
-use borrow.Author.Rules.{rules}
-use Rattle.plant.proofs.Tables.{pieces-most}
-use Rattle.integers.proofs.Filling.{Written, written_none, written_more}
-use Rattle.files.proofs.TableSizes.{location_counted, pieces_few, fields_of}
-use Rattle.table_files.proofs.TableWriting.{location_room, piece_room, location_written}
+use Rattle.integers.proofs.Filling.{Written}
+use Rattle.files.proofs.TableSizes.{fields_of}
 use Rattle.table_files.proofs.writing.put_location.Given as goal
 
 abbrev pub invariant-loop-q : goal.invariant-loop-q

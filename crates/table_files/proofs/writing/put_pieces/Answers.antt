@@ -1,12 +1,9 @@
 -- The invariant: the fields of the locations passed stand behind the head field, and end at the position; so many pieces stand before.
-use mathlib.Core.Path.{◌≡◌, sym, ap₂, ◌∙◌}
-use Prim.Native.Nat.{◌+◌, ◌-◌, ◌≤◌}
+use mathlib.Core.Path.{sym, ap₂, ◌∙◌}
+use Prim.Native.Nat.{◌+◌}
 use native.Mathlib.Omega.{arith}
-use borrow.Author.Rules.{rules}
-use Rattle.plant.specs.Tables.{pieces_before}
 use Rattle.plant.proofs.PieceCases.{before_more, before_none}
-use Rattle.files.specs.TableFile.{location_fields}
-use Rattle.integers.proofs.Filling.{Written, written_none, written_more}
+use Rattle.integers.proofs.Filling.{written_none, written_more}
 use Rattle.files.proofs.TableSizes.{location_counted, pieces_few}
 use Rattle.table_files.proofs.TableWriting.{head_room, pieces_room, room_of_location, all_written}
 use Rattle.table_files.proofs.writing.put_pieces.Goals as goal
@@ -24,10 +21,12 @@ pub overflow_add-before : goal.overflow_add-before
 overflow_add-before c = record { fits = omega (arith, c.loop-l.invariant.1, c.pieces-before.ensures, location_counted c.args.model.now c.loop-l.l (omega (arith, c.locations-locations.ensures)), pieces_few _ c.requires.whole) }
 
 pub loop-l-preserved : goal.loop-l-preserved
-loop-l-preserved c = (omega arith, ap₂ ◌+◌ c.loop-l.invariant.1 c.pieces-before.ensures ∙ sym (before_more _ _), written_more _ _ _ (head_room _ _ _ c.requires) c.loop-l.invariant.2 c.put_location-to.ensures.0 c.put_location-to.ensures.1)
+loop-l-preserved c = (omega arith, ap₂ ◌+◌ c.loop-l.invariant.1 c.pieces-before.ensures ∙ sym (before_more _ _), written_more _ _ _ (head_room _ _ _ c.requires) c.loop-l.invariant.2 c.put_location-to.ensures.bytes c.put_location-to.ensures.end)
 
 pub shape_of-file : goal.shape_of-file
 shape_of-file c = (pieces_room _ _ _ c.requires (omega (arith, c.locations-locations.ensures, c.loop-l.invariant.0)) c.loop-l.invariant.2).0
 
 pub returns : goal.returns
-returns c = all_written _ _ _ c.requires (omega (arith, c.locations-locations.ensures, c.loop-l.invariant.0, c.loop-l-test.false)) c.loop-l.invariant.2
+returns c =
+    let w = all_written _ _ _ c.requires (omega (arith, c.locations-locations.ensures, c.loop-l.invariant.0, c.loop-l-test.false)) c.loop-l.invariant.2 in
+    record { bytes = w.0; end = w.1 }

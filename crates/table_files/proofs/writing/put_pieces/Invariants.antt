@@ -1,14 +1,9 @@
 -- The invariant: the fields of the locations passed stand behind the head field, and end at the position; so many pieces stand before.
-use mathlib.Core.Path.{◌≡◌, sym, ap₂, ◌∙◌}
-use Prim.Native.Nat.{◌+◌, ◌-◌, ◌≤◌}
-use native.Mathlib.Omega.{arith}
-use borrow.Author.Rules.{rules}
+use mathlib.Core.Path.{◌≡◌}
+use Prim.Native.Nat.{◌-◌, ◌≤◌}
 use Rattle.plant.specs.Tables.{pieces_before}
-use Rattle.plant.proofs.PieceCases.{before_more, before_none}
 use Rattle.files.specs.TableFile.{location_fields}
-use Rattle.integers.proofs.Filling.{Written, written_none, written_more}
-use Rattle.files.proofs.TableSizes.{location_counted, pieces_few}
-use Rattle.table_files.proofs.TableWriting.{head_room, pieces_room, room_of_location, all_written}
+use Rattle.integers.proofs.Filling.{Written}
 use Rattle.table_files.proofs.writing.put_pieces.Given as goal
 
 abbrev pub invariant-loop-l : goal.invariant-loop-l

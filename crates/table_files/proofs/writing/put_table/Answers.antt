@@ -2,7 +2,6 @@
 use mathlib.Core.Path.{◌∙◌}
 use Prim.Native.Nat.{◌<◌}
 use native.Mathlib.Omega.{arith}
-use borrow.Author.Rules.{rules}
 use mir.Syntax.{w32}
 use mir.Facts.{to_z_pos}
 use Rattle.integers.proofs.Signed.{fits32}
@@ -16,20 +15,20 @@ put_header-requires c =
 
 pub overflow_cast-present_pieces : goal.overflow_cast-present_pieces
 overflow_cast-present_pieces c =
-    let s = c.before.before.before.before.before.before.before.before in
-    fits32 (omega (arith, c.present_pieces.ensures, present_few s.args.model.now s.args.table.now s.requires.whole))
+    fits32 (omega (arith, c.present_pieces.ensures, present_few c.args.model.now c.args.table.now c.requires.whole))
 
 pub put_word-requires : goal.put_word-requires
 put_word-requires c =
-    omega (arith, longest_least c.args.model.now, c.requires.bytes, c.put_header.auto.0)
+    omega (arith, longest_least c.args.model.now, c.requires.bytes, c.put_header.auto.out)
 
 pub returns : goal.returns
 returns c =
-    let s = c.before.before.before.before.before.before.before.before.before.before.before.before.before.before.before in
-    let a = s.args in
+    let a = c.args in
     let p = c.present_pieces in
-    let few : p.result < 2147483648 = omega (arith, p.ensures, present_few a.model.now a.table.now s.requires.whole) in (
-      file_put a.model.now a.table.now a.file.now c.put_header.new.0 c.put_word.new.0 _ c.payload_length.ensures c.put_header.ensures
-          (rw (to_z_pos w32 {n = p.result} few, p.ensures) at c.put_word.ensures) c.put_pieces.ensures.0,
-      c.put_pieces.ensures.1 ∙ file_length_lem a.model.now a.table.now,
-    )
+    let few : p.result < 2147483648 = omega (arith, p.ensures, present_few a.model.now a.table.now c.requires.whole) in
+    record {
+      bytes =
+          file_put a.model.now a.table.now a.file.now c.put_header.new.out c.put_word.new.out _ c.payload_length.ensures c.put_header.ensures
+          (rw (to_z_pos w32 {n = p.result} few, p.ensures) at c.put_word.ensures) c.put_pieces.ensures.bytes;
+      count = c.put_pieces.ensures.end ∙ file_length_lem a.model.now a.table.now;
+    }

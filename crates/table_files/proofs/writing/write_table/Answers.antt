@@ -15,4 +15,4 @@ put_table-requires c = write_yes _ _ _ (sym c.write_questions-q.ensures ∙ c.if
 
 pub returns : goal.returns
 unfolding write_table_call
-returns c = write_done _ _ c.write_questions-q.ensures c.if-q-ne0.false c.put_table.ensures.1 c.put_table.ensures.0
+returns c = write_done _ _ c.write_questions-q.ensures c.if-q-ne0.false c.put_table.ensures.count c.put_table.ensures.bytes
