@@ -68,7 +68,7 @@ pub fn desk_call(
     table: &mut [i32],
     work: &mut [i32],
 ) -> Answer
-    ensures { record { desk = desk.exit.now; analysed = record { answer = result; table = table.new; work = work.new } } ≡ desk_call desk.entry.now model.now limit table.old work.old }
+    ensures { record { desk = desk.new; analysed = record { answer = result; table = table.new; work = work.new } } ≡ desk_call desk.old model.now limit table.old work.old }
 {
     let receipt = serve(*desk, model, limit, table, work);
     *desk = receipt.desk;

@@ -12,16 +12,16 @@ pub places-requires : goal.places-requires
 places-requires c = (whole _ c.requires.passes, refl)
 
 pub returns-then-not-table_ok : goal.returns-then-not-table_ok
-returns-then-not-table_ok c = not_valid _ _ (sym c.table_ok.ensures ∙ not-true _ c.if-not-table_ok.true-raw)
+returns-then-not-table_ok c = not_valid _ _ (sym c.table_ok.ensures ∙ c.if-not-table_ok.true)
 
 pub certificate_held-requires : goal.certificate_held-requires
 certificate_held-requires c =
     -- after 32
-    let valid : (let a = c.args in table_ok a.model.now a.table.now ≡ true) = sym c.table_ok.ensures ∙ not-false _ c.if-not-table_ok.false-raw in
+    let valid : (let a = c.args in table_ok a.model.now a.table.now ≡ true) = sym c.table_ok.ensures ∙ c.if-not-table_ok.false in
     (c.requires, c.places.ensures, valid)
 
 pub returns : goal.returns
 returns c =
     -- after 32
-    let valid : (let a = c.args in table_ok a.model.now a.table.now ≡ true) = sym c.table_ok.ensures ∙ not-false _ c.if-not-table_ok.false-raw in
+    let valid : (let a = c.args in table_ok a.model.now a.table.now ≡ true) = sym c.table_ok.ensures ∙ c.if-not-table_ok.false in
     valid_asked _ _ valid c.certificate_held.ensures

@@ -12,22 +12,30 @@ use Rattle.desk.proofs.serve.Goals as goal
 pub returns-then-q-ne0 : goal.returns-then-q-ne0
 returns-then-q-ne0 c = desk_refused _ _ _ _ _ _ c.questions-q.ensures c.if-q-ne0.true
 
--- the questions of the analysis are all yes
-asks : (c : goal.Else-q-ne0) → analysis_questions c.args.model.now c.args.table.now c.args.work.now ≡ 0
-asks c = sym c.questions-q.ensures ∙ c.if-q-ne0.false
-
 pub returns-then-not-counters_ok : goal.returns-then-not-counters_ok
-returns-then-not-counters_ok c = desk_full _ _ _ _ _ (asks c.before.before) (sym c.counters_ok.ensures ∙ not-true _ c.if-not-counters_ok.true-raw)
-
--- and so is 22
-room : (c : goal.Else-not-counters_ok) → counters_ok c.args.desk c.args.limit ≡ true
-room c = sym c.counters_ok.ensures ∙ not-false _ c.if-not-counters_ok.false-raw
+returns-then-not-counters_ok c =
+    -- the questions of the analysis are all yes
+    let asks : analysis_questions c.args.model.now c.args.table.now c.args.work.now ≡ 0 = sym c.questions-q.ensures ∙ c.if-q-ne0.false in
+    desk_full _ _ _ _ _ asks (sym c.counters_ok.ensures ∙ c.if-not-counters_ok.true)
 
 pub overflow_add-jobs : goal.overflow_add-jobs
-overflow_add-jobs c = omega (arith, jobs_fit _ _ (room c.before.before.before.before.before.before.before))
+overflow_add-jobs c =
+    -- and so is 22
+    let room : counters_ok c.args.desk c.args.limit ≡ true = sym c.counters_ok.ensures ∙ c.if-not-counters_ok.false in
+    omega (arith, jobs_fit _ _ room)
 
 pub overflow_add-passes : goal.overflow_add-passes
-overflow_add-passes c = omega (arith, limit_fits _ _ (room c.before.before.before.before.before.before.before.before), k_within _ _ _ _ _ (asks c.before.before.before.before.before.before.before.before.before.before) (room c.before.before.before.before.before.before.before.before) c.analyse_passed-answer.result _ _ c.analyse_passed-answer.ensures _ c.passes_of-k.ensures)
+overflow_add-passes c =
+    -- the questions of the analysis are all yes
+    let asks : analysis_questions c.args.model.now c.args.table.now c.args.work.now ≡ 0 = sym c.questions-q.ensures ∙ c.if-q-ne0.false in
+    -- and so is 22
+    let room : counters_ok c.args.desk c.args.limit ≡ true = sym c.counters_ok.ensures ∙ c.if-not-counters_ok.false in
+    omega (arith, limit_fits _ _ room, k_within _ _ _ _ _ asks room c.analyse_passed-answer.result _ _ c.analyse_passed-answer.ensures _ c.passes_of-k.ensures)
 
 pub returns : goal.returns
-returns c = desk_answered _ _ _ _ _ (asks c.before.before.before.before.before.before.before.before.before.before) (room c.before.before.before.before.before.before.before.before) c.analyse_passed-answer.result _ _ c.analyse_passed-answer.ensures _ c.passes_of-k.ensures
+returns c =
+    -- the questions of the analysis are all yes
+    let asks : analysis_questions c.args.model.now c.args.table.now c.args.work.now ≡ 0 = sym c.questions-q.ensures ∙ c.if-q-ne0.false in
+    -- and so is 22
+    let room : counters_ok c.args.desk c.args.limit ≡ true = sym c.counters_ok.ensures ∙ c.if-not-counters_ok.false in
+    desk_answered _ _ _ _ _ asks room c.analyse_passed-answer.result _ _ c.analyse_passed-answer.ensures _ c.passes_of-k.ensures
