@@ -5,7 +5,7 @@ use Rattle.interface.proofs.Deciding.{table_fits}
 use Rattle.host.proofs.answer_file.Goals as goal
 
 pub table_size-size-requires : goal.table_size-size-requires
-table_size-size-requires c = let s = c.before in whole _ s.requires.0
+table_size-size-requires c = whole _ c.requires.0
 
 pub answer_with-requires-2 : goal.answer_with-requires-2
-answer_with-requires-2 c = let s = c.before.before.before.before.before.before.before in (s.requires.0, s.requires.1, table_fits _ s.requires.0, table_fits _ s.requires.0)
+answer_with-requires-2 c = (c.requires.0, c.requires.1, table_fits _ c.requires.0, table_fits _ c.requires.0)

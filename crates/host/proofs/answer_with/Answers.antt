@@ -8,26 +8,21 @@ use Rattle.interface.proofs.Deciding.{answer_front, is_decided}
 use Rattle.host.proofs.answer_with.Goals as goal
 
 pub analyse_passed-answer-requires : goal.analyse_passed-answer-requires
-analyse_passed-answer-requires c = let s = c.before.before.before in sym (all_yes _ _ _ s.requires.0 s.requires.2 s.requires.3)
+analyse_passed-answer-requires c = sym (all_yes _ _ _ c.requires.0 c.requires.2 c.requires.3)
 
 pub table_size-size-requires : goal.table_size-size-requires
 table_size-size-requires c = whole _ c.requires.0
 
 pub slice_bounds-put_table-end-2 : goal.slice_bounds-put_table-end-2
-slice_bounds-put_table-end-2 c =
-    let s = c.before.before.before.before.before.before.before.before in
-    (answer_front _ _ s.args.table.now s.args.work.now s.requires.2 c.analyse_passed-answer.ensures c.table_size-size.ensures).lent
+slice_bounds-put_table-end-2 c = (answer_front _ _ c.args.table.now c.args.work.now c.requires.2 c.analyse_passed-answer.ensures c.table_size-size.ensures).lent
 
 pub put_table-requires : goal.put_table-requires
 put_table-requires c =
-    let s = c.before.before.before.before.before.before.before.before.before in
     record {
-      whole = whole _ s.requires.0;
-      room = omega (arith, c.table_size-size.ensures, (answer_front _ _ s.args.table.now s.args.work.now s.requires.2 c.analyse_passed-answer.ensures c.table_size-size.ensures).lent);
-      bytes = s.requires.1;
+      whole = whole _ c.requires.0;
+      room = omega (arith, c.table_size-size.ensures, (answer_front _ _ c.args.table.now c.args.work.now c.requires.2 c.analyse_passed-answer.ensures c.table_size-size.ensures).lent);
+      bytes = c.requires.1;
     }
 
 pub returns : goal.returns
-returns c =
-    let s = c.before.before.before.before.before.before.before.before.before.before.before.before.before in
-    is_decided _ _ s.args.table.now s.args.work.now s.requires.2 c.analyse_passed-answer.ensures _ c.table_size-size.ensures c.pack_answer.ensures c.put_table.ensures.0
+returns c = is_decided _ _ c.args.table.now c.args.work.now c.requires.2 c.analyse_passed-answer.ensures _ c.table_size-size.ensures c.pack_answer.ensures c.put_table.ensures.bytes

@@ -5,29 +5,22 @@ use Rattle.interface.proofs.Checking.{table_refused, table_yes, table_front, tab
 use Rattle.host.proofs.check_with.Goals as goal
 
 pub slice_bounds-certificate_questions-end : goal.slice_bounds-certificate_questions-end
-slice_bounds-certificate_questions-end c =
-    let s = c.before.before.before.before.before.before.before in
-    (table_front _ _ s.args.table.now s.requires.1 (when c.read-1.given.1 c.read_faces-read.ensures)).there
+slice_bounds-certificate_questions-end c = (table_front _ _ c.args.table.now c.requires.1 (when c.in-Done.is c.read_faces-read.ensures)).there
 
 pub slice_bounds-certificate_questions-end-in-Done : goal.slice_bounds-certificate_questions-end-in-Done
-slice_bounds-certificate_questions-end-in-Done c =
-    let s = c.before.before.before.before.before.before.before.before in
-    (table_front _ _ s.args.table.now s.requires.1 (when c.read-1.given.1 c.read_faces-read.ensures)).lent
+slice_bounds-certificate_questions-end-in-Done c = (table_front _ _ c.args.table.now c.requires.1 (when c.in-Done.is c.read_faces-read.ensures)).lent
 
 pub certificate_questions-requires : goal.certificate_questions-requires
 certificate_questions-requires c =
-    let s = c.before.before.before.before.before.before.before.before in
-    let e = (when c.read-1.given.1 c.read_faces-read.ensures) in
-    (record { passes = s.requires.0; size = table_sized _ _ s.args.table.now s.requires.1 e }, table_valid _ _ s.args.table.now s.requires.1 e)
+    let e = (when c.in-Done.is c.read_faces-read.ensures) in
+    (record { passes = c.requires.0; size = table_sized _ _ c.args.table.now c.requires.1 e }, table_valid _ _ c.args.table.now c.requires.1 e)
 
 pub returns-in-Done : goal.returns-in-Done
 returns-in-Done c =
-    let s = c.before.before.before.before.before.before.before.before.before.before in
-    let e = (when c.read-1.given.1 c.read_faces-read.ensures) in
-    file_asked _ _ (table_yes _ _ s.args.table.now s.requires.1 e) (table_front _ _ s.args.table.now s.requires.1 e).are c.certificate_questions.ensures c.verdict_code.ensures
+    let e = (when c.in-Done.is c.read_faces-read.ensures) in
+    file_asked _ _ (table_yes _ _ c.args.table.now c.requires.1 e) (table_front _ _ c.args.table.now c.requires.1 e).are c.certificate_questions.ensures c.verdict_code.ensures
 
 pub returns-in-Refused : goal.returns-in-Refused
 returns-in-Refused c =
-    let s = c.before.before.before.before.before.before.before in
-    let e = table_refused _ _ s.args.table.now s.requires.1 (when c.read-in-Refused-1.given.1 c.read_faces-read.ensures) in
+    let e = table_refused _ _ c.args.table.now c.requires.1 (when c.in-Refused.is c.read_faces-read.ensures) in
     file_refused _ _ e.0 e.1

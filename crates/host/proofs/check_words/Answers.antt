@@ -5,7 +5,7 @@ use Rattle.interface.proofs.Deciding.{table_fits}
 use Rattle.host.proofs.check_words.Goals as goal
 
 pub table_size-size-requires : goal.table_size-size-requires
-table_size-size-requires c = let s = c.before in whole _ s.requires
+table_size-size-requires c = whole _ c.requires
 
 pub check_with-requires-2 : goal.check_with-requires-2
-check_with-requires-2 c = let s = c.before.before.before.before.before in (s.requires, table_fits _ s.requires)
+check_with-requires-2 c = (c.requires, table_fits _ c.requires)

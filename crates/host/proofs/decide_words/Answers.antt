@@ -12,9 +12,7 @@ pub returns-then-q-ne0 : goal.returns-then-q-ne0
 returns-then-q-ne0 c = no_room _ _ _ c.pack.ensures c.bytes_question-q.ensures c.if-q-ne0.true
 
 pub answer_file-requires : goal.answer_file-requires
-answer_file-requires c =
-    let s = c.before.before.before.before in
-    (s.requires, has_room s.args.model.now s.args.file.now s.args.limit (sym c.bytes_question-q.ensures ∙ c.if-q-ne0.false))
+answer_file-requires c = (c.requires, has_room c.args.model.now c.args.file.now c.args.limit (sym c.bytes_question-q.ensures ∙ c.if-q-ne0.false))
 
 pub returns : goal.returns
 returns c = room _ _ _ c.bytes_question-q.ensures c.if-q-ne0.false c.answer_file.ensures

@@ -6,7 +6,7 @@ use Rattle.interface.proofs.ForC.{is_reply}
 use Rattle.host.proofs.calls.qii_ceiling.Goals as goal
 
 pub returns-in-Passes : goal.returns-in-Passes
-returns-in-Passes c = is_reply c.reply.ensures.0 c.reply.ensures.1 (ap ceiling_reply (sym c.ceiling-1.given.1 ∙ c.ceiling-ceiling.ensures))
+returns-in-Passes c = is_reply c.reply.ensures.0 c.reply.ensures.1 (ap ceiling_reply (sym c.in-Passes.is ∙ c.ceiling-ceiling.ensures))
 
 pub returns-in-Refused : goal.returns-in-Refused
-returns-in-Refused c = is_reply c.reply-in-Refused.ensures.0 c.reply-in-Refused.ensures.1 (ap ceiling_reply (sym c.ceiling-in-Refused-1.given.1 ∙ c.ceiling-ceiling.ensures))
+returns-in-Refused c = is_reply c.reply-in-Refused.ensures.0 c.reply-in-Refused.ensures.1 (ap ceiling_reply (sym c.in-Refused.is ∙ c.ceiling-ceiling.ensures))

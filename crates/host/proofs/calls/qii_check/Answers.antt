@@ -6,7 +6,7 @@ use Rattle.plant.specs.Calls.{verdict_reply}
 use Rattle.host.proofs.calls.qii_check.Goals as goal
 
 pub returns-in-Accepted : goal.returns-in-Accepted
-returns-in-Accepted c = ap (λ (v : Verdict). (verdict_reply v).code) (sym c.enum_told-1.given.1 ∙ c.check-verdict.ensures)
+returns-in-Accepted c = ap (λ (v : Verdict). (verdict_reply v).code) (sym c.in-Accepted.is ∙ c.check-verdict.ensures)
 
 pub returns-in-Refused : goal.returns-in-Refused
-returns-in-Refused c = ap (λ (v : Verdict). (verdict_reply v).code) (sym c.verdict-1.given.1 ∙ c.check-verdict.ensures)
+returns-in-Refused c = ap (λ (v : Verdict). (verdict_reply v).code) (sym c.in-Refused.is ∙ c.check-verdict.ensures)

@@ -6,7 +6,7 @@ use Rattle.interface.proofs.ForC.{is_quote}
 use Rattle.host.proofs.calls.qii_quote.Goals as goal
 
 pub returns-in-AtMost : goal.returns-in-AtMost
-returns-in-AtMost c = let e = c.quote_reply.ensures in is_quote e.0 e.1 e.2 e.3 (ap quote_reply (sym c.quote-1.given.1 ∙ c.quote-quote.ensures))
+returns-in-AtMost c = let e = c.quote_reply.ensures in is_quote e.0 e.1 e.2 e.3 (ap quote_reply (sym c.in-AtMost.is ∙ c.quote-quote.ensures))
 
 pub returns-in-Refused : goal.returns-in-Refused
-returns-in-Refused c = let e = c.quote_reply-in-Refused.ensures in is_quote e.0 e.1 e.2 e.3 (ap quote_reply (sym c.quote-in-Refused-1.given.1 ∙ c.quote-quote.ensures))
+returns-in-Refused c = let e = c.quote_reply-in-Refused.ensures in is_quote e.0 e.1 e.2 e.3 (ap quote_reply (sym c.in-Refused.is ∙ c.quote-quote.ensures))
