@@ -44,7 +44,7 @@ module _ (variable value : ℤ) (d k : ℕ) (b : List ℤ) where
   kept = keeps_to (extent_by (cut_from variable value) d k) b
 
   keeps_by : (extent : Extent) → extent_by (cut_from variable value) d k ≡ extent → keeps_to extent b ≡ kept
-  keeps_by extent e = ap (λ (x : Extent). keeps_to x b) (sym e)
+  keeps_by side e = ap (λ (x : Extent). keeps_to x b) (sym e)
 
   pub keeps_uncut : eq_z variable (negsuc 0) ≡ true → true ≡ kept
   unfolding keeps_to

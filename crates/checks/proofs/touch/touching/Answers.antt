@@ -1,310 +1,263 @@
 -- What was passed in each of the three loops touches nothing: the boxes of a location are passed from its last to its first.
 use mathlib.Core.Path.{◌≡◌, refl, sym, ap, ◌∙◌, subst}
-use mathlib.Core.Bool.{false}
+use mathlib.Core.Bool.{Bool, true, false, cond}
 use mathlib.Core.List.{List}
 use Prim.Native.Nat.{ℕ, suc, ◌+◌, ◌-◌, ◌≤◌, ◌<◌}
 use native.Mathlib.Omega.{arith}
+use lib.Dec.{eqb}
 use lib.IntN.{ℤ}
 use lib.ListN.{length, get_or}
-use borrow.Author.Rules.{rules}
 use Rattle.plant.specs.Box.{box_at}
-use Rattle.plant.specs.Model.{n#, L#, B#, forbidden_location}
+use Rattle.plant.specs.Model.{n#, L#, B#, invariant, rate, forbidden_location, forbidden_box}
 use Rattle.plant.specs.Pieces.{pieces}
-use Rattle.plant.specs.Tables.{pieces_before, part_of, part_touches}
+use Rattle.plant.specs.Steps.{touches}
+use Rattle.plant.specs.Tables.{face_read, pieces_before, start_part, table_ok, part_of, part_touches}
 use Rattle.plant.proofs.PieceCases.{before_more}
 use Rattle.plant.proofs.Tables.{pieces-most}
-use Rattle.tables.proofs.Sizes.{before_most}
 use Rattle.plant.proofs.Passed.{Passed}
-use Rattle.passes.specs.Checked.{Checked}
 use Rattle.plant.proofs.Passing.{whole}
-use Rattle.passes.proofs.Reading.{model_passed}
-use Rattle.checks.specs.Links.{last_box}
-use Rattle.checks.proofs.Links.{last_within}
+use Rattle.plant.proofs.Whole.{Whole}
+use Rattle.delays.specs.Ranges.{Levels, Rates}
+use Rattle.tables.specs.Places.{Places}
+use Rattle.tables.proofs.Sizes.{before_most}
+use Rattle.passes.specs.Checked.{Checked}
 use Rattle.passes.specs.Parts.{IsPart}
+use Rattle.passes.specs.Ready.{TableReady}
+use Rattle.passes.proofs.Reading.{model_passed}
+use Rattle.checks.specs.Links.{last_box, Linked}
+use Rattle.checks.specs.Parts.{part_words, PartAt}
+use Rattle.checks.proofs.Links.{last_within}
 use Rattle.checks.proofs.Parts.{part_ready, part_is}
 use Rattle.checks.proofs.Search.{parts_touch, locations_touch, search_is, no_part, no_location, parts_few, all_asked, BoxesLeft, asked_left, one_less, none_left, part_more, location_more, found}
 use Rattle.checks.proofs.Touched.{BoxRead, touch_ready, touched_is}
 use Rattle.checks.proofs.touch.touching.Goals as goal
 
--- ---- the places around a place: the turn of the parts, the turn of the search, the beginning
-abbrev part-turn : goal.At-boxes → goal.In-parts
-part-turn c = c.before.before.before.before.before.before
+-- location l, the number of variables as read, and what is asked of the words that are lent
+record Turn (m t : List ℤ) (places last before : List ℕ) (l n : ℕ) : Type 0 where
+  ok : Checked m t
+  are_places : Places m places
+  linked : Linked m (B# m) last before
+  is_location : l < L# m
+  n_is : n ≡ n# m
 
-abbrev in_location : goal.After-parts_asked-parts → goal.In-search
-in_location c = c.before.before.before.before.before.before
-
-abbrev asked : goal.After-start-in-search-1 → goal.After-parts_asked-parts
-asked c = c.before.before.before
-
-abbrev location-turn : goal.At-parts → goal.In-search
-location-turn c = in_location (asked c.before)
-
-abbrev search-of : goal.At-boxes → goal.At-search
-search-of c = (location-turn (part-turn c).before).before
-
-abbrev start : goal.At-search → goal.Start
-start c = c.before.before.before.before.before.before
+turn : {m t : List ℤ} {places last before : List ℕ} {l n locations : ℕ} → TableReady m t → Places m places → table_ok m t ≡ true → Linked m (B# m) last before → n ≡ n# m → locations ≡ L# m → l < locations → Turn m t places last before l n
+turn a b c d e f g = record { ok = record { ready = a; valid = c }; are_places = b; linked = d; is_location = omega (arith, f, g); n_is = e }
 
 -- ---- what is known there
-module _ (c : goal.At-search) where
-  abbrev model : List ℤ
-  model = (start c).args.model.now
+module _ {m t : List ℤ} {places last before : List ℕ} {l n : ℕ} (r : Turn m t places last before l n) where
+  model_ok : Passed m
+  model_ok = model_passed m t r.ok
 
-  abbrev table : List ℤ
-  table = (start c).args.table.now
+  whole_at : Whole m
+  whole_at = whole m r.ok.ready.passes
 
-  ok : Checked model table
-  ok = record { ready = (start c).requires.0; valid = (start c).requires.2 }
+  location_small : l < 64
+  location_small = omega (arith, r.is_location, model_ok.L_small)
 
-  model_ok : Passed model
-  model_ok = model_passed model table ok
+  -- how many pieces stand before it, and before the next
 
-  n_is : c.variables-n.result ≡ n# model
-  n_is = c.variables-n.ensures
+  earlier_is : get_or places l 0 ≡ pieces_before m l
+  earlier_is = r.are_places.each l (omega (arith, r.is_location))
 
-is_location : (c : goal.In-search) → c.search.l < L# (model c.before)
-is_location c = omega (arith, c.locations-locations.ensures)
+  next_is : get_or places (l + 1) 0 ≡ pieces_before m (l + 1)
+  next_is = r.are_places.each (l + 1) (omega (arith, r.is_location))
 
-location_small : (c : goal.In-search) → c.search.l < 64
-location_small c = omega (arith, is_location c, (model_ok c.before).L_small)
+  place_there : l + 1 < length places
+  place_there = omega (arith, location_small, r.are_places.long)
 
--- how many pieces stand before it, and before the next
-earlier_is : (c : goal.In-search) → get_or (start c.before).args.places.now c.search.l 0 ≡ pieces_before (model c.before) c.search.l
-earlier_is c = (start c.before).requires.1.each c.search.l (omega (arith, is_location c))
+  -- the last box of the location
 
-next_is : (c : goal.In-search) → get_or (start c.before).args.places.now (c.search.l + 1) 0 ≡ pieces_before (model c.before) (c.search.l + 1)
-next_is c = (start c.before).requires.1.each (c.search.l + 1) (omega (arith, is_location c))
+  last_of : get_or last l 0 ≡ last_box m l (B# m)
+  last_of = r.linked.last_is l location_small
 
-place_there : (c : goal.In-search) → c.search.l + 1 < length (start c.before).args.places.now
-place_there c = omega (arith, location_small c, (start c.before).requires.1.long)
+  last_there : l < length last
+  last_there = omega (arith, location_small, r.linked.last_long)
 
--- the last box of the location
-last_of : (c : goal.In-search) → get_or (start c.before).args.last.now c.search.l 0 ≡ last_box (model c.before) c.search.l (B# (model c.before))
-last_of c = (start c.before).requires.3.last_is c.search.l (location_small c)
+  -- the parts that are asked
 
-last_there : (c : goal.In-search) → c.search.l < length (start c.before).args.last.now
-last_there c = omega (arith, location_small c, (start c.before).requires.3.last_long)
+  parts_ready : (get_or places l 0 ≤ get_or places (l + 1) 0) × (get_or places (l + 1) 0 ≤ 1536)
+  parts_ready = (omega (arith, earlier_is, next_is, before_more m l), omega (arith, next_is, before_most m whole_at.head (l + 1) (omega (arith, r.is_location))))
 
--- the words held for start parts stay 13
-start_long : (c : goal.After-start-in-search-1) → length c.start_words.new.1.1.1.0 ≡ 13
-start_long c = c.start_words.auto.1.1.1.0 ∙ (in_location (asked c)).search.inv.0
+  module _ {parts : ℕ} (parts_are : parts ≡ cond (eqb (get_or last l 0) 0) 0 (get_or places (l + 1) 0 - get_or places l 0 + 1)) where
+    few : parts ≤ suc (pieces m l)
+    few = parts_few m t l earlier_is next_is last_of parts_are
 
--- the parts that are asked
-few : (c : goal.After-parts_asked-parts) → let i = (in_location c).before in c.parts_asked-parts.result ≤ suc (pieces (model i) i.search.l)
-few c = let i = in_location c in parts_few (model i.before) (table i.before) i.before.search.l (earlier_is i) (next_is i) (last_of i) c.parts_asked-parts.ensures
+    all_parts : (p : ℕ) → p ≤ parts → parts ≤ p → parts_touch m t l p ≡ false → parts_touch m t l (suc (pieces m l)) ≡ false
+    all_parts = all_asked m t l earlier_is next_is last_of parts_are
 
-all_parts : (c : goal.After-parts_asked-parts) → let i = (in_location c).before in (p : ℕ) → p ≤ c.parts_asked-parts.result → c.parts_asked-parts.result ≤ p → parts_touch (model i) (table i) i.search.l p ≡ false → parts_touch (model i) (table i) i.search.l (suc (pieces (model i) i.search.l)) ≡ false
-all_parts c = let i = in_location c in all_asked (model i.before) (table i.before) i.before.search.l (earlier_is i) (next_is i) (last_of i) c.parts_asked-parts.ensures
+    -- part p, by the words that are held for a start part
+    module _ {p : ℕ} (asked : p < parts) where
+      is_part : p ≤ pieces m l
+      is_part = omega (arith, asked, few)
 
-is_part : (c : goal.In-parts) → let i = (location-turn c.before).before in c.parts.p ≤ pieces (model i) i.search.l
-is_part c = omega (arith, c.parts-test.true, few (asked c.before.before))
+      part_small : p ≤ 24
+      part_small = omega (arith, is_part, pieces-most m l model_ok.n_small)
 
--- the box of the part
-bounds_are : (c : goal.After-box_at-bounds) → c.box_at-bounds.result.now ≡ box_at (n# (model (location-turn c.before.before.before.before).before)) c.part_at-part.result.now 1
-bounds_are c = c.box_at-bounds.ensures ∙ ap (λ (n : ℕ). box_at n c.part_at-part.result.now 1) (n_is (location-turn c.before.before.before.before).before)
+      part_there : (start : List ℤ) → length start ≡ 13 → PartAt n start t (get_or places l 0) p
+      part_there start long =
+          part_ready m t l p r.is_location is_part r.ok.ready.room model_ok.n_small start long r.n_is earlier_is
+          (omega (arith, earlier_is, before_most m whole_at.head l (omega (arith, r.is_location))))
 
-is_box : (c : goal.In-boxes) → c.boxes.b - 1 < B# (model (search-of c.before))
-is_box c = omega (arith, c.boxes.invariant.0.within)
+      words_are : (start : List ℤ) → length start ≡ 13 → face_read (n# m) start 0 ≡ start_part m l → {words : List ℤ} → words ≡ part_words n start t (get_or places l 0) p → IsPart (n# m) words (part_of m t l p)
+      words_are start long start_is e = part_is m t l r.is_location r.ok.ready.room model_ok.n_small start long start_is r.n_is earlier_is p is_part e
 
-box_small : (c : goal.In-boxes) → c.boxes.b - 1 < 64
-box_small c = omega (arith, is_box c, (model_ok (search-of c.before)).B_small)
+  -- box b - 1, of those that are left for part p
+  module _ {p : ℕ} {bounds : List ℤ} {b : ℕ} (left : BoxesLeft m t l p bounds b) (some : 0 < b) where
+    is_box : b - 1 < B# m
+    is_box = omega (arith, left.within, some)
 
-before_there : (c : goal.In-boxes) → c.boxes.b - 1 < length (start (search-of c.before)).args.before.now
-before_there c = omega (arith, box_small c, (start (search-of c.before)).requires.3.before_long)
+    box_small : b - 1 < 64
+    box_small = omega (arith, is_box, model_ok.B_small)
 
-box_before : (c : goal.In-boxes) → let i = search-of c.before in let b = c.boxes.b - 1 in get_or (start i).args.before.now b 0 ≡ last_box (model i) (forbidden_location (model i) b) b
-box_before c = (start (search-of c.before)).requires.3.before_is (c.boxes.b - 1) (is_box c)
+    before_there : b - 1 < length before
+    before_there = omega (arith, box_small, r.linked.before_long)
 
-box_read : (c : goal.After-forbidden_box) → let j = (part-turn c.before.before).before in let i = search-of c.before.before in BoxRead (model i) i.search.l (c.boxes.b - 1) i.before.variables.result (asked j.before).invariant-inv.result.now (asked j.before).rate-rate.result.now c.forbidden_box.result.now
-box_read c = record {
-  n_is = n_is (search-of c.before.before);
-  inv_is = (asked (part-turn c.before.before).before.before).invariant-inv.ensures;
-  rate_is = (asked (part-turn c.before.before).before.before).rate-rate.ensures;
-  box_is = c.forbidden_box.ensures;
-  of_location = c.boxes.invariant.0.own (omega arith);
-}
+    box_before : get_or before (b - 1) 0 ≡ last_box m (forbidden_location m (b - 1)) (b - 1)
+    box_before = r.linked.before_is (b - 1) is_box
 
-touched : (c : goal.After-touches) → let k = c.before.before.before in let i = search-of k in c.touches.result ≡ part_touches (model i) i.search.l (k.boxes.b - 1) (part_of (model i) (table i) i.search.l (part-turn k).parts.p)
-touched c =
-    let k = c.before.before.before in
-    let i = search-of k in
-    touched_is (model i) (table i) i.search.l (k.boxes.b - 1) (part-turn k).parts.p (box_read c.before) (k.boxes.invariant.0.there (omega arith)) c.touches.ensures
+    module _ {inv rates forbidden : List ℤ} (inv_is : inv ≡ invariant m l) (rate_is : rates ≡ rate m l) (box_is : forbidden ≡ forbidden_box m (b - 1)) where
+      box_read : BoxRead m l (b - 1) n inv rates forbidden
+      box_read = record { n_is = r.n_is; inv_is = inv_is; rate_is = rate_is; box_is = box_is; of_location = left.own some }
 
-locations_requires :
-    tie.Need-locations-requires invariant-boxes decreases-boxes invariant-parts decreases-parts invariant-search decreases-search
-locations_requires c κs = let s = c.before.before.before in (whole s.args.model.now s.requires.0.passes).head
+      ready : p ≤ pieces m l → Levels n inv × Rates n rates × Levels n bounds × Levels n forbidden
+      ready u = touch_ready m t l (b - 1) p box_read (left.there some) r.ok r.is_location is_box u
 
-variables_requires :
-    tie.Need-variables-requires invariant-boxes decreases-boxes invariant-parts decreases-parts invariant-search decreases-search
-variables_requires c κs = let s = c.before.before.before.before in (whole s.args.model.now s.requires.0.passes).head
+      touched : {x : Bool} → x ≡ touches n inv rates bounds forbidden → x ≡ part_touches m l (b - 1) (part_of m t l p)
+      touched = touched_is m t l (b - 1) p box_read (left.there some)
+
+pub locations-locations-requires : goal.locations-locations-requires
+locations-locations-requires c = (whole c.args.model.now c.requires.0.passes).head
+
+pub variables-n-requires : goal.variables-n-requires
+variables-n-requires c = (whole c.args.model.now c.requires.0.passes).head
 
 pub search-init : goal.search-init
 search-init c = (refl, omega arith, no_location _ _, refl)
 
-invariant_requires :
-    tie.Need-invariant-requires invariant-boxes decreases-boxes invariant-parts decreases-parts invariant-search decreases-search
-invariant_requires c κs = (whole _ (ok c.before).ready.passes, is_location c)
+pub invariant-inv-requires : goal.invariant-inv-requires
+invariant-inv-requires c = let r = turn c.requires.0 c.requires.1 c.requires.2 c.requires.3 c.variables-n.ensures c.locations-locations.ensures c.search-test.true in (whole_at r, r.is_location)
 
 pub rate-rate-requires : goal.rate-rate-requires
-rate-rate-requires c = (whole _ (ok c.before.before).ready.passes, is_location c.before)
+rate-rate-requires c = let r = turn c.requires.0 c.requires.1 c.requires.2 c.requires.3 c.variables-n.ensures c.locations-locations.ensures c.search-test.true in (whole_at r, r.is_location)
 
 pub offset_bounds-places-l : goal.offset_bounds-places-l
-offset_bounds-places-l c = record { fits = omega (arith, location_small c.before.before) }
+offset_bounds-places-l c = let r = turn c.requires.0 c.requires.1 c.requires.2 c.requires.3 c.variables-n.ensures c.locations-locations.ensures c.search-test.true in omega (arith, location_small r)
 
-shared_slice_read_earlier :
-    tie.Need-shared-slice-read-earlier invariant-boxes decreases-boxes invariant-parts decreases-parts invariant-search decreases-search
-shared_slice_read_earlier c = omega (arith, place_there c.before.before.before)
+pub bounds-places-l : goal.bounds-places-l
+bounds-places-l c = let r = turn c.requires.0 c.requires.1 c.requires.2 c.requires.3 c.variables-n.ensures c.locations-locations.ensures c.search-test.true in omega (arith, place_there r)
 
 pub overflow_add-l : goal.overflow_add-l
-overflow_add-l c = record { fits = omega (arith, location_small c.before.before.before) }
+overflow_add-l c = let r = turn c.requires.0 c.requires.1 c.requires.2 c.requires.3 c.variables-n.ensures c.locations-locations.ensures c.search-test.true in omega (arith, location_small r)
 
 pub offset_bounds-places-l-in-search : goal.offset_bounds-places-l-in-search
-offset_bounds-places-l-in-search c = record { fits = omega (arith, location_small c.before.before.before) }
+offset_bounds-places-l-in-search c = let r = turn c.requires.0 c.requires.1 c.requires.2 c.requires.3 c.variables-n.ensures c.locations-locations.ensures c.search-test.true in omega (arith, location_small r)
 
-shared_slice_read_parts_asked :
-    tie.Need-shared-slice-read-parts-asked invariant-boxes decreases-boxes invariant-parts decreases-parts invariant-search decreases-search
-shared_slice_read_parts_asked c = place_there c.before.before.before.before
+pub bounds-places-l-in-search : goal.bounds-places-l-in-search
+bounds-places-l-in-search c = let r = turn c.requires.0 c.requires.1 c.requires.2 c.requires.3 c.variables-n.ensures c.locations-locations.ensures c.search-test.true in place_there r
 
-mul_parts_asked_2 :
-    tie.Need-overflow-mul-parts-asked-2 invariant-boxes decreases-boxes invariant-parts decreases-parts invariant-search decreases-search
-mul_parts_asked_2 c = record { fits = omega (arith, location_small c.before.before.before.before) }
+pub offset_bounds-last-l : goal.offset_bounds-last-l
+offset_bounds-last-l c = let r = turn c.requires.0 c.requires.1 c.requires.2 c.requires.3 c.variables-n.ensures c.locations-locations.ensures c.search-test.true in omega (arith, location_small r)
 
-shared_slice_read_parts_asked_2 :
-    tie.Need-shared-slice-read-parts-asked-2
-    invariant-boxes
-    decreases-boxes
-    invariant-parts
-    decreases-parts
-    invariant-search
-    decreases-search
-shared_slice_read_parts_asked_2 c = last_there c.before.before.before.before.before
+pub bounds-last-l : goal.bounds-last-l
+bounds-last-l c = let r = turn c.requires.0 c.requires.1 c.requires.2 c.requires.3 c.variables-n.ensures c.locations-locations.ensures c.search-test.true in last_there r
 
-parts_asked_requires :
-    tie.Need-parts-asked-requires invariant-boxes decreases-boxes invariant-parts decreases-parts invariant-search decreases-search
-parts_asked_requires c κs =
-    let i = c.before.before.before.before.before in
-    let m = model i.before in
-    let l = i.before.search.l in
-    (omega (arith, earlier_is i, next_is i, before_more m l), omega (arith, next_is i, before_most m (whole _ (ok i.before).ready.passes).head (l + 1) (omega (arith, is_location i))))
+pub parts_asked-parts-requires : goal.parts_asked-parts-requires
+parts_asked-parts-requires c = let r = turn c.requires.0 c.requires.1 c.requires.2 c.requires.3 c.variables-n.ensures c.locations-locations.ensures c.search-test.true in parts_ready r
 
-slice_aggregate_start_words :
-    tie.Need-slice-aggregate-start-words invariant-boxes decreases-boxes invariant-parts decreases-parts invariant-search decreases-search
-slice_aggregate_start_words c = search rules
-
-start_words_requires :
-    tie.Need-start-words-requires invariant-boxes decreases-boxes invariant-parts decreases-parts invariant-search decreases-search
-start_words_requires c κs = let i = in_location c.before in ((ok i.before).ready.passes, is_location i, i.before.search.inv.0)
+pub start_words-requires : goal.start_words-requires
+start_words-requires c = let r = turn c.requires.0 c.requires.1 c.requires.2 c.requires.3 c.variables-n.ensures c.locations-locations.ensures c.search-test.true in (c.requires.0.passes, r.is_location, c.search.invariant.0)
 
 pub parts-init : goal.parts-init
-parts-init c = (omega arith, no_part _ _ _, (in_location (asked c)).search.inv.3)
+parts-init c = (omega arith, no_part _ _ _, c.search.invariant.3)
 
-slice_aggregate_part_at :
-    tie.Need-slice-aggregate-part-at invariant-boxes decreases-boxes invariant-parts decreases-parts invariant-search decreases-search
-slice_aggregate_part_at c = search rules
-
-part_at_requires :
-    tie.Need-part-at-requires invariant-boxes decreases-boxes invariant-parts decreases-parts invariant-search decreases-search
-part_at_requires c κs =
-    let j = c.before.before in
-    let i = location-turn j in
-    let m = model i.before in
-    part_ready m (table i.before) i.before.search.l j.parts.p (is_location i) (is_part c.before) (ok i.before).ready.room (model_ok i.before).n_small j.before.before.start-words.new.1.1.1.0 (start_long j.before) (n_is i.before) (earlier_is i)
-    (omega (arith, earlier_is i, before_most m (whole _ (ok i.before).ready.passes).head i.before.search.l (omega (arith, is_location i))))
-
--- the words of the part
-part_words : (c : goal.After-part_at-part) → let j = c.before.before.before in let i = location-turn j in IsPart (n# (model i.before)) c.part_at-part.result.now (part_of (model i.before) (table i.before) i.before.search.l j.parts.p)
-part_words c =
-    let j = c.before.before.before in
-    let i = location-turn j in
-    let m = model i.before in
-    part_is m (table i.before) i.before.search.l (is_location i) (ok i.before).ready.room (model_ok i.before).n_small _ (start_long j.before) (j.start_words.ensures (omega (arith, c.parts-test.true))) (n_is i.before) (earlier_is i) j.parts.p (is_part c.before.before) c.part_at-part.ensures
+-- the words held for start parts stay 13
+pub part_at-part-requires : goal.part_at-part-requires
+part_at-part-requires c = let r = turn c.requires.0 c.requires.1 c.requires.2 c.requires.3 c.variables-n.ensures c.locations-locations.ensures c.search-test.true in part_there r c.parts_asked-parts.ensures c.parts-test.true c.start_words.new.words (c.start_words.auto.words ∙ c.search.invariant.0)
 
 pub box_at-bounds-requires : goal.box_at-bounds-requires
-box_at-bounds-requires c = let i = (location-turn c.before.before.before).before in omega (arith, n_is i, (part_words c).sized)
+box_at-bounds-requires c =
+    let r = turn c.requires.0 c.requires.1 c.requires.2 c.requires.3 c.variables-n.ensures c.locations-locations.ensures c.search-test.true in
+    let w = words_are r c.parts_asked-parts.ensures c.parts-test.true c.start_words.new.words (c.start_words.auto.words ∙ c.search.invariant.0) (c.start_words.ensures (omega (arith, c.parts-test.true))) c.part_at-part.ensures in
+    omega (arith, r.n_is, w.sized)
 
 pub offset_bounds-last-l-in-parts : goal.offset_bounds-last-l-in-parts
-offset_bounds-last-l-in-parts c = record { fits = omega (arith, location_small (location-turn c.before.before.before.before)) }
+offset_bounds-last-l-in-parts c = let r = turn c.requires.0 c.requires.1 c.requires.2 c.requires.3 c.variables-n.ensures c.locations-locations.ensures c.search-test.true in omega (arith, location_small r)
 
-shared_slice_read_first_asked :
-    tie.Need-shared-slice-read-first-asked invariant-boxes decreases-boxes invariant-parts decreases-parts invariant-search decreases-search
-shared_slice_read_first_asked c = last_there (location-turn c.before.before.before.before.before)
+pub bounds-last-l-in-parts : goal.bounds-last-l-in-parts
+bounds-last-l-in-parts c = let r = turn c.requires.0 c.requires.1 c.requires.2 c.requires.3 c.variables-n.ensures c.locations-locations.ensures c.search-test.true in last_there r
 
-first_asked_requires :
-    tie.Need-first-asked-requires invariant-boxes decreases-boxes invariant-parts decreases-parts invariant-search decreases-search
-first_asked_requires c κs = omega (arith, (part_words c.before.before).sized)
+pub first_asked-b-requires : goal.first_asked-b-requires
+first_asked-b-requires c =
+    let r = turn c.requires.0 c.requires.1 c.requires.2 c.requires.3 c.variables-n.ensures c.locations-locations.ensures c.search-test.true in
+    let w = words_are r c.parts_asked-parts.ensures c.parts-test.true c.start_words.new.words (c.start_words.auto.words ∙ c.search.invariant.0) (c.start_words.ensures (omega (arith, c.parts-test.true))) c.part_at-part.ensures in
+    omega (arith, w.sized)
 
 pub boxes-init : goal.boxes-init
 boxes-init c =
-    let j = c.before.before.before.before.before.before in
-    let i = location-turn j in
-    (asked_left (model i.before) (table i.before) i.before.search.l j.parts.p (part_words c.before.before.before) (bounds_are c.before.before) (last_of i) c.first_asked-b.ensures, j.parts.invariant.2)
+    let r = turn c.requires.0 c.requires.1 c.requires.2 c.requires.3 c.variables-n.ensures c.locations-locations.ensures c.search-test.true in
+    let w = words_are r c.parts_asked-parts.ensures c.parts-test.true c.start_words.new.words (c.start_words.auto.words ∙ c.search.invariant.0) (c.start_words.ensures (omega (arith, c.parts-test.true))) c.part_at-part.ensures in
+    let bounds_are : c.box_at-bounds.result.now ≡ box_at (n# c.args.model.now) c.part_at-part.result.now 1 = c.box_at-bounds.ensures ∙ ap (λ (n : ℕ). box_at n c.part_at-part.result.now 1) r.n_is in
+    (asked_left c.args.model.now c.args.table.now c.search.l c.parts.p w bounds_are (last_of r) c.first_asked-b.ensures, c.parts.invariant.2)
 
-sub_forbidden_box :
-    tie.Need-overflow-sub-forbidden-box invariant-boxes decreases-boxes invariant-parts decreases-parts invariant-search decreases-search
-sub_forbidden_box c = omega arith
+pub forbidden_box-requires : goal.forbidden_box-requires
+forbidden_box-requires c = let r = turn c.requires.0 c.requires.1 c.requires.2 c.requires.3 c.variables-n.ensures c.locations-locations.ensures c.search-test.true in (whole_at r, is_box r c.boxes.invariant.0 c.boxes-test.true)
 
-forbidden_box_requires :
-    tie.Need-forbidden-box-requires invariant-boxes decreases-boxes invariant-parts decreases-parts invariant-search decreases-search
-forbidden_box_requires c κs = (whole _ (ok (search-of c.before)).ready.passes, is_box c)
-
-touches_requires :
-    tie.Need-touches-requires invariant-boxes decreases-boxes invariant-parts decreases-parts invariant-search decreases-search
-touches_requires c κs =
-    let k = c.before.before in
-    let i = search-of k in
-    touch_ready (model i) (table i) i.search.l (k.boxes.b - 1) (part-turn k).parts.p (box_read c) (k.boxes.invariant.0.there (omega arith)) (ok i) (is_location (location-turn (part-turn k).before)) (is_box c.before) (is_part (part-turn k))
+pub touches-requires : goal.touches-requires
+touches-requires c =
+    let r = turn c.requires.0 c.requires.1 c.requires.2 c.requires.3 c.variables-n.ensures c.locations-locations.ensures c.search-test.true in
+    ready r c.boxes.invariant.0 c.boxes-test.true c.invariant-inv.ensures c.rate-rate.ensures c.forbidden_box.ensures (is_part r c.parts_asked-parts.ensures c.parts-test.true)
 
 pub offset_bounds-before-b : goal.offset_bounds-before-b
-offset_bounds-before-b c = record { fits = omega (arith, box_small c.before.before.before) }
+offset_bounds-before-b c = let r = turn c.requires.0 c.requires.1 c.requires.2 c.requires.3 c.variables-n.ensures c.locations-locations.ensures c.search-test.true in omega (arith, box_small r c.boxes.invariant.0 c.boxes-test.true)
 
-shared_slice_read_b :
-    tie.Need-shared-slice-read-b invariant-boxes decreases-boxes invariant-parts decreases-parts invariant-search decreases-search
-shared_slice_read_b c = before_there c.before.before.before.before
+pub bounds-before-b : goal.bounds-before-b
+bounds-before-b c = let r = turn c.requires.0 c.requires.1 c.requires.2 c.requires.3 c.variables-n.ensures c.locations-locations.ensures c.search-test.true in before_there r c.boxes.invariant.0 c.boxes-test.true
 
 pub boxes-smaller : goal.boxes-smaller
 boxes-smaller c =
-    let k = c.before.before.before.before in
-    let i = search-of k.before in
-    omega (arith, box_before k, last_within (model i) (forbidden_location (model i) (k.boxes.b - 1)) (k.boxes.b - 1))
+    let r = turn c.requires.0 c.requires.1 c.requires.2 c.requires.3 c.variables-n.ensures c.locations-locations.ensures c.search-test.true in
+    let m = c.args.model.now in
+    omega (arith, c.boxes-test.true, box_before r c.boxes.invariant.0 c.boxes-test.true, last_within m (forbidden_location m (c.boxes.b - 1)) (c.boxes.b - 1))
 
 pub boxes-preserved : goal.boxes-preserved
 boxes-preserved c =
-    let k = c.before.before.before.before in
-    let i = search-of k.before in
-    (one_less (model i) (table i) i.search.l (part-turn k.before).parts.p k.boxes.invariant.0 (omega arith) (sym (touched c.before.before) ∙ c.if-touches.false) (box_before k), k.boxes.invariant.1)
+    let r = turn c.requires.0 c.requires.1 c.requires.2 c.requires.3 c.variables-n.ensures c.locations-locations.ensures c.search-test.true in
+    let told = touched r c.boxes.invariant.0 c.boxes-test.true c.invariant-inv.ensures c.rate-rate.ensures c.forbidden_box.ensures c.touches.ensures in
+    (one_less c.args.model.now c.args.table.now c.search.l c.parts.p c.boxes.invariant.0 c.boxes-test.true (sym told ∙ c.if-touches.false) (box_before r c.boxes.invariant.0 c.boxes-test.true), c.boxes.invariant.1)
 
 pub overflow_add-p : goal.overflow_add-p
-overflow_add-p c = let j = part-turn c.before in let i = search-of c.before in record { fits = omega (arith, is_part j, pieces-most (model i) i.search.l (model_ok i).n_small) }
+overflow_add-p c = let r = turn c.requires.0 c.requires.1 c.requires.2 c.requires.3 c.variables-n.ensures c.locations-locations.ensures c.search-test.true in omega (arith, part_small r c.parts_asked-parts.ensures c.parts-test.true)
 
 pub parts-smaller : goal.parts-smaller
-parts-smaller c = omega (arith, (part-turn c.before).parts-test.taken)
+parts-smaller c = omega (arith, c.parts-test.true)
 
 pub parts-preserved : goal.parts-preserved
 parts-preserved c =
-    let j = (part-turn c.before).before in
-    let i = search-of c.before in
-    (omega (arith, (part-turn c.before).parts-test.taken), part_more (model i) (table i) i.search.l j.parts.p j.parts.inv.1 (none_left (model i) (table i) i.search.l j.parts.p c.boxes.invariant.0 (omega arith)), c.boxes.invariant.1)
+    let m = c.args.model.now in
+    let t = c.args.table.now in
+    (omega (arith, c.parts-test.true), part_more m t c.search.l c.parts.p c.parts.invariant.1 (none_left m t c.search.l c.parts.p c.boxes.invariant.0 (omega (arith, c.boxes-test.false))), c.boxes.invariant.1)
 
 pub overflow_add-l-in-search : goal.overflow_add-l-in-search
-overflow_add-l-in-search c = record { fits = omega (arith, location_small (location-turn c.before)) }
+overflow_add-l-in-search c = let r = turn c.requires.0 c.requires.1 c.requires.2 c.requires.3 c.variables-n.ensures c.locations-locations.ensures c.search-test.true in omega (arith, location_small r)
 
 pub search-smaller : goal.search-smaller
-search-smaller c = omega (arith, is_location (location-turn c.before))
+search-smaller c = omega (arith, c.search-test.true, c.locations-locations.ensures)
 
 pub search-preserved : goal.search-preserved
 search-preserved c =
-    let i = (location-turn c.before).before in
-    (start_long c.before.before, omega (arith, is_location (location-turn c.before)), location_more (model i) (table i) i.search.l i.search.inv.2 (all_parts (asked c.before.before) c.parts.p c.parts.invariant.0 (omega (arith, c.parts-test.false)) c.parts.invariant.1), c.parts.invariant.2)
+    let r = turn c.requires.0 c.requires.1 c.requires.2 c.requires.3 c.variables-n.ensures c.locations-locations.ensures c.search-test.true in
+    let parts = all_parts r c.parts_asked-parts.ensures c.parts.p c.parts.invariant.0 (omega (arith, c.parts-test.false)) c.parts.invariant.1 in
+    (c.start_words.auto.words ∙ c.search.invariant.0, omega (arith, r.is_location), location_more c.args.model.now c.args.table.now c.search.l c.search.invariant.2 parts, c.parts.invariant.2)
 
 pub returns-after-search : goal.returns-after-search
 returns-after-search c =
-    let i = c.before in
-    let all : i.search.l ≡ L# (model i) = omega (arith, i.locations-locations.ensures) in
-    i.search.invariant.3 ∙ sym (subst (λ (k : ℕ). locations_touch (model i) (table i) k ≡ false) all i.search.invariant.2) ∙ search_is (model i) (table i)
+    let m = c.args.model.now in
+    let t = c.args.table.now in
+    let all : c.search.l ≡ L# m = omega (arith, c.search.invariant.1, c.search-test.false, c.locations-locations.ensures) in
+    c.search.invariant.3 ∙ sym (subst (λ (k : ℕ). locations_touch m t k ≡ false) all c.search.invariant.2) ∙ search_is m t
 
 pub returns-then-touches : goal.returns-then-touches
 returns-then-touches c =
-    let k = c.before.before.before in
-    let j = part-turn k.before in
-    let i = search-of k.before in
-    sym (found (model i) (table i) i.search.l j.before.parts.p (k.boxes.b - 1) (is_location (location-turn j.before)) (omega (arith, is_part j)) (is_box k) (sym (touched c.before) ∙ c.if-touches.true))
+    let r = turn c.requires.0 c.requires.1 c.requires.2 c.requires.3 c.variables-n.ensures c.locations-locations.ensures c.search-test.true in
+    let told = touched r c.boxes.invariant.0 c.boxes-test.true c.invariant-inv.ensures c.rate-rate.ensures c.forbidden_box.ensures c.touches.ensures in
+    sym (found c.args.model.now c.args.table.now c.search.l c.parts.p (c.boxes.b - 1) r.is_location (omega (arith, is_part r c.parts_asked-parts.ensures c.parts-test.true)) (is_box r c.boxes.invariant.0 c.boxes-test.true) (sym told ∙ c.if-touches.true))

@@ -1,74 +1,51 @@
 -- After e turns each piece is joined with its wall steps and the steps of the switches below e, each from the one piece of its
 -- source's face.
 use mathlib.Core.Path.{◌≡◌, sym, ap, ◌∙◌}
+use mathlib.Core.List.{List}
 use native.Mathlib.Omega.{arith}
-use Prim.Native.Nat.{ℕ, ◌-◌, ◌≤◌, ◌<◌}
-use lib.ListN.{length}
+use Prim.Native.Nat.{ℕ, ◌<◌}
+use lib.IntN.{ℤ}
 use Rattle.plant.specs.Model.{E#, source}
 use Rattle.plant.specs.Pieces.{per_face}
-use Rattle.plant.specs.Tables.{table_by, walls_joined}
-use Rattle.plant.proofs.Tables.{table_length}
-use Rattle.plant.proofs.Whole.{Whole}
-use Rattle.passes.specs.Joining.{joined_below}
+use Rattle.plant.specs.Tables.{table_by}
+use Rattle.passes.specs.Checked.{Checked}
+use Rattle.passes.specs.Joining.{NoCut, joined_below}
 use Rattle.passes.proofs.Reading.{whole, placed, lands_uncut}
 use Rattle.passes.proofs.Landing.{switches_none, switches_all, from_one, is_table}
 use Rattle.passes.proofs.switches.switches_uncut.Goals as goal
 
-whole_at : (c : goal.Start) → Whole c.args.model.now
-whole_at c = whole c.args.model.now c.args.table.now c.requires.0
+-- each face has one piece
+one : (m t : List ℤ) (ok : Checked m t) → NoCut m → (e : ℕ) → e < E# m → per_face m (source m e) ≡ 1
+one m t ok none e u = none.one_each (source m e) (placed m t ok e u).source_is
 
 pub switches-count-requires : goal.switches-count-requires
-switches-count-requires c = (whole_at c.before).head
+switches-count-requires c = (whole _ _ c.requires.0).head
 
 pub loop-e-init : goal.loop-e-init
-loop-e-init c = let s = c.before.before in (omega arith, s.requires.2 ∙ switches_none s.args.model.now s.args.table.now)
-
--- switch e
-module _ (c : goal.In-loop-e) where
-  abbrev start : goal.Start
-  start = c.before.before.before.before
-
-  is_switch : c.loop-e.e < E# start.args.model.now
-  is_switch = omega (arith, c.loop-e-test.true, c.switches-count.ensures)
-
-  one : per_face start.args.model.now (source start.args.model.now c.loop-e.e) ≡ 1
-  one =
-      let s = start in
-      let m = s.args.model.now in
-      s.pre.3.one_each (source m c.loop-e.e) (placed m s.args.table.now s.pre.0 c.loop-e.e is_switch).source_is
+loop-e-init c = (omega arith, c.requires.2 ∙ switches_none c.args.model.now c.args.table.now)
 
 pub land-requires : goal.land-requires
 land-requires c =
-    let w = c.before in
-    let s = start w in
-    let m = s.args.model.now in
-    let t = s.args.table.now in
-    let e = w.loop-e.e in
-    (s.pre.0, s.pre.1, record { is_switch = is_switch w; count_is = sym (one w); is_piece = omega (arith, one w) }, lands_uncut m t s.pre.0 s.pre.3 e (is_switch w), is_table m t (joined_below m t e) w.loop-e.invariant.1)
+    let m = c.args.model.now in
+    let t = c.args.table.now in
+    let e = c.loop-e.e in
+    let is_switch : e < E# m = omega (arith, c.loop-e-test.true, c.switches-count.ensures) in
+    let single = one m t c.requires.0 c.requires.3 e is_switch in
+    (c.requires.0, c.requires.1, record { is_switch = is_switch; count_is = sym single; is_piece = omega (arith, single) }, lands_uncut m t c.requires.0 c.requires.3 e is_switch, is_table m t (joined_below m t e) c.loop-e.invariant.1)
 
 pub overflow_add-e : goal.overflow_add-e
-overflow_add-e c = let w = c.before.before.before in omega (arith, is_switch w, (whole_at (start w)).head.E_small)
-
-pub loop-e-smaller : goal.loop-e-smaller
-loop-e-smaller c = omega (arith, c.loop-e-test.true)
+overflow_add-e c = omega (arith, c.loop-e-test.true, c.switches-count.ensures, (whole _ _ c.requires.0).head.E_small)
 
 pub loop-e-preserved : goal.loop-e-preserved
 loop-e-preserved c =
-    let w = c.before.before.before in
-    let s = start w in
-    (omega (arith, is_switch w), c.land.ensures ∙ from_one s.args.model.now s.args.table.now w.loop-e.e (one w) w.loop-e.invariant.1)
-
-pub shape_of-out : goal.shape_of-out
-shape_of-out c =
-    let s = c.before.before.before.before in
-    let m = s.args.model.now in
-    let t = s.args.table.now in
-    omega (arith, ap length c.loop-e.invariant.1, table_length m (joined_below m t c.loop-e.e), ap length s.requires.2, table_length m (walls_joined m t))
+    let m = c.args.model.now in
+    let t = c.args.table.now in
+    let is_switch : c.loop-e.e < E# m = omega (arith, c.loop-e-test.true, c.switches-count.ensures) in
+    (omega arith, c.land.ensures ∙ from_one m t c.loop-e.e (one m t c.requires.0 c.requires.3 c.loop-e.e is_switch) c.loop-e.invariant.1)
 
 pub returns : goal.returns
 returns c =
-    let s = c.before.before.before.before in
-    let m = s.args.model.now in
-    let t = s.args.table.now in
+    let m = c.args.model.now in
+    let t = c.args.table.now in
     let e : c.loop-e.e ≡ E# m = omega (arith, c.loop-e.invariant.0, c.loop-e-test.false, c.switches-count.ensures) in
     c.loop-e.invariant.1 ∙ ap (λ (k : ℕ). table_by m (joined_below m t k)) e ∙ switches_all m t

@@ -2,30 +2,26 @@
 use mathlib.Core.Path.{sym}
 use native.Mathlib.Omega.{arith}
 use mir.Facts.{to_z-of_z}
-use borrow.Author.Rules.{rules}
 use Rattle.passes.proofs.Handing.{start_joins_nothing, start_is, start_walls, start_joins}
 use Rattle.passes.proofs.walls.join_started.Goals as goal
 
 pub start_part-requires : goal.start_part-requires
-start_part-requires c = let s = c.before in (s.requires.passes, s.requires.below, omega (arith, s.requires.n_is, s.requires.n_small))
+start_part-requires c = (c.requires.passes, c.requires.below, omega (arith, c.requires.n_is, c.requires.n_small))
 
 pub slice_bounds-join_walls-end : goal.slice_bounds-join_walls-end
 slice_bounds-join_walls-end c = sym (rw c.requires.n_is c.start_part.ensures.sized)
 
 pub join_walls-requires : goal.join_walls-requires
 join_walls-requires c =
-    let s = c.before.before.before.before.before.before in
-    let a = s.args in
-    rw (to_z-of_z s.ranges.variable, to_z-of_z s.ranges.value) (start_walls a.model.now a.l a.n a.inv.now a.rate.now a.variable a.value a.block.now s.requires c.start_part.ensures c.if-start_part.true)
+    let a = c.args in
+    rw (to_z-of_z c.ranges.variable, to_z-of_z c.ranges.value) (start_walls a.model.now a.l a.n a.inv.now a.rate.now a.variable a.value a.block.now c.requires c.start_part.ensures c.if-start_part.true)
 
 pub returns-then-start_part : goal.returns-then-start_part
 returns-then-start_part c =
-    let s = c.before.before.before.before.before.before.before.before in
-    let a = s.args in
-    start_joins a.model.now a.l a.n a.inv.now a.rate.now a.variable a.value a.block.now s.requires c.start_part.ensures c.if-start_part.true (rw (to_z-of_z s.ranges.variable, to_z-of_z s.ranges.value) at c.join_walls.ensures)
+    let a = c.args in
+    start_joins a.model.now a.l a.n a.inv.now a.rate.now a.variable a.value a.block.now c.requires c.start_part.ensures c.if-start_part.true (rw (to_z-of_z c.ranges.variable, to_z-of_z c.ranges.value) at c.join_walls.ensures)
 
 pub returns-else-start_part : goal.returns-else-start_part
 returns-else-start_part c =
-    let s = c.before.before.before.before in
-    let a = s.args in
-    start_joins_nothing a.model.now a.l a.n a.inv.now a.rate.now a.variable a.value a.block.now s.requires (start_is a.model.now a.l a.n a.inv.now a.rate.now a.variable a.value a.block.now s.requires c.start_part.ensures c.if-start_part.false)
+    let a = c.args in
+    start_joins_nothing a.model.now a.l a.n a.inv.now a.rate.now a.variable a.value a.block.now c.requires (start_is a.model.now a.l a.n a.inv.now a.rate.now a.variable a.value a.block.now c.requires c.start_part.ensures c.if-start_part.false)

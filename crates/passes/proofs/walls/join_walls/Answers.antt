@@ -91,13 +91,7 @@ module _ (c : goal.In-loop-f) where
   inside = omega (arith, end_is, at_is, next_inside start.args.n (cut start) start.args.block.now (given start) (ready start).are_pieces c.loop-f.f is_face)
 
   small : c.loop-f.f * size + size ≤ 312
-  small = omega (arith, inside, block_few start.args.n (cut start) start.args.block.now (given start) (ready start).are_pieces start.pre.n_small)
-
-  turn_long : length c.loop-f.block ≡ length start.args.block.now
-  turn_long =
-      let a = start.args in
-      put_length (λ f. group_size a.n (cut start) a.block.now (given start)) (joined_group a.n (cut start) a.block.now (given start)) (joined_sized a.n (cut start) a.block.now (given start)) a.block.now c.loop-f.f c.loop-f.invariant.1
-      (omega (arith, sum_same c.loop-f.f (pieces_per_face (cut start) * face_size a.n), at_is, inside))
+  small = omega (arith, inside, block_few start.args.n (cut start) start.args.block.now (given start) (ready start).are_pieces start.requires.n_small)
 
 pub overflow_mul-at : goal.overflow_mul-at
 overflow_mul-at c = record { fits = omega (arith, small c) }
@@ -113,6 +107,9 @@ word-requires c =
 pub offset_bounds-block-at : goal.offset_bounds-block-at
 offset_bounds-block-at c = omega (arith, small c.before)
 
+pub slice_bounds-join_wall-end : goal.slice_bounds-join_wall-end
+slice_bounds-join_wall-end c = omega (arith, inside c.before)
+
 invariant_ordered : (s : goal.Start) → Ordered s.args.n s.args.inv.now
 invariant_ordered s = inside_ordered s.requires.bounds_in.inside s.requires.bounds_in.is_ordered
 
@@ -127,11 +124,11 @@ join_wall-requires c =
     let a = s.args in
     let i = w.loop-f in
     record {
-      n_small = s.pre.n_small;
-      inv_in = s.pre.inv_in;
-      rate_in = s.pre.rate_in;
-      rate_ordered = s.pre.rate_ordered;
-      bounds_in = s.pre.bounds_in;
+      n_small = s.requires.n_small;
+      inv_in = s.requires.inv_in;
+      rate_in = s.requires.rate_in;
+      rate_ordered = s.requires.rate_ordered;
+      bounds_in = s.requires.bounds_in;
       window_end = w.window_end-end.ensures;
       d_below = omega (arith, is_face w);
       from_low = rw (wall_is c.before) (between_ends a.n a.inv.now (invariant_ordered s) i.f (is_face w)).0;
@@ -161,14 +158,6 @@ loop-f-preserved c =
           (next_joined a.n (cut s) a.block.now (given s) (ready s).are_pieces i.f (is_face w) i.invariant.1 (at_is w) (end_is w)
           (c.join_wall.ensures ∙ d ∙ walls_given a.n a.inv.now a.rate.now a.bounds.now (cut s) i.f part)),
     )
-
-pub shape_of-block : goal.shape_of-block
-shape_of-block c =
-    let s = c.before.before.before.before.before in
-    let a = s.args in
-    let i = c.loop-f in
-    put_length (λ f. group_size a.n (cut s) a.block.now (given s)) (joined_group a.n (cut s) a.block.now (given s)) (joined_sized a.n (cut s) a.block.now (given s)) a.block.now i.f i.invariant.1
-    (omega (arith, block_length a.n (cut s) a.block.now (given s) (ready s).are_pieces, sum_same i.f (pieces_per_face (cut s) * face_size a.n), mul-le-mul_right (pieces_per_face (cut s) * face_size a.n) i.invariant.0))
 
 pub returns : goal.returns
 returns c =

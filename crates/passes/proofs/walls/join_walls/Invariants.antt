@@ -31,7 +31,7 @@ use Rattle.passes.proofs.walls.join_walls.Given as goal
 
 abbrev pub invariant-loop-f : goal.invariant-loop-f
 invariant-loop-f l =
-    let c = cut_from (to_z w32 l.variable) (to_z w32 l.value) in
+    let c = cut_from l.variable l.value in
     (l.f ≤ 2 * l.n) × (l.block ≡ onto (cat l.f (joined_group l.n c l.initial.block (walls_from l.n l.inv l.rate c (present l.bounds)))) l.initial.block)
 
 abbrev pub decreases-loop-f : goal.decreases-loop-f

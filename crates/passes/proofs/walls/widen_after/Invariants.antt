@@ -21,7 +21,7 @@ use Rattle.passes.specs.Joining.{AfterJoin}
 use Rattle.passes.proofs.walls.widen_after.Given as goal
 
 abbrev pub invariant-loop-i : goal.invariant-loop-i
-invariant-loop-i l = (l.i ≤ l.n) × (length l.face ≡ length l.initial.face) × (l.face ≡ onto (pos 1 ∷ hull l.i (box_at l.n l.initial.face 1) (box_after l.n l.inv l.rate l.bounds l.d (to_z w64 l.b) l.t)) l.initial.face)
+invariant-loop-i l = (l.i ≤ l.n) × (length l.face ≡ length l.initial.face) × (l.face ≡ onto (pos 1 ∷ hull l.i (box_at l.n l.initial.face 1) (box_after l.n l.inv l.rate l.bounds l.d l.b l.t)) l.initial.face)
 
 abbrev pub decreases-loop-i : goal.decreases-loop-i
 decreases-loop-i l = l.n - l.i
