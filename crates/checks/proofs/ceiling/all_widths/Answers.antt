@@ -1,8 +1,6 @@
 -- The sum of the widths of the variables passed.
 use mathlib.Core.Path.{◌≡◌, sym}
-use Prim.Native.Nat.{◌-◌, ◌≤◌}
 use native.Mathlib.Omega.{arith}
-use Rattle.plant.specs.Tables.{all_widths}
 use Rattle.checks.proofs.Widths.{widths_none, widths_more, width_small, widths_small}
 use Rattle.checks.proofs.ceiling.all_widths.Goals as goal
 

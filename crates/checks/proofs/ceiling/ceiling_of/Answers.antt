@@ -1,7 +1,5 @@
 -- The sum over the locations passed.
 use mathlib.Core.Path.{◌≡◌, sym, ◌∙◌}
-use Prim.Native.Nat.{◌*◌, ◌-◌, ◌≤◌}
-use Rattle.integers.specs.Counted.{sum_below}
 use Rattle.plant.specs.Model.{L#}
 use Rattle.checks.proofs.Loops.{sum_none, sum_more}
 use Rattle.checks.proofs.Counts.{ceiling_at, ceiling_is}

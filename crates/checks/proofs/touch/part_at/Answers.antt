@@ -2,7 +2,6 @@
 use mathlib.Core.Path.{◌∙◌}
 use native.Mathlib.Omega.{arith}
 use Rattle.checks.proofs.Parts.{part_0, part_piece, piece_fits}
-use borrow.Author.Rules.{rules}
 use Rattle.checks.proofs.touch.part_at.Goals as goal
 
 pub face-requires-else-p-eq0 : goal.face-requires-else-p-eq0

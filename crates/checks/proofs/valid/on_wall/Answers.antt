@@ -7,7 +7,6 @@ use Rattle.integers.specs.Words.{word, eq_z}
 use Rattle.integers.proofs.Signed.{got32}
 use Rattle.plant.specs.Box.{low, high}
 use Rattle.plant.specs.Tables.{on_wall}
-use borrow.Author.Rules.{rules}
 use Rattle.checks.proofs.valid.on_wall.Goals as goal
 
 pub returns : goal.returns

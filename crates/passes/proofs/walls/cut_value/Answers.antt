@@ -4,7 +4,6 @@ use native.Mathlib.Omega.{arith}
 use Rattle.plant.proofs.Passed.{passed}
 use Rattle.plant.proofs.Passing.{whole}
 use Rattle.passes.proofs.Reading.{uncut_value}
-use borrow.Author.Rules.{rules}
 use Rattle.passes.proofs.walls.cut_value.Goals as goal
 
 pub overflow_mul-n : goal.overflow_mul-n
