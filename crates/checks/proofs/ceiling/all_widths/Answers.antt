@@ -1,8 +1,6 @@
 -- The sum of the widths of the variables passed.
 use mathlib.Core.Path.{◌≡◌, sym}
-use Prim.Native.Nat.{◌-◌, ◌≤◌}
 use native.Mathlib.Omega.{arith}
-use Rattle.plant.specs.Tables.{all_widths}
 use Rattle.checks.proofs.Widths.{widths_none, widths_more, width_small, widths_small}
 use Rattle.checks.proofs.ceiling.all_widths.Goals as goal
 
@@ -14,15 +12,11 @@ width-sum-requires c = c.requires.1 c.loop-i.i (omega arith)
 
 pub overflow_add-sum : goal.overflow_add-sum
 overflow_add-sum c =
-    let s = c.before.before.before in
     let i = c.loop-i.i in
-    record { fits = omega (arith, widths_small s.args.inv.now i (λ j l. s.requires.1 j (omega arith)), width_small s.args.inv.now i (s.requires.1 i (omega arith))) }
+    omega (arith, widths_small c.args.inv.now i (λ j l. c.requires.1 j (omega arith)), width_small c.args.inv.now i (c.requires.1 i (omega arith)))
 
 pub loop-i-preserved : goal.loop-i-preserved
-loop-i-preserved c =
-    let s = c.before.before.before in
-    let i = c.loop-i.i in
-    (omega arith, omega (arith, widths_more s.args.inv.now i))
+loop-i-preserved c = (omega arith, omega (arith, widths_more c.args.inv.now c.loop-i.i))
 
 pub returns : goal.returns
 returns c =

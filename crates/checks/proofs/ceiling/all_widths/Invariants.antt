@@ -1,9 +1,7 @@
 -- The sum of the widths of the variables passed.
-use mathlib.Core.Path.{◌≡◌, sym}
+use mathlib.Core.Path.{◌≡◌}
 use Prim.Native.Nat.{◌-◌, ◌≤◌}
-use native.Mathlib.Omega.{arith}
 use Rattle.plant.specs.Tables.{all_widths}
-use Rattle.checks.proofs.Widths.{widths_none, widths_more, width_small, widths_small}
 use Rattle.checks.proofs.ceiling.all_widths.Given as goal
 
 abbrev pub invariant-loop-i : goal.invariant-loop-i

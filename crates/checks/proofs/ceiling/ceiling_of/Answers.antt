@@ -1,7 +1,5 @@
 -- The sum over the locations passed.
 use mathlib.Core.Path.{◌≡◌, sym, ◌∙◌}
-use Prim.Native.Nat.{◌*◌, ◌-◌, ◌≤◌}
-use Rattle.integers.specs.Counted.{sum_below}
 use Rattle.plant.specs.Model.{L#}
 use Rattle.checks.proofs.Loops.{sum_none, sum_more}
 use Rattle.checks.proofs.Counts.{ceiling_at, ceiling_is}
@@ -20,9 +18,7 @@ pub location_ceiling-sum-requires : goal.location_ceiling-sum-requires
 location_ceiling-sum-requires c = (c.requires, omega (arith, c.locations-locations.ensures))
 
 pub overflow_add-sum : goal.overflow_add-sum
-overflow_add-sum c =
-    let s = c.before.before.before.before in
-    record { fits = omega (arith, c.loop-l.invariant.2, c.location_ceiling-sum.ensures.1, c.locations-locations.ensures, (passed s.args.model.now s.requires).L_small) }
+overflow_add-sum c = omega (arith, c.loop-l.invariant.2, c.location_ceiling-sum.ensures.1, c.locations-locations.ensures, (passed c.args.model.now c.requires).L_small)
 
 pub loop-l-smaller : goal.loop-l-smaller
 loop-l-smaller c = omega (arith, c.locations-locations.ensures)

@@ -1,13 +1,9 @@
 -- The sum over the locations passed.
-use mathlib.Core.Path.{◌≡◌, sym, ◌∙◌}
+use mathlib.Core.Path.{◌≡◌}
 use Prim.Native.Nat.{◌*◌, ◌-◌, ◌≤◌}
 use Rattle.integers.specs.Counted.{sum_below}
 use Rattle.plant.specs.Model.{L#}
-use Rattle.checks.proofs.Loops.{sum_none, sum_more}
-use Rattle.checks.proofs.Counts.{ceiling_at, ceiling_is}
-use native.Mathlib.Omega.{arith}
-use Rattle.plant.proofs.Passed.{passed}
-use Rattle.plant.proofs.Passing.{whole}
+use Rattle.checks.proofs.Counts.{ceiling_at}
 use Rattle.checks.proofs.ceiling.ceiling_of.Given as goal
 
 abbrev pub invariant-loop-l : goal.invariant-loop-l

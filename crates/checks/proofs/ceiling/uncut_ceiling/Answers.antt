@@ -4,7 +4,6 @@ use Prim.Native.Nat.{ℕ, ◌+◌, ◌*◌, ◌-◌, ◌≤◌}
 use native.Mathlib.Nat.{mul-le-mul}
 use native.Mathlib.Omega.{arith}
 use Rattle.plant.specs.Tables.{uncut_ceiling}
-use borrow.Author.Rules.{rules}
 use Rattle.checks.proofs.ceiling.uncut_ceiling.Goals as goal
 
 module _ (n w : ℕ) where

@@ -5,7 +5,6 @@ use lib.IntN.{ℤ, nat_abs, ◌-ℤ◌}
 use Rattle.integers.proofs.Signed.{fits64, back64, got64, abs_minus}
 use Rattle.plant.specs.Box.{low, high}
 use Rattle.plant.specs.Tables as T
-use borrow.Author.Rules.{rules}
 use Rattle.checks.proofs.ceiling.width.Goals as goal
 
 pub overflow_sub-word : goal.overflow_sub-word

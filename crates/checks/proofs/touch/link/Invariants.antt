@@ -1,12 +1,7 @@
 -- The boxes that the loop has passed are linked.
-use mathlib.Core.Path.{◌≡◌, subst}
-use Prim.Native.Nat.{ℕ, ◌-◌, ◌<◌, ◌≤◌}
-use native.Mathlib.Omega.{arith}
+use Prim.Native.Nat.{◌-◌, ◌≤◌}
 use Rattle.plant.specs.Model.{B#}
-use Rattle.plant.proofs.Passed.{passed}
-use Rattle.plant.proofs.Passing.{whole}
 use Rattle.checks.specs.Links.{Linked}
-use Rattle.checks.proofs.Links.{one_linked}
 use Rattle.checks.proofs.touch.link.Given as goal
 
 abbrev pub invariant-loop-b : goal.invariant-loop-b

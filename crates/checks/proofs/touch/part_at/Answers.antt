@@ -2,14 +2,12 @@
 use mathlib.Core.Path.{◌∙◌}
 use native.Mathlib.Omega.{arith}
 use Rattle.checks.proofs.Parts.{part_0, part_piece, piece_fits}
-use borrow.Author.Rules.{rules}
 use Rattle.checks.proofs.touch.part_at.Goals as goal
 
 pub face-requires-else-p-eq0 : goal.face-requires-else-p-eq0
 face-requires-else-p-eq0 c =
-    let s = c.before.before in
-    let a = s.args in
-    (s.requires.n_small, piece_fits a.n a.start.now a.table.now a.earlier a.p c.if-p-eq0.false c.piece_at.ensures (s.requires.piece_there (omega (arith, c.if-p-eq0.false))))
+    let a = c.args in
+    (c.requires.n_small, piece_fits a.n a.start.now a.table.now a.earlier a.p c.if-p-eq0.false c.piece_at.ensures (c.requires.piece_there (omega (arith, c.if-p-eq0.false))))
 
 pub returns-then-p-eq0 : goal.returns-then-p-eq0
 returns-then-p-eq0 c = let a = c.args in c.face.ensures ∙ part_0 a.n a.start.now a.table.now a.earlier a.p c.if-p-eq0.true

@@ -1,7 +1,6 @@
 -- The last box decides.
 use mathlib.Core.Path.{refl}
 use borrow.Author.Tests.{eq-eqb, ne_eqb}
-use borrow.Author.Rules.{rules}
 use Rattle.checks.proofs.touch.parts_asked.Goals as goal
 
 pub returns-then-last-eq0 : goal.returns-then-last-eq0

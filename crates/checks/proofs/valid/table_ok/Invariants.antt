@@ -1,14 +1,10 @@
 -- The pieces of the locations passed are all right.
 use mathlib.Core.Path.{◌≡◌}
-use Prim.Native.Nat.{◌-◌, ◌<◌, ◌≤◌}
+use Prim.Native.Nat.{◌-◌, ◌≤◌}
 use Rattle.integers.specs.Counted.{all_below}
 use Rattle.plant.specs.Model.{L#}
 use Rattle.plant.specs.Pieces.{pieces}
-use Rattle.plant.specs.Tables.{piece_ok, table_ok}
-use Rattle.checks.proofs.Loops.{all_none, all_more}
-use native.Mathlib.Omega.{arith}
-use Rattle.plant.proofs.Passed.{passed}
-use Rattle.plant.proofs.Passing.{whole}
+use Rattle.plant.specs.Tables.{piece_ok}
 use Rattle.checks.proofs.valid.table_ok.Given as goal
 
 abbrev pub invariant-loop-l : goal.invariant-loop-l

@@ -1,22 +1,10 @@
 -- After k turns each piece is joined with the steps of switch e from the pieces of its source's face below k.
-use mathlib.Core.Path.{◌≡◌, ap, ◌∙◌}
-use mathlib.Core.List.{List}
-use native.Mathlib.Omega.{arith}
-use Prim.Native.Nat.{ℕ, ◌-◌, ◌≤◌, ◌<◌}
-use lib.IntN.{ℤ}
-use lib.ListN.{length}
-use mir.Syntax.{w32}
-use mir.Val.{to_z, of_z}
-use Rattle.integers.proofs.Signed.{got32}
-use Rattle.plant.specs.Model.{L#, source, cut_variable, cut_value}
+use mathlib.Core.Path.{◌≡◌}
+use Prim.Native.Nat.{◌-◌, ◌≤◌}
+use Rattle.plant.specs.Model.{source}
 use Rattle.plant.specs.Pieces.{per_face}
 use Rattle.plant.specs.Tables.{table_by}
-use Rattle.plant.proofs.Pieces.{per_face_most}
-use Rattle.plant.proofs.Tables.{table_length}
-use Rattle.plant.proofs.Whole.{Whole, Placed}
-use Rattle.passes.specs.Joining.{LandsOn, joined_below}
-use Rattle.passes.proofs.Reading.{whole, placed}
-use Rattle.passes.proofs.Landing.{joined_from, from_none, from_all, from_more, is_table}
+use Rattle.passes.proofs.Landing.{joined_from}
 use Rattle.passes.proofs.switches.land_each.Given as goal
 
 abbrev pub invariant-loop-k : goal.invariant-loop-k

@@ -8,7 +8,7 @@ use lib.ListN.{get_or, length}
 use mir.Syntax.{w32}
 use mir.Val.{SFits, to_z, of_z}
 use mir.Facts.{to_z-of_z}
-use Rattle.plant.specs.Model.{n#, L#, E#, target, wall_variable, target_side, cut_value, cut_from, cut_of}
+use Rattle.plant.specs.Model.{n#, E#, target, wall_variable, target_side, cut_value, cut_from, cut_of}
 use Rattle.plant.specs.Pieces.{pieces_per_face, per_face}
 use Rattle.plant.specs.Tables.{face_size, table_size, pieces_before, piece_at, target_face}
 use Rattle.plant.proofs.Whole.{Whole, Placed}

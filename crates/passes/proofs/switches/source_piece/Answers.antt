@@ -4,8 +4,8 @@ use mathlib.Core.List.{List}
 use native.Mathlib.Omega.{arith}
 use Prim.Native.Nat.{ℕ, ◌+◌, ◌*◌, ◌≤◌, ◌<◌}
 use lib.IntN.{ℤ}
-use lib.ListN.{get_or, length}
-use Rattle.plant.specs.Model.{n#, L#, source, wall_variable, source_side}
+use lib.ListN.{get_or}
+use Rattle.plant.specs.Model.{n#, source, wall_variable, source_side}
 use Rattle.plant.specs.Pieces.{per_face, pieces, piece_number}
 use Rattle.plant.specs.Tables.{face_size, pieces_before, piece_at, source_piece}
 use Rattle.plant.proofs.Tables.{pieces-most}

@@ -1,15 +1,9 @@
 -- After e turns each piece is joined with its wall steps and the steps of the switches below e.
-use mathlib.Core.Path.{◌≡◌, ap, ◌∙◌}
-use native.Mathlib.Omega.{arith}
-use Prim.Native.Nat.{ℕ, ◌-◌, ◌≤◌, ◌<◌}
-use lib.ListN.{length}
+use mathlib.Core.Path.{◌≡◌}
+use Prim.Native.Nat.{◌-◌, ◌≤◌}
 use Rattle.plant.specs.Model.{E#}
-use Rattle.plant.specs.Tables.{table_by, walls_joined}
-use Rattle.plant.proofs.Tables.{table_length}
-use Rattle.plant.proofs.Whole.{Whole}
+use Rattle.plant.specs.Tables.{table_by}
 use Rattle.passes.specs.Joining.{joined_below}
-use Rattle.passes.proofs.Reading.{whole}
-use Rattle.passes.proofs.Landing.{switches_none, switches_all}
 use Rattle.passes.proofs.switches.switches_cut.Given as goal
 
 abbrev pub invariant-loop-e : goal.invariant-loop-e

@@ -4,14 +4,13 @@ use native.Mathlib.Omega.{arith}
 use Rattle.plant.proofs.Passed.{passed}
 use Rattle.plant.proofs.Passing.{whole}
 use Rattle.passes.proofs.Reading.{uncut_variable}
-use borrow.Author.Rules.{rules}
 use Rattle.passes.proofs.walls.cut_variable.Goals as goal
 
 pub overflow_mul-n : goal.overflow_mul-n
 overflow_mul-n c = omega (arith, c.requires.n_is, (passed c.args.model.now c.requires.passes).n_small)
 
 pub cut_variable-requires : goal.cut_variable-requires
-cut_variable-requires c = let s = c.before in let u = s.requires.below in (whole s.args.model.now s.requires.passes, u)
+cut_variable-requires c = (whole c.args.model.now c.requires.passes, c.requires.below)
 
 pub returns-then-count-n : goal.returns-then-count-n
-returns-then-count-n c = let s = c.before in sym (uncut_variable s.args.model.now s.args.l s.requires c.if-count-n.true)
+returns-then-count-n c = sym (uncut_variable c.args.model.now c.args.l c.requires c.if-count-n.true)
