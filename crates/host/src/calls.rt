@@ -1,6 +1,6 @@
-// The library's calls on words and on files, for C: each is one proved call, whose reply is given as a number and a value. The
-// number is 100 (done, safe, accepted), 101 (unknown), 102 (unfinished) or a refusal's; the value, of which a quote has three, is 0
-// on a refusal.
+// The library's calls on words and on files, as C has them (host_c gives them to C): each is one proved call, whose reply is given as
+// a number and a value. The number is 100 (done, safe, accepted), 101 (unknown), 102 (unfinished) or a refusal's; the value, of which
+// a quote has three, is 0 on a refusal.
 ghost use Rattle.std.specs.Prelude.{◌≡◌};
 ghost use Rattle.plant.specs.Calls.{Reply, answer_reply, verdict_reply, ceiling_reply, count_reply, ceiling_call, check_call, analyse_call};
 ghost use Rattle.orders.specs.Desks.{desk_call};
@@ -41,8 +41,7 @@ fn count_reply(count: Count, value: &mut u64) -> u32
 }
 
 // Reads a model file; the value is how many words the model has.
-#[unsafe(no_mangle)]
-pub extern "C" fn qii_read_model(file: &[u8], words: &mut [i32], value: &mut u64) -> u32
+pub fn qii_read_model(file: &[u8], words: &mut [i32], value: &mut u64) -> u32
     ensures { record { reply = record { code = result; value = value.new }; words = words.new } ≡ read_for_c (read_model_call file.now words.old) }
 {
     let count = model_files::read_model(file, words);
@@ -50,8 +49,7 @@ pub extern "C" fn qii_read_model(file: &[u8], words: &mut [i32], value: &mut u64
 }
 
 // Writes a model's file; the value is how many bytes it has.
-#[unsafe(no_mangle)]
-pub extern "C" fn qii_write_model(model: &[i32], file: &mut [u8], value: &mut u64) -> u32
+pub fn qii_write_model(model: &[i32], file: &mut [u8], value: &mut u64) -> u32
     ensures { record { reply = record { code = result; value = value.new }; file = file.new } ≡ written_for_c (write_model_call model.now file.old) }
 {
     let count = model_files::write_model(model, file);
@@ -59,8 +57,7 @@ pub extern "C" fn qii_write_model(model: &[i32], file: &mut [u8], value: &mut u6
 }
 
 // How many passes settle every answer.
-#[unsafe(no_mangle)]
-pub extern "C" fn qii_ceiling(model: &[i32], value: &mut u64) -> u32
+pub fn qii_ceiling(model: &[i32], value: &mut u64) -> u32
     ensures { record { code = result; value = value.new } ≡ ceiling_reply (ceiling_call model.now) }
 {
     let ceiling = analysis::ceiling(model);
@@ -87,13 +84,7 @@ fn quote_reply(
 }
 
 // What any analysis of a model takes at most: the words of its table, the bytes of a file of it, the passes.
-#[unsafe(no_mangle)]
-pub extern "C" fn qii_quote(
-    model: &[i32],
-    words: &mut u64,
-    bytes: &mut u64,
-    ceiling: &mut u64,
-) -> u32
+pub fn qii_quote(model: &[i32], words: &mut u64, bytes: &mut u64, ceiling: &mut u64) -> u32
     ensures { record { code = result; words = words.new; bytes = bytes.new; ceiling = ceiling.new } ≡ quote_reply (quote_call model.now) }
 {
     let quote = quote::quote(model);
@@ -111,8 +102,7 @@ pub extern "C" fn qii_quote(
 }
 
 // Whether a table shows that a model is safe.
-#[unsafe(no_mangle)]
-pub extern "C" fn qii_check<'a>(model: &'a [i32], table: &'a [i32]) -> u32
+pub fn qii_check<'a>(model: &'a [i32], table: &'a [i32]) -> u32
     ensures { result ≡ (verdict_reply (check_call model.now table.now)).code }
 {
     let verdict = analysis::check(model, table);
@@ -123,8 +113,7 @@ pub extern "C" fn qii_check<'a>(model: &'a [i32], table: &'a [i32]) -> u32
 }
 
 // The analysis under a limit of passes; the value is the number of passes made.
-#[unsafe(no_mangle)]
-pub extern "C" fn qii_analyse(
+pub fn qii_analyse(
     model: &[i32],
     limit: u32,
     table: &mut [i32],
@@ -138,13 +127,7 @@ pub extern "C" fn qii_analyse(
 }
 
 // Reads a table file; the value is how many words the table has.
-#[unsafe(no_mangle)]
-pub extern "C" fn qii_read_table(
-    model: &[i32],
-    file: &[u8],
-    table: &mut [i32],
-    value: &mut u64,
-) -> u32
+pub fn qii_read_table(model: &[i32], file: &[u8], table: &mut [i32], value: &mut u64) -> u32
     ensures { record { reply = record { code = result; value = value.new }; words = table.new } ≡ read_for_c (read_table_call model.now file.now table.old) }
 {
     let count = table_files::read_table(model, file, table);
@@ -152,13 +135,7 @@ pub extern "C" fn qii_read_table(
 }
 
 // Writes a table's file; the value is how many bytes it has.
-#[unsafe(no_mangle)]
-pub extern "C" fn qii_write_table(
-    model: &[i32],
-    table: &[i32],
-    file: &mut [u8],
-    value: &mut u64,
-) -> u32
+pub fn qii_write_table(model: &[i32], table: &[i32], file: &mut [u8], value: &mut u64) -> u32
     ensures { record { reply = record { code = result; value = value.new }; file = file.new } ≡ written_for_c (write_table_call model.now table.now file.old) }
 {
     let count = table_files::write_table(model, table, file);
@@ -166,8 +143,7 @@ pub extern "C" fn qii_write_table(
 }
 
 // The analysis at the desk: an answer moves both counters, by one job and by its passes.
-#[unsafe(no_mangle)]
-pub extern "C" fn qii_desk(
+pub fn qii_desk(
     jobs: &mut u32,
     passes: &mut u32,
     model: &[i32],
@@ -176,7 +152,7 @@ pub extern "C" fn qii_desk(
     work: &mut [i32],
     value: &mut u64,
 ) -> u32
-    ensures { record { desk = record { jobs = jobs.exit.now; passes = passes.new }; analysed = record { reply = record { code = result; value = value.new }; table = table.new; work = work.new } } ≡ served_for_c (desk_call (record { jobs = jobs.entry.now; passes = passes.old }) model.now limit table.old work.old) }
+    ensures { record { desk = record { jobs = jobs.new; passes = passes.new }; analysed = record { reply = record { code = result; value = value.new }; table = table.new; work = work.new } } ≡ served_for_c (desk_call (record { jobs = jobs.old; passes = passes.old }) model.now limit table.old work.old) }
 {
     let desk = Desk {
         jobs: *jobs,

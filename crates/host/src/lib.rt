@@ -1,4 +1,5 @@
-// The host's calls, for C (document 01, "Desk and host"). Nothing is kept between calls: each holds its words on the stack.
+// The host's calls (document 01, "Desk and host"), which the crate host_c gives to C. Nothing is kept between calls: each holds its
+// words on the stack.
 #![tactic(auto)]
 
 ghost use Rattle.std.specs.Prelude.{◌≡◌, ◌≤◌, length};
@@ -10,7 +11,7 @@ ghost use Rattle.interface.specs.Hosts.{packed, decided, decide_by, decide_call,
 
 use plant::{Answer, Count};
 
-mod calls;
+pub mod calls;
 
 // How many bytes the longest model file has, and how many are room for every table file.
 pub const LONGEST_MODEL_FILE: usize = 29907;
@@ -101,8 +102,7 @@ fn decide_most(model: &[u8], table: &mut [u8], limit: u32) -> u64
 
 // Decides a model file under a limit, and writes the answer's table file: the answer's code or a refusal's number, times 2^32,
 // plus the number of passes. Few words are held for the model at first: 5 says that they are not enough.
-#[unsafe(no_mangle)]
-pub extern "C" fn decide(model: &[u8], table: &mut [u8], limit: u32) -> u64
+pub fn decide(model: &[u8], table: &mut [u8], limit: u32) -> u64
     ensures { record { number = result; file = table.new } ≡ decide_call model.now table.old limit }
 {
     let mut words = [0i32; records::FEW_WORDS];
@@ -171,8 +171,7 @@ fn check_most(model: &[u8], table: &[u8]) -> u64
 
 // Checks a table file against a model file: 100 if it is accepted, else a refusal's number. Few words are held for the model at
 // first: 5 says that they are not enough.
-#[unsafe(no_mangle)]
-pub extern "C" fn check(model: &[u8], table: &[u8]) -> u64
+pub fn check(model: &[u8], table: &[u8]) -> u64
     ensures { result ≡ host_check_call model.now table.now }
 {
     let mut words = [0i32; records::FEW_WORDS];

@@ -33,7 +33,7 @@ use Rattle.files.specs.TableFile.{table_file, file_length, file_table, table_fil
 use Rattle.files.proofs.TableSizes.{file_most}
 use Rattle.files.proofs.TableBack.{table_le, file_asked, file_table_lem, file_told, file_bytes}
 use Rattle.orders.specs.Quotes.{quoted}
-use Rattle.orders.proofs.Kept.{words_are, bytes_are, ceiling_is}
+use Rattle.orders.proofs.Quoted.{words_are, bytes_are, ceiling_is}
 use Rattle.interface.specs.Hosts.{model_of, model_file_questions, Decided, decided, decide_by, decide_call, certificate_file_questions, host_check_call}
 use Rattle.interface.specs.HostDemand.{AcceptableFile, code, passes, answer_file, Decides, HostDemand}
 use Rattle.interface.proofs.Reading.{questions_le, longest_model, model_asked, is_model, file_passes}

@@ -3,11 +3,12 @@
 // pieces are present, how many and in which order is proved where the file is written.
 #![tactic(auto)]
 
-ghost use Rattle.std.specs.Prelude.{◌≡◌, ℕ, ◌+◌, ◌≤◌, ◌<◌, length};
+ghost use Rattle.std.specs.Prelude.{◌≡◌, ℕ, ◌+◌, ◌≤◌, ◌<◌, length, IfOk};
 ghost use Rattle.files.specs.Fields.{payload_length, field_length};
 ghost use Rattle.interface.specs.Hosts.{packed, decide_call};
 
-use libc::{STDIN_FILENO, STDOUT_FILENO};
+use std::io;
+use std::io::Read;
 
 // ---- what is listed
 
@@ -32,50 +33,64 @@ fn passes(number: u64) -> u64
     number % 4294967296
 }
 
+// ---- what is read
+
+// Reads until the buffer is full or the input ends, and gives how many bytes that was.
+fn read_full(input: &mut impl Read, buffer: &mut [u8]) -> io::Result<usize>
+    ensures { IfOk result (λ n. n ≤ length buffer.new) }
+{
+    let mut done: usize = 0;
+    while done < buffer.len() {
+        let n = input.read(&mut buffer[done..])?;
+        if n == 0 {
+            break;
+        }
+        done = done + n;
+    }
+    Ok(done)
+}
+
 // ---- what is written
 
-fn print(text: &[u8]) {
-    io::write_all(STDOUT_FILENO, text);
+fn print(out: &impl Print, text: &[u8]) -> io::Result<()> {
+    out.write_all(text)
 }
 
-fn print_number(n: u64) {
-    io::print_decimal(STDOUT_FILENO, n);
+fn print_number(out: &impl Print, n: u64) -> io::Result<()> {
+    print!(out; "{n}")
 }
 
-fn print_word(z: i32) {
-    let magnitude = integers::magnitude(z as i64);
-    if z < 0 {
-        print(b"-");
-    }
-    print_number(magnitude);
+fn print_word(out: &impl Print, z: i32) -> io::Result<()> {
+    print!(out; "{z}")
 }
 
 // What follows a word: a space, or the end of its line.
-fn print_end(last: bool) {
+fn print_end(out: &impl Print, last: bool) -> io::Result<()> {
     if last {
-        print(b"\n");
+        print(out, b"\n")
     } else {
-        print(b" ");
+        print(out, b" ")
     }
 }
 
 // A line of as many words, from a position of the file on.
-fn print_line(file: &[u8], from: usize, count: usize)
+fn print_line(out: &impl Print, file: &[u8], from: usize, count: usize) -> io::Result<()>
     requires { from + payload_length count ≤ length file.now }
 {
     let mut i: usize = 0;
     while i < count {
-        print_word(wire::word_at(file, from + wire::WORD_SIZE * i));
+        print_word(out, wire::word_at(file, from + wire::WORD_SIZE * i))?;
         i = i + 1;
-        print_end(i == count);
+        print_end(out, i == count)?;
     }
+    Ok(())
 }
 
 // How many words the first field of a table's file has: the count of its pieces.
 const COUNT_SIZE: usize = 1;
 
 // A line for each of as many fields of a table's file behind the first.
-fn print_pieces(file: &[u8], count: u64) {
+fn print_pieces(out: &impl Print, file: &[u8], count: u64) -> io::Result<()> {
     let mut at = wire::field_length(COUNT_SIZE);
     let mut i: u64 = 0;
     while i < count {
@@ -87,53 +102,54 @@ fn print_pieces(file: &[u8], count: u64) {
             ..
         } = field
         else {
-            return;
+            return Ok(());
         };
-        print_line(file, start, len / wire::WORD_SIZE);
+        print_line(out, file, start, len / wire::WORD_SIZE)?;
         at = next;
         i = i + 1;
     }
+    Ok(())
 }
 
 // How many pieces a table's file has, which its first field says, as the end of line one; then their lines.
-fn print_table(file: &[u8])
+fn print_table(out: &impl Print, file: &[u8]) -> io::Result<()>
     requires { field_length 1 ≤ length file.now }
 {
-    print_line(file, wire::HEADER_SIZE, COUNT_SIZE);
+    print_line(out, file, wire::HEADER_SIZE, COUNT_SIZE)?;
     let pieces = integers::magnitude(wire::word_at(file, wire::HEADER_SIZE) as i64);
-    print_pieces(file, pieces);
+    print_pieces(out, file, pieces)
 }
 
 // The word for an answer's code.
-fn print_answer(code: u64) {
+fn print_answer(out: &impl Print, code: u64) -> io::Result<()> {
     match code {
-        100 => print(b"safe "),
-        101 => print(b"unknown "),
-        _ => print(b"unfinished "),
+        100 => print(out, b"safe "),
+        101 => print(out, b"unknown "),
+        _ => print(out, b"unfinished "),
     }
 }
 
-fn print_listing(number: u64, table: &[u8])
+fn print_listing(out: &impl Print, number: u64, table: &[u8]) -> io::Result<()>
     requires { field_length 1 ≤ length table.now }
 {
     let code = code(number);
     if code < 100 {
-        print(b"refused ");
-        print_number(code);
-        print(b"\n");
-        return;
+        print(out, b"refused ")?;
+        print_number(out, code)?;
+        return print(out, b"\n");
     }
-    print_answer(code);
-    print_number(passes(number));
-    print(b" ");
-    print_table(table);
+    print_answer(out, code)?;
+    print_number(out, passes(number))?;
+    print(out, b" ")?;
+    print_table(out, table)
 }
 
-fn main() {
+// A read or a write that fails ends the program, with its error and the status 1.
+fn main(rt: HostRuntime) -> io::Result<()> {
     // One byte more than the longest model file has is read, so that every longer file is refused, by 8 or 46 if by nothing before.
     let mut model = [0u8; host::LONGEST_MODEL_FILE + 1];
-    let n = io::read_full(STDIN_FILENO, &mut model);
+    let n = read_full(&mut rt.stdin(), &mut model)?;
     let mut table = [0u8; host::LONGEST_TABLE_FILE];
     let number = listed(&model[..n], &mut table);
-    print_listing(number, &table)
+    print_listing(&rt, number, &table)
 }

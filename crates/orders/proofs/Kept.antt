@@ -9,7 +9,7 @@ use lib.ListN.{length, drop}
 use lib.Seq.{drop_at}
 use Rattle.integers.specs.Words.{onto}
 use Rattle.plant.specs.Questions.{model_questions}
-use Rattle.plant.specs.Tables.{table_size, longest_table_file, table_ok, table_after, ceiling_of}
+use Rattle.plant.specs.Tables.{longest_table_file, table_ok, table_after}
 use Rattle.plant.specs.Calls.{Analysed, reply_of, ceiling_reply, ceiling_by, ceiling_call, passes_of, answer_table, analysis, analysis_questions, answered, analyse_by, analyse_call, write_reply}
 use Rattle.plant.specs.Demands.{ceiling, answers, Room}
 use Rattle.plant.proofs.Asks.{ask_intro, ask_yes, then_both}
@@ -28,23 +28,10 @@ use Rattle.files.proofs.TableBack.{table_back}
 use Rattle.orders.specs.declared.Desk.{Desk}
 use Rattle.orders.specs.Desks.{desk_questions, desk_by, desk_call}
 use Rattle.plant.proofs.Widths.{ceiling-most}
-use Rattle.orders.specs.Quotes.{QuoteReply, quote_reply, quote_by, quote_call, quoted, NoneExceeds, QuoteDemand}
+use Rattle.orders.specs.Quotes.{quote_reply, quote_by, quote_call, quoted, NoneExceeds, QuoteDemand}
+use Rattle.orders.proofs.Quoted.{words_are, bytes_are, ceiling_is}
 
 module _ (m : List ℤ) where
-  -- what a model that passes is quoted
-  quoted_is : model_questions m ≡ 0 → quoted m ≡ record { code = 100; words = table_size m; bytes = longest_table_file m; ceiling = ceiling_of m }
-  unfolding quote_call
-  quoted_is asks = ap (λ (q : ℕ). quote_reply (quote_by m q)) asks
-
-  pub words_are : model_questions m ≡ 0 → (quoted m).words ≡ table_size m
-  words_are asks = ap (λ (r : QuoteReply). r.words) (quoted_is asks)
-
-  pub bytes_are : model_questions m ≡ 0 → (quoted m).bytes ≡ longest_table_file m
-  bytes_are asks = ap (λ (r : QuoteReply). r.bytes) (quoted_is asks)
-
-  pub ceiling_is : model_questions m ≡ 0 → (quoted m).ceiling ≡ ceiling_of m
-  ceiling_is asks = ap (λ (r : QuoteReply). r.ceiling) (quoted_is asks)
-
   largest : (q : ℕ) → model_questions m ≡ q → let r = quote_reply (quote_by m q) in (r.words ≤ 19968) × (r.bytes ≤ 96775) × (r.ceiling ≤ 12800001408)
   largest zero e = let w : Whole m = whole m e in (table_most m w.head.n_small w.head.L_small, longest_most m w, ceiling-most m (passed m e))
   largest (suc q) e = (omega arith, omega arith, omega arith)
@@ -62,7 +49,7 @@ module _ (m : List ℤ) where
     asked = analysis_questions m table work
 
     passes_by : (q : ℕ) → asked ≡ q → (reply_of (analyse_by q m limit table work)).value ≤ (quoted m).ceiling
-    passes_by zero e = omega (arith, passes_within m (model_asked m table work e) limit, ceiling_is (model_asked m table work e))
+    passes_by zero e = omega (arith, passes_within m (model_asked m table work e) limit, ceiling_is m (model_asked m table work e))
     passes_by (suc q) e = omega arith
 
     passes : (reply_of (analyse_call m limit table work)).value ≤ (quoted m).ceiling
@@ -71,7 +58,7 @@ module _ (m : List ℤ) where
 
     charge_by : (d : Desk) (q : ℕ) → desk_questions d m limit table work ≡ q → (desk_by q d m limit table work).desk.passes ≤ d.passes + (quoted m).ceiling
     unfolding desk_questions
-    charge_by d zero e = let asks : model_questions m ≡ 0 = model_asked m table work (then_both asked _ e).0 in omega (arith, passes_within m asks limit, ceiling_is asks)
+    charge_by d zero e = let asks : model_questions m ≡ 0 = model_asked m table work (then_both asked _ e).0 in omega (arith, passes_within m asks limit, ceiling_is m asks)
     charge_by d (suc q) e = omega arith
 
     charge : (d : Desk) → (desk_call d m limit table work).desk.passes ≤ d.passes + (quoted m).ceiling
@@ -88,13 +75,13 @@ module _ (m : List ℤ) where
 
       answer_words : length (answer_table m (analyse_call m limit table work).answer) ≡ (quoted m).words
       unfolding answer_table
-      answer_words = ap (λ (a : Analysed). length (answer_table m a.answer)) is_answered ∙ after_length m (passes_of (analysis m limit)) ∙ sym (words_are asks)
+      answer_words = ap (λ (a : Analysed). length (answer_table m a.answer)) is_answered ∙ after_length m (passes_of (analysis m limit)) ∙ sym (words_are m asks)
 
       taken : (file : List ℕ) → (quoted m).bytes ≤ length file
           → let t = (analyse_call m limit table work).table in write_reply (write_table_call m t file) ≡ record { code = 100; value = length (table_file m t) }
       unfolding answer_table
       taken file r = rw is_answered (ap write_reply
-          (table_back.written m (onto (table_after m k) table) file asks (long_enough m (onto (table_after m k) table) (pieces_after m k) (onto_begins m k table)) ok (omega (arith, bytes_are asks))))
+          (table_back.written m (onto (table_after m k) table) file asks (long_enough m (onto (table_after m k) table) (pieces_after m k) (onto_begins m k table)) ok (omega (arith, bytes_are m asks))))
         where
           k : ℕ
           k = passes_of (analysis m limit)
@@ -106,7 +93,7 @@ module _ (m : List ℤ) where
     unfolding answer_table onto
     behind_by zero e =
         let k : ℕ = passes_of (analysis m limit) in
-        rw (words_are (model_asked m table work e) ∙ sym (after_length m k)) (drop_at (table_after m k) (drop (length (table_after m k)) table) (length (table_after m k)) refl)
+        rw (words_are m (model_asked m table work e) ∙ sym (after_length m k)) (drop_at (table_after m k) (drop (length (table_after m k)) table) (length (table_after m k)) refl)
     behind_by (suc q) e = refl
 
     behind : drop (quoted m).words (analyse_call m limit table work).table ≡ drop (quoted m).words table
@@ -115,7 +102,7 @@ module _ (m : List ℤ) where
 
     enough : model_questions m ≡ 0 → (quoted m).words ≤ length table → (quoted m).words ≤ length work → 100 ≤ answers m limit table work
     enough asks a b =
-        let r : Room m table work = record { table_room = omega (arith, words_are asks); work_room = omega (arith, words_are asks) } in
+        let r : Room m table work = record { table_room = omega (arith, words_are m asks); work_room = omega (arith, words_are m asks) } in
         subst (λ (x : Analysed). 100 ≤ (reply_of x).code) (sym ((first_demand m).with_table asks limit table work r)) (answer_code m limit)
 
   none_exceeds : (limit : ℕ) (table work : List ℤ) → NoneExceeds m limit table work
@@ -124,7 +111,7 @@ module _ (m : List ℤ) where
     charge_within = charge limit table work;
     table_words = answer_words limit table work;
     behind_words = behind limit table work;
-    file_within = λ h. omega (arith, file_most m (analyse_call m limit table work).table, bytes_are (asks limit table work h));
+    file_within = λ h. omega (arith, file_most m (analyse_call m limit table work).table, bytes_are m (asks limit table work h));
     file_taken = λ file h. taken limit table work h file;
   }
 
