@@ -9,7 +9,6 @@ use lib.ListN.{length, drop, replicate}
 use lib.Seq.{take_all}
 use Rattle.integers.specs.Words.{equal, onto}
 use Rattle.plant.specs.declared.Answer.{Answer}
-use Rattle.plant.specs.declared.Answer.TheVariants.{Refused}
 use Rattle.plant.specs.declared.Verdict.TheVariants.{Accepted}
 use Rattle.plant.specs.declared.Verdict.TheVariants as verdict
 use Rattle.plant.specs.declared.Ceiling.TheVariants.{Passes}

@@ -17,7 +17,6 @@ use Rattle.files.specs.declared.Field.{Field}
 use Rattle.plant.specs.Model.{n#, L#, E#, B#, location_size, switch_size, forbidden_size, switch_at, forbidden_at, cut_at, model_size}
 use Rattle.plant.proofs.Asks.{ask_yes, or_right, both, then_both, first_each}
 use Rattle.plant.proofs.Whole as model
-use Rattle.plant.proofs.Positions as at
 use Rattle.plant.proofs.Positions.{head_first}
 use Rattle.files.specs.ModelFile.{has_tag, field_questions, run_questions, locations_from, switches_from, forbiddens_from, cuts_from, buffer_question, cuts_questions, body_questions, run_words, record_words, file_cut, cut_words, file_words}
 use Rattle.files.proofs.Cuts.{length_cut, cuts_few}

@@ -1,6 +1,5 @@
 -- The questions' number is the refusal, or the answer is the analysis's.
 use mathlib.Core.Path.{sym, ◌∙◌}
-use borrow.Author.Rules.{rules}
 use Rattle.plant.proofs.AnalysisAsked.{analyse_refused, analyse_answered}
 use Rattle.analysis.proofs.analyse.Goals as goal
 

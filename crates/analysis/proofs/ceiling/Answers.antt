@@ -1,6 +1,5 @@
 -- Refused by the model's number, or the ceiling.
 use mathlib.Core.Path.{sym, ◌∙◌}
-use borrow.Author.Rules.{rules}
 use Rattle.analysis.proofs.Calls.{ceiling-refused, ceiling-passes}
 use Rattle.analysis.proofs.ceiling.Goals as goal
 

@@ -7,7 +7,6 @@ use lib.ListN.{length, length-replicate}
 use Rattle.plant.proofs.Passing.{head_ready}
 use Rattle.tables.proofs.Faces.{table_most}
 use Rattle.analysis.proofs.Sizes.{prefix}
-use borrow.Author.Rules.{rules}
 use Rattle.analysis.proofs.certificate_held.Goals as goal
 
 pub slice_bounds-certificate_with-end : goal.slice_bounds-certificate_with-end

@@ -1,7 +1,6 @@
 -- The places are made once.
 use mathlib.Core.Path.{refl}
 use Rattle.plant.proofs.Passing.{whole}
-use borrow.Author.Rules.{rules}
 use Rattle.analysis.proofs.certificate_questions.Goals as goal
 
 pub places-requires : goal.places-requires

@@ -1,8 +1,6 @@
 -- Each return is one case of the two questions.
 use mathlib.Core.Path.{◌≡◌, sym, ◌∙◌}
 use mathlib.Core.Bool.{true}
-use borrow.Author.Rules.{rules}
-use borrow.Author.Tests.{not-true, not-false}
 use Rattle.integers.specs.Words.{equal}
 use Rattle.plant.specs.Tables.{pass}
 use Rattle.checks.proofs.Links.{none_linked}
@@ -19,7 +17,7 @@ pub returns-then-touching : goal.returns-then-touching
 returns-then-touching c =
     -- after 33: a pass leaves the table as it is
     let fixed : (let a = c.args in equal (pass a.model.now a.table.now) a.table.now ≡ true) =
-        sym c.fixpoint.ensures.0 ∙ c.if-not-fixpoint.false
+    sym c.fixpoint.ensures.0 ∙ c.if-not-fixpoint.false
     in
     touches _ _ c.requires.0.size fixed (sym c.touching.ensures ∙ c.if-touching.true)
 
@@ -27,6 +25,6 @@ pub returns : goal.returns
 returns c =
     -- after 33: a pass leaves the table as it is
     let fixed : (let a = c.args in equal (pass a.model.now a.table.now) a.table.now ≡ true) =
-        sym c.fixpoint.ensures.0 ∙ c.if-not-fixpoint.false
+    sym c.fixpoint.ensures.0 ∙ c.if-not-fixpoint.false
     in
     certified _ _ c.requires.0.size fixed (sym c.touching.ensures ∙ c.if-touching.false)

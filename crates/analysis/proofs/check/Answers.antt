@@ -2,7 +2,6 @@
 use mathlib.Core.Path.{◌≡◌, sym, ap, ◌∙◌}
 use Prim.Native.Nat.{ℕ, ◌≤◌}
 use native.Mathlib.Omega.{arith}
-use borrow.Author.Rules.{rules}
 use lib.ListN.{length, take}
 use lib.Seq.{length-take-le}
 use Rattle.plant.specs.Questions.{model_questions}
@@ -32,7 +31,7 @@ pub slice_bounds-table_questions-end : goal.slice_bounds-table_questions-end
 slice_bounds-table_questions-end c =
     -- the part that is lent
     let size : length (take c.table_size-end.result c.args.table.now) ≡ c.table_size-end.result =
-        length-take-le _ _ (omega (arith, c.if-table-end.false))
+    length-take-le _ _ (omega (arith, c.if-table-end.false))
     in
     sym size
 
@@ -42,7 +41,7 @@ table_questions-q-requires c =
     let asks : model_questions c.args.model.now ≡ 0 = sym c.questions-q.ensures ∙ c.if-q-ne0.false in
     -- the part that is lent
     let size : length (take c.table_size-end.result c.args.table.now) ≡ c.table_size-end.result =
-        length-take-le _ _ (omega (arith, c.if-table-end.false))
+    length-take-le _ _ (omega (arith, c.if-table-end.false))
     in
     record { passes = asks; size = size ∙ c.table_size-end.ensures }
 
@@ -54,7 +53,7 @@ returns-then-q-ne0-2 c =
     let room : table_size c.args.model.now ≤ length c.args.table.now = omega (arith, c.table_size-end.ensures, c.if-table-end.false) in
     -- its questions are those of the list that is given
     let asked : c.table_questions-q.result ≡ table_questions c.args.model.now (front c.args.model.now c.args.table.now) =
-        c.table_questions-q.ensures ∙ ap (λ (k : ℕ). table_questions c.args.model.now (take k c.args.table.now)) c.table_size-end.ensures
+    c.table_questions-q.ensures ∙ ap (λ (k : ℕ). table_questions c.args.model.now (take k c.args.table.now)) c.table_size-end.ensures
     in
     check_table _ _ asks room _ asked c.if-q-ne0-2.true
 
@@ -66,6 +65,6 @@ returns c =
     let room : table_size c.args.model.now ≤ length c.args.table.now = omega (arith, c.table_size-end.ensures, c.if-table-end.false) in
     -- its questions are those of the list that is given
     let asked : c.table_questions-q.result ≡ table_questions c.args.model.now (front c.args.model.now c.args.table.now) =
-        c.table_questions-q.ensures ∙ ap (λ (k : ℕ). table_questions c.args.model.now (take k c.args.table.now)) c.table_size-end.ensures
+    c.table_questions-q.ensures ∙ ap (λ (k : ℕ). table_questions c.args.model.now (take k c.args.table.now)) c.table_size-end.ensures
     in
     check_accepted _ _ asks room _ asked c.if-q-ne0-2.false

@@ -1,11 +1,9 @@
 -- The places are made once; each return is one case of the three questions.
 use mathlib.Core.Path.{◌≡◌, refl, sym, ◌∙◌}
 use mathlib.Core.Bool.{true}
-use borrow.Author.Tests.{not-true, not-false}
 use Rattle.plant.specs.Tables.{table_ok}
 use Rattle.plant.proofs.Passing.{whole}
 use Rattle.analysis.proofs.Calls.{not_valid, valid_asked}
-use borrow.Author.Rules.{rules}
 use Rattle.analysis.proofs.table_questions.Goals as goal
 
 pub places-requires : goal.places-requires

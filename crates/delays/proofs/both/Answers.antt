@@ -1,5 +1,4 @@
 -- The two ends of the shared interval, each by its call.
-use borrow.Author.Rules.{rules}
 use Rattle.delays.proofs.both.Goals as goal
 
 pub returns : goal.returns

@@ -3,7 +3,6 @@ use mathlib.Core.Path.{ap₂, ◌∙◌}
 use Rattle.integers.specs.Rounding.{min_z}
 use Rattle.integers.proofs.Signed.{got64}
 use Rattle.plant.specs.Box.{high}
-use borrow.Author.Rules.{rules}
 use Rattle.delays.proofs.cut_high.Goals as goal
 
 pub returns : goal.returns

@@ -3,7 +3,6 @@ use mathlib.Core.Path.{ap₂, ◌∙◌}
 use Rattle.integers.specs.Rounding.{max_z}
 use Rattle.integers.proofs.Signed.{got64}
 use Rattle.plant.specs.Box.{low}
-use borrow.Author.Rules.{rules}
 use Rattle.delays.proofs.cut_low.Goals as goal
 
 pub returns : goal.returns

@@ -3,7 +3,6 @@ use native.Mathlib.Omega.{arith}
 use lib.IntN.{◌-ℤ◌}
 use mir.Facts.{to_z-of_z}
 use Rattle.integers.proofs.Signed.{fits64, back64, abs_minus}
-use borrow.Author.Rules.{rules}
 use Rattle.delays.proofs.delay.Goals as goal
 
 pub overflow_sub-x : goal.overflow_sub-x

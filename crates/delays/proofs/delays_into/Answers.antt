@@ -1,7 +1,6 @@
 -- The test for no delay chooses the arm; the ends are those that the two calls give.
 use mir.Facts.{to_z-of_z}
 use Rattle.plant.specs.Delays.{delays_into}
-use borrow.Author.Rules.{rules}
 use Rattle.delays.proofs.delays_into.Goals as goal
 
 pub returns-then-no_delay : goal.returns-then-no_delay

@@ -1,6 +1,5 @@
 -- The test chooses the arm of the definition.
 use mathlib.Core.Path.{sym, ◌∙◌}
-use borrow.Author.Rules.{rules}
 use Rattle.delays.proofs.later.Goals as goal
 
 pub returns-then-le : goal.returns-then-le

@@ -1,7 +1,6 @@
 -- Each branch is the arm of the definition that its tests choose; a rate and its negation have one magnitude.
 use mir.Facts.{to_z-of_z}
 use Rattle.integers.proofs.Signed.{abs_neg}
-use borrow.Author.Rules.{rules}
 use Rattle.delays.proofs.latest.Goals as goal
 
 pub returns-then-endless : goal.returns-then-endless

@@ -1,7 +1,6 @@
 -- Words 2i and 2i + 1 are the variable's low and high; the signs of the rates choose the arm of the definition.
 use Rattle.integers.proofs.Signed.{got64}
 use Rattle.plant.specs.Box.{low, high}
-use borrow.Author.Rules.{rules}
 use Rattle.delays.proofs.WindowEnd.{latest_falling, latest_rising, latest_endless}
 use Rattle.delays.proofs.latest_inside.Goals as goal
 

@@ -1,7 +1,6 @@
 -- Cross products of small fractions fit a word.
 use native.Mathlib.Omega.{arith}
 use Rattle.delays.proofs.Small.{cross_small}
-use borrow.Author.Rules.{rules}
 use Rattle.delays.proofs.le.Goals as goal
 
 pub overflow_mul-result : goal.overflow_mul-result

@@ -2,7 +2,6 @@
 use mir.Facts.{to_z-of_z}
 use Rattle.integers.proofs.Signed.{got64}
 use Rattle.plant.specs.Box.{low, high}
-use borrow.Author.Rules.{rules}
 use Rattle.delays.proofs.variable_delays.Goals as goal
 
 pub delays_into-requires : goal.delays_into-requires

@@ -12,7 +12,6 @@ use Rattle.plant.specs.declared.Delays.TheVariants.{Between}
 use Rattle.delays.specs.Ranges.{LevelAt, RateAt, Level, SmallInterval}
 use Rattle.delays.proofs.Small.{delays_small, sooner_small}
 use Rattle.delays.proofs.WindowEnd.{wall_none, wall-cut}
-use borrow.Author.Rules.{rules}
 use Rattle.delays.proofs.wall_delays.Goals as goal
 
 -- the variable's own delays

@@ -1,9 +1,8 @@
 -- The loop keeps the end of the window of the variables so far.
 use native.Mathlib.Omega.{arith}
-use Prim.Native.Nat.{◌-◌, ◌<◌}
-use borrow.Author.Rules.{rules}
+use Prim.Native.Nat.{◌<◌}
 use Rattle.delays.proofs.Small.{in_levels}
-use Rattle.delays.proofs.WindowEnd.{EndSoFar, end_start, end_more, end_all, within_at, latest_small}
+use Rattle.delays.proofs.WindowEnd.{end_start, end_more, end_all, within_at, latest_small}
 use Rattle.delays.proofs.window_end.Goals as goal
 
 pub loop-i-init : goal.loop-i-init

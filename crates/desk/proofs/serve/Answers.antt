@@ -2,8 +2,6 @@
 use mathlib.Core.Path.{◌≡◌, sym, ◌∙◌}
 use mathlib.Core.Bool.{true}
 use native.Mathlib.Omega.{arith}
-use borrow.Author.Tests.{not-true, not-false}
-use borrow.Author.Rules.{rules}
 use Rattle.plant.specs.Calls.{analysis_questions}
 use Rattle.orders.specs.Desks.{counters_ok}
 use Rattle.orders.proofs.Serving.{jobs_fit, limit_fits, k_within, desk_refused, desk_full, desk_answered}

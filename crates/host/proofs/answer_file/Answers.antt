@@ -1,6 +1,5 @@
 -- The words held are enough: fewer for a smaller table, else those of the largest table.
 use Rattle.plant.proofs.Passing.{whole}
-use borrow.Author.Rules.{rules}
 use Rattle.interface.proofs.Deciding.{table_fits}
 use Rattle.host.proofs.answer_file.Goals as goal
 

@@ -1,7 +1,6 @@
 -- The words lent are enough for the questions of an analysis; its answer's table is what is written.
 use mathlib.Core.Path.{sym}
 use native.Mathlib.Omega.{arith}
-use borrow.Author.Rules.{rules}
 use Rattle.plant.proofs.Passing.{whole}
 use Rattle.plant.proofs.AnalysisAsked.{all_yes}
 use Rattle.interface.proofs.Deciding.{answer_front, is_decided}

@@ -1,5 +1,4 @@
 -- The file's number is the refusal, or its words are asked for.
-use borrow.Author.Rules.{rules}
 use Rattle.interface.proofs.Reading.{when, other_roomy, read_refused, read_yes, read_front, model_passes}
 use Rattle.interface.proofs.Checking.{check_refused, check_words}
 use Rattle.host.proofs.check.Goals as goal

@@ -1,5 +1,4 @@
 -- The table file's number is the refusal, or 33 and 34 are asked of its table.
-use borrow.Author.Rules.{rules}
 use Rattle.interface.proofs.Reading.{when}
 use Rattle.interface.proofs.Checking.{table_refused, table_yes, table_front, table_sized, table_valid, file_refused, file_asked}
 use Rattle.host.proofs.check_with.Goals as goal

@@ -1,5 +1,4 @@
 -- The file's number is the refusal, or its words are decided.
-use borrow.Author.Rules.{rules}
 use Rattle.interface.proofs.Reading.{when, other_roomy, read_refused, read_yes, read_front, model_passes}
 use Rattle.interface.proofs.Deciding.{decide_refused, decide_words}
 use Rattle.host.proofs.decide.Goals as goal

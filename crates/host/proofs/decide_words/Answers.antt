@@ -1,6 +1,5 @@
 -- 39, then the answer.
 use mathlib.Core.Path.{sym, ◌∙◌}
-use borrow.Author.Rules.{rules}
 use Rattle.plant.proofs.Passing.{whole}
 use Rattle.interface.proofs.Deciding.{no_room, has_room, room}
 use Rattle.host.proofs.decide_words.Goals as goal

@@ -1,6 +1,5 @@
 -- Each case of the answer has its code.
 use mathlib.Core.Path.{sym, ap, ◌∙◌}
-use borrow.Author.Rules.{rules}
 use Rattle.plant.specs.declared.Answer.{Answer}
 use Rattle.plant.specs.Calls.{answer_reply}
 use Rattle.interface.specs.Hosts.{packed}

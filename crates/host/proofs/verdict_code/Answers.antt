@@ -1,7 +1,6 @@
 -- The number of a question that is not yes is the code.
 use mathlib.Core.Path.{◌≡◌, refl}
 use Prim.Native.Nat.{ℕ, zero, suc}
-use borrow.Author.Rules.{rules}
 use Rattle.plant.specs.Calls.{check_by}
 use Rattle.host.proofs.verdict_code.Goals as goal
 

@@ -5,7 +5,6 @@ use lib.IntN.{neg_ℤ, nat_abs}
 use mir.Facts.{to_z-of_z}
 use Rattle.integers.specs.Rounding.{floor_z, ceil_z}
 use Rattle.integers.proofs.Signed.{fits64, back64, zero_minus, abs_neg, floor_abs}
-use borrow.Author.Rules.{rules}
 use Rattle.integers.proofs.ceil_div.Goals as goal
 
 small : (c : goal.After-floor_div) → nat_abs (floor_z (neg_ℤ c.args.z) c.args.d) < 9223372036854775808

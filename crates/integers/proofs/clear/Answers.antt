@@ -5,7 +5,7 @@ use Rattle.integers.proofs.Buffers.{onto_none, onto-set, onto_all, replicate_mor
 use lib.ListN.{length-set, length-replicate}
 use native.Mathlib.Omega.{arith}
 use mathlib.Core.Path.{◌≡◌, refl, ap, ◌∙◌}
-use Prim.Native.Nat.{ℕ, ◌-◌, ◌≤◌}
+use Prim.Native.Nat.{ℕ}
 use lib.ListN.{length, replicate}
 use lib.IntN.{pos}
 use Rattle.integers.specs.Words.{onto}

@@ -1,11 +1,6 @@
 -- Filled from the front: after i turns the first i words are zero, the rest as they were.
-use lib.IntN.{ℤ}
-use mathlib.Core.List.{List}
-use Rattle.integers.proofs.Buffers.{onto_none, onto-set, onto_all, replicate_more}
-use lib.ListN.{length-set, length-replicate}
-use native.Mathlib.Omega.{arith}
-use mathlib.Core.Path.{◌≡◌, refl, ap, ◌∙◌}
-use Prim.Native.Nat.{ℕ, ◌-◌, ◌≤◌}
+use mathlib.Core.Path.{◌≡◌}
+use Prim.Native.Nat.{◌-◌, ◌≤◌}
 use lib.ListN.{length, replicate}
 use lib.IntN.{pos}
 use Rattle.integers.specs.Words.{onto}

@@ -9,7 +9,6 @@ use mir.Syntax.{w64}
 use mir.Val.{SFits}
 use mir.Facts.{to_z-of_z, to_z_pos}
 use Rattle.integers.proofs.Signed.{flip_fits, flip_back, nonneg, nonneg_abs, quot_below, minus_one, floor_neg, floor_pos, floor_one}
-use borrow.Author.Rules.{rules}
 use Rattle.integers.proofs.floor_div.Goals as goal
 
 pub returns-then-d-eq1 : goal.returns-then-d-eq1

@@ -5,7 +5,6 @@ use lib.IntN.{pos}
 use lib.Signed.{lt_z}
 use mir.Facts.{to_z-of_z}
 use Rattle.integers.proofs.Signed.{flip_fits, flip_back, abs_below, nonneg, nonneg_abs}
-use borrow.Author.Rules.{rules}
 use Rattle.integers.proofs.magnitude.Goals as goal
 
 pub overflow_sub-result : goal.overflow_sub-result

@@ -1,6 +1,5 @@
 use mir.Syntax.{w32}
 use mir.Facts.{to_z-of_z, Fits-nat_abs}
-use borrow.Author.Rules.{rules}
 use Rattle.integers.proofs.natural.Goals as goal
 
 pub overflow_cast-result : goal.overflow_cast-result

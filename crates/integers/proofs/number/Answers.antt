@@ -2,7 +2,6 @@ use Rattle.integers.specs.Words as W
 use mir.Facts.{to_z-of_z}
 use mir.Syntax.{w32}
 use borrow.Author.Rules.{sfits_of}
-use borrow.Author.Rules.{rules}
 use Rattle.integers.proofs.number.Goals as goal
 
 pub returns : goal.returns

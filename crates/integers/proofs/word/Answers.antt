@@ -1,7 +1,6 @@
 use mir.Facts.{to_z-of_z}
 use Rattle.integers.proofs.Signed.{got32, widened}
 use Rattle.integers.specs.Words as W
-use borrow.Author.Rules.{rules}
 use Rattle.integers.proofs.word.Goals as goal
 
 pub overflow_cast-result : goal.overflow_cast-result

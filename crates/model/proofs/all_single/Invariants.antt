@@ -1,11 +1,8 @@
 -- The flag is the test of the variables passed.
 use mathlib.Core.Path.{◌≡◌}
 use Prim.Native.Nat.{◌-◌, ◌≤◌}
-use native.Mathlib.Omega.{arith}
-use borrow.Author.Rules.{rules}
 use Rattle.integers.specs.Counted.{all_below}
 use Rattle.plant.specs.Questions.{single_at}
-use Rattle.model.proofs.Turns.{all_none, all_more}
 use Rattle.model.proofs.all_single.Given as goal
 
 abbrev pub invariant-loop-i : goal.invariant-loop-i

@@ -1,6 +1,5 @@
 -- Below k is from 0 to k - 1.
 use native.Mathlib.Omega.{arith}
-use borrow.Author.Rules.{rules}
 use Rattle.integers.proofs.Signed.{got64}
 use Rattle.model.proofs.Turns.{below_top}
 use Rattle.model.proofs.below_ok.Goals as goal

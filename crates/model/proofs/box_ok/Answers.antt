@@ -1,11 +1,8 @@
 -- The flag is the test of the variables passed: the invariant is the definition itself, at i.
 use mathlib.Core.Path.{◌≡◌}
-use Prim.Native.Nat.{◌≤◌, ◌-◌}
 use native.Mathlib.Omega.{arith}
 use lib.IntN.{pos}
-use borrow.Author.Rules.{rules}
 use Rattle.integers.proofs.Signed.{fits64, got64, as_signed}
-use Rattle.plant.specs.Questions.{box_ok}
 use Rattle.model.proofs.Turns.{limit_fits, limit_back, box_none, box_more}
 use Rattle.model.proofs.box_ok.Goals as goal
 

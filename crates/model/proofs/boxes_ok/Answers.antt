@@ -2,7 +2,6 @@
 use mathlib.Core.Path.{ap}
 use native.Mathlib.Omega.{arith}
 use lib.ListN.{length}
-use borrow.Author.Rules.{rules}
 use Rattle.plant.specs.Questions.{boxes_ok}
 use Rattle.plant.proofs.Positions as at
 use Rattle.model.proofs.boxes_ok.Goals as goal

@@ -1,5 +1,4 @@
 -- -1 and 0, or the test of a variable and a value.
-use borrow.Author.Rules.{rules}
 use Rattle.integers.proofs.Signed.{got32}
 use Rattle.plant.specs.Questions as Q
 use Rattle.model.proofs.cut_question.Goals as goal

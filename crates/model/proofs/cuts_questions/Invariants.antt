@@ -1,11 +1,8 @@
 -- The invariant: the questions of the cuts passed are all answered yes.
 use mathlib.Core.Path.{◌≡◌}
 use Prim.Native.Nat.{◌≤◌, ◌-◌}
-use native.Mathlib.Omega.{arith}
-use borrow.Author.Rules.{rules}
 use Rattle.plant.specs.Questions.{cut_question}
 use Rattle.plant.specs.Ask.{first}
-use Rattle.plant.proofs.Asks.{first_none, run_stop, run_more, run_end}
 use Rattle.model.proofs.cuts_questions.Given as goal
 
 abbrev pub invariant-loop-l : goal.invariant-loop-l

@@ -1,5 +1,5 @@
 -- The edition in 64 bits is the word.
-use borrow.Author.Rules.{rules, sfits_of}
+use borrow.Author.Rules.{sfits_of}
 use mir.Syntax.{w32}
 use mir.Facts.{to_z-of_z}
 use Rattle.integers.proofs.Signed.{got32, widened}

@@ -1,11 +1,7 @@
 -- The flag is the test of the variables passed: the invariant is the definition itself, at i.
 use mathlib.Core.Path.{◌≡◌}
 use Prim.Native.Nat.{◌≤◌, ◌-◌}
-use native.Mathlib.Omega.{arith}
-use borrow.Author.Rules.{rules}
-use Rattle.integers.proofs.Signed.{got64}
 use Rattle.plant.specs.Questions.{inside_ok}
-use Rattle.model.proofs.Turns.{inside_none, inside_more}
 use Rattle.model.proofs.inside_ok.Given as goal
 
 abbrev pub invariant-loop-i : goal.invariant-loop-i

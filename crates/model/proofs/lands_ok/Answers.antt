@@ -1,5 +1,4 @@
 -- Both levels are words.
-use borrow.Author.Rules.{rules}
 use Rattle.integers.proofs.Signed.{got32}
 use Rattle.plant.specs.Questions.{lands_ok}
 use Rattle.model.proofs.lands_ok.Goals as goal

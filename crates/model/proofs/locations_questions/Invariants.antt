@@ -1,11 +1,8 @@
 -- The invariant: the questions of the locations passed are all answered yes.
 use mathlib.Core.Path.{◌≡◌}
 use Prim.Native.Nat.{◌≤◌, ◌-◌}
-use native.Mathlib.Omega.{arith}
-use borrow.Author.Rules.{rules}
 use Rattle.plant.specs.Questions.{location_questions}
 use Rattle.plant.specs.Ask.{first}
-use Rattle.plant.proofs.Asks.{first_none, run_stop, run_more, run_end}
 use Rattle.model.proofs.locations_questions.Given as goal
 
 abbrev pub invariant-loop-l : goal.invariant-loop-l

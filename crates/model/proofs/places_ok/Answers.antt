@@ -2,7 +2,6 @@
 use Prim.Native.Nat.{◌+◌, ◌≤◌}
 use native.Mathlib.Omega.{arith}
 use lib.ListN.{length}
-use borrow.Author.Rules.{rules}
 use Rattle.plant.specs.Questions as Q
 use Rattle.plant.proofs.Positions as at
 use Rattle.plant.proofs.Passing.{masks_small}

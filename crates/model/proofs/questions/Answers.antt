@@ -3,7 +3,6 @@ use mathlib.Core.Path.{refl, sym, ◌∙◌}
 use Prim.Native.Nat.{◌<◌}
 use native.Mathlib.Omega.{arith}
 use lib.ListN.{length}
-use borrow.Author.Rules.{rules}
 use Rattle.plant.specs.Model.{head_size, model_size}
 use Rattle.plant.specs.Questions.{model_questions}
 use Rattle.plant.proofs.Asks.{go, halt}

@@ -1,5 +1,4 @@
 -- Four words are there; the first answer that is not yes counts.
-use borrow.Author.Rules.{rules}
 use Rattle.integers.proofs.Signed.{got64}
 use Rattle.plant.specs.Questions as Q
 use Rattle.plant.proofs.Asks.{both}

@@ -1,5 +1,4 @@
 -- All are asked; the first that is not yes is the answer.
-use borrow.Author.Rules.{rules}
 use Rattle.plant.specs.Questions as Q
 use Rattle.plant.proofs.Asks.{both}
 use Rattle.model.proofs.records_questions.Goals as goal

@@ -4,7 +4,6 @@ use mathlib.Core.Bool.{Bool, not, ◌||◌}
 use Prim.Native.Nat.{◌*◌}
 use native.Mathlib.Omega.{arith}
 use lib.ListN.{length}
-use borrow.Author.Rules.{rules}
 use Rattle.integers.specs.Words.{word}
 use Rattle.integers.proofs.Signed.{got32}
 use Rattle.plant.specs.Box.{low, high}

@@ -1,5 +1,4 @@
 -- By the edition: d alone, or all variables.
-use borrow.Author.Rules.{rules}
 use Rattle.integers.proofs.Signed.{got32}
 use Rattle.model.proofs.Switch.{single_d, single_all}
 use Rattle.model.proofs.single_ok.Goals as goal

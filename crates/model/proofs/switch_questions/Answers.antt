@@ -1,7 +1,6 @@
 -- A no to 14 ends it. After a yes the numbers of the switch may be read, and the other questions asked.
 use mathlib.Core.Path.{refl, sym}
 use native.Mathlib.Omega.{arith}
-use borrow.Author.Rules.{rules}
 use Rattle.plant.specs.Questions as Q
 use Rattle.plant.proofs.Asks.{ask_intro, go, halt, both}
 use Rattle.plant.proofs.Whole.{Placed}
@@ -16,21 +15,21 @@ returns-then-not-places_ok c = halt _ (asked_no 14 c.places_ok.ensures c.if-not-
 pub single_ok-requires : goal.single_ok-requires
 single_ok-requires c =
     let at_places : (let a = c.args in Placed a.model.now a.e) =
-        placed c.args.model.now c.args.e c.requires.0 c.requires.1 (asked_yes c.places_ok.ensures c.if-not-places_ok.false-raw)
+    placed c.args.model.now c.args.e c.requires.0 c.requires.1 (asked_yes c.places_ok.ensures c.if-not-places_ok.false-raw)
     in
     at_places
 
 pub guard_ok-requires : goal.guard_ok-requires
 guard_ok-requires c =
     let at_places : (let a = c.args in Placed a.model.now a.e) =
-        placed c.args.model.now c.args.e c.requires.0 c.requires.1 (asked_yes c.places_ok.ensures c.if-not-places_ok.false-raw)
+    placed c.args.model.now c.args.e c.requires.0 c.requires.1 (asked_yes c.places_ok.ensures c.if-not-places_ok.false-raw)
     in
     at_places
 
 pub lands_ok-requires : goal.lands_ok-requires
 lands_ok-requires c =
     let at_places : (let a = c.args in Placed a.model.now a.e) =
-        placed c.args.model.now c.args.e c.requires.0 c.requires.1 (asked_yes c.places_ok.ensures c.if-not-places_ok.false-raw)
+    placed c.args.model.now c.args.e c.requires.0 c.requires.1 (asked_yes c.places_ok.ensures c.if-not-places_ok.false-raw)
     in
     at_places
 

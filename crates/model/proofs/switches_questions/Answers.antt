@@ -1,10 +1,6 @@
 -- The invariant: the questions of the switches passed are all answered yes.
-use mathlib.Core.Path.{◌≡◌}
-use Prim.Native.Nat.{◌≤◌, ◌-◌}
 use native.Mathlib.Omega.{arith}
-use borrow.Author.Rules.{rules}
 use Rattle.plant.specs.Questions.{switch_questions}
-use Rattle.plant.specs.Ask.{first}
 use Rattle.plant.proofs.Asks.{first_none, run_stop, run_more, run_end}
 use Rattle.model.proofs.switches_questions.Goals as goal
 

@@ -1,10 +1,7 @@
 -- The flag is the test of the words passed: the invariant is the definition itself, at i.
 use mathlib.Core.Path.{◌≡◌}
-use Prim.Native.Nat.{◌≤◌, ◌-◌}
 use native.Mathlib.Omega.{arith}
-use borrow.Author.Rules.{rules}
 use Rattle.integers.proofs.Signed.{got32}
-use Rattle.plant.specs.Questions.{zeros_ok}
 use Rattle.model.proofs.Turns.{zeros_none, zeros_more}
 use Rattle.model.proofs.zeros_ok.Goals as goal
 

@@ -3,7 +3,6 @@ use mathlib.Core.Path.{◌≡◌, sym, ◌∙◌}
 use Rattle.plant.specs.Questions.{model_questions}
 use Rattle.plant.proofs.Passing.{whole}
 use Rattle.quote.proofs.Calls.{quote_refused, quote_at_most}
-use borrow.Author.Rules.{rules}
 use Rattle.quote.proofs.quote.Goals as goal
 
 passes : (c : goal.Else-q-ne0) → model_questions c.args.model.now ≡ 0

@@ -1,6 +1,5 @@
 -- After the forbidden boxes, two words for each location.
 use native.Mathlib.Omega.{arith}
-use borrow.Author.Rules.{rules}
 use Rattle.plant.specs.Model.{cut_at}
 use Rattle.plant.proofs.Positions.{forbidden_small}
 use Rattle.records.proofs.cut_at.Goals as goal

@@ -2,7 +2,6 @@
 use mathlib.Core.Path.{◌≡◌, ◌∙◌}
 use Prim.Native.Nat.{◌+◌}
 use native.Mathlib.Omega.{arith}
-use borrow.Author.Rules.{rules}
 use Rattle.integers.specs.Words.{word}
 use Rattle.integers.proofs.Signed.{got32}
 use Rattle.plant.specs.Model as M

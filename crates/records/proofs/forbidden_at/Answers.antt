@@ -1,6 +1,5 @@
 -- After the switches, at most 64 boxes of at most 13 words: no product wraps.
 use native.Mathlib.Omega.{arith}
-use borrow.Author.Rules.{rules}
 use Rattle.plant.specs.Model.{forbidden_at}
 use Rattle.plant.proofs.Positions.{switch_small, forbiddens_small}
 use Rattle.records.proofs.forbidden_at.Goals as goal

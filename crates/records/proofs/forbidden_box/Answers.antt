@@ -1,6 +1,5 @@
 -- The record of forbidden box b lies within the words, and so does this box.
 use native.Mathlib.Omega.{arith}
-use borrow.Author.Rules.{rules}
 use Rattle.plant.specs.Model as M
 use Rattle.plant.proofs.Positions.{forbidden_within}
 use Rattle.records.proofs.forbidden_box.Goals as goal

@@ -1,6 +1,5 @@
 -- Word 3 of the head, which is there and not negative.
 use native.Mathlib.Omega.{arith}
-use borrow.Author.Rules.{rules}
 use Rattle.records.proofs.forbidden_boxes.Goals as goal
 
 pub number-requires : goal.number-requires

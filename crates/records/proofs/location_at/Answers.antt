@@ -1,6 +1,5 @@
 -- At most 64 locations of at most 37 words: no product wraps.
 use native.Mathlib.Omega.{arith}
-use borrow.Author.Rules.{rules}
 use Rattle.plant.specs.Model.{location_at}
 use Rattle.plant.proofs.Positions.{locations_small}
 use Rattle.records.proofs.location_at.Goals as goal

@@ -1,6 +1,5 @@
 -- A shift by i divides by 2 ^ i.
 use mathlib.Core.Path.{refl}
-use borrow.Author.Rules.{rules}
 use Rattle.plant.specs.Model as M
 use Rattle.records.proofs.masked.Goals as goal
 

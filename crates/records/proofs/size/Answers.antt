@@ -1,5 +1,4 @@
 -- Where the cuts end.
-use borrow.Author.Rules.{rules}
 use Rattle.plant.specs.Model.{model_size}
 use Rattle.records.proofs.size.Goals as goal
 

@@ -1,7 +1,6 @@
 -- The record of switch e lies within the words, and its numbers are not negative.
 use native.Mathlib.Nat.{add-zero}
 use native.Mathlib.Omega.{arith}
-use borrow.Author.Rules.{rules}
 use Rattle.plant.specs.Model as M
 use Rattle.plant.proofs.Positions.{switch_within}
 use Rattle.records.proofs.source.Goals as goal

@@ -1,6 +1,5 @@
 -- The record of switch e lies within the words, and its numbers are not negative.
 use native.Mathlib.Omega.{arith}
-use borrow.Author.Rules.{rules}
 use Rattle.plant.specs.Model as M
 use Rattle.plant.proofs.Positions.{switch_within}
 use Rattle.records.proofs.source_side.Goals as goal

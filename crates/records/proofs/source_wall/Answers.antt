@@ -2,7 +2,6 @@
 use mathlib.Core.Path.{◌≡◌, ◌∙◌, ap}
 use native.Mathlib.Omega.{arith}
 use lib.ListN.{length}
-use borrow.Author.Rules.{rules}
 use Rattle.integers.proofs.Signed.{got32}
 use Rattle.plant.specs.Questions as Q
 use Rattle.plant.proofs.Positions as at

@@ -1,6 +1,5 @@
 -- After at most 64 locations, at most 128 switches of at most 30 words: no product wraps.
 use native.Mathlib.Omega.{arith}
-use borrow.Author.Rules.{rules}
 use Rattle.plant.specs.Model.{switch_at}
 use Rattle.plant.proofs.Positions.{location_small, switches_small}
 use Rattle.records.proofs.switch_at.Goals as goal

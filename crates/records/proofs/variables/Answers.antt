@@ -1,6 +1,5 @@
 -- Word 0 of the head, which is there and not negative.
 use native.Mathlib.Omega.{arith}
-use borrow.Author.Rules.{rules}
 use Rattle.records.proofs.variables.Goals as goal
 
 pub number-requires : goal.number-requires

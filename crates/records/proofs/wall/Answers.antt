@@ -1,6 +1,5 @@
 -- The end of side s stands s words after the low of d.
 use mathlib.Core.Path.{◌∙◌}
-use borrow.Author.Rules.{rules}
 use Rattle.integers.proofs.Signed.{got32}
 use Rattle.records.proofs.Walls.{wall_at}
 use Rattle.records.proofs.wall.Goals as goal

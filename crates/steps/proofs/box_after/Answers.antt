@@ -1,18 +1,15 @@
 -- The loop has written the ends of the first i variables, and each of them is ordered.
 use mathlib.Core.Path.{◌≡◌, refl, sym, ap₂}
 use mathlib.Core.Bool.{Bool, true, false, not, ◌&&◌}
-use Prim.Native.Nat.{◌+◌, ◌*◌, ◌-◌, ◌≤◌, ◌<◌}
+use Prim.Native.Nat.{◌+◌, ◌*◌, ◌<◌}
 use native.Mathlib.Omega.{arith}
-use lib.Signed.{lt_z, le_z}
+use lib.Signed.{le_z}
 use lib.ListN.{length, length-set}
 use mir.Syntax.{w64}
 use mir.Val.{to_z, of_z}
 use mir.Facts.{to_z-of_z}
 use borrow.Author.Rules.{rules}
-use Rattle.integers.specs.Words.{onto}
-use Rattle.integers.specs.Counted.{all_below}
 use Rattle.integers.proofs.Signed.{got64, back32, fits32}
-use Rattle.plant.specs.Box.{box_by}
 use Rattle.plant.specs.Steps.{low_after, high_after}
 use Rattle.delays.proofs.Small.{in_levels}
 use Rattle.steps.proofs.Bounds.{Word, low_after_word, high_after_word}
@@ -37,8 +34,8 @@ pub returns-then-hi-lo : goal.returns-then-hi-lo
 returns-then-hi-lo c =
     -- the ends of a turn, as the test has them
     let ordered : (let a = c.args in let i = c.loop-i.i in le_z (low_after a.n a.inv.now a.rate.now a.part.now a.d (to_z w64 (of_z w64 a.b)) a.t i) (high_after a.n a.inv.now a.rate.now a.part.now a.d (to_z w64 (of_z w64 a.b)) a.t i) ≡ not true) =
-        let a = c.args in
-        rw (← (c.low_after-lo.ensures a.n), ← (c.high_after-hi.ensures a.n)) (le_by c.low_after-lo.result c.high_after-hi.result (simp (got64 c.low_after-lo.result c.low_after-lo.type_inv, got64 c.high_after-hi.result c.high_after-hi.type_inv) at c.if-hi-lo.true))
+    let a = c.args in
+    rw (← (c.low_after-lo.ensures a.n), ← (c.high_after-hi.ensures a.n)) (le_by c.low_after-lo.result c.high_after-hi.result (simp (got64 c.low_after-lo.result c.low_after-lo.type_inv, got64 c.high_after-hi.result c.high_after-hi.type_inv) at c.if-hi-lo.true))
     in
     let l = c.loop-i in
     let b = to_z-of_z c.ranges.b in
@@ -48,22 +45,22 @@ pub overflow_cast-out : goal.overflow_cast-out
 overflow_cast-out c =
     -- the ends of variable i fit the words that take them
     let low_word : Word c.low_after-lo.result =
-        let a = c.args in
-        let i = c.loop-i.i in
-        rw (c.low_after-lo.ensures a.n)
-        (low_after_word a.n a.inv.now a.rate.now a.part.now a.d (to_z w64 (of_z w64 a.b)) a.t i
-        (c.requires.0.inv_in i (omega arith)) (c.requires.0.rate_in i (omega arith)) (in_levels c.requires.0.inv_in c.requires.0.part_in_lem i (omega arith)) (simp (to_z-of_z c.ranges.b) c.requires.0.wall_in) c.requires.1)
+    let a = c.args in
+    let i = c.loop-i.i in
+    rw (c.low_after-lo.ensures a.n)
+    (low_after_word a.n a.inv.now a.rate.now a.part.now a.d (to_z w64 (of_z w64 a.b)) a.t i
+    (c.requires.0.inv_in i (omega arith)) (c.requires.0.rate_in i (omega arith)) (in_levels c.requires.0.inv_in c.requires.0.part_in_lem i (omega arith)) (simp (to_z-of_z c.ranges.b) c.requires.0.wall_in) c.requires.1)
     in
     simp (got64 c.low_after-lo.result c.low_after-lo.type_inv) (fits32 (omega (arith, low_word)))
 
 pub overflow_cast-out-in-loop-i : goal.overflow_cast-out-in-loop-i
 overflow_cast-out-in-loop-i c =
     let high_word : Word c.high_after-hi.result =
-        let a = c.args in
-        let i = c.loop-i.i in
-        rw (c.high_after-hi.ensures a.n)
-        (high_after_word a.n a.inv.now a.rate.now a.part.now a.d (to_z w64 (of_z w64 a.b)) a.t i
-        (c.requires.0.inv_in i (omega arith)) (c.requires.0.rate_in i (omega arith)) (in_levels c.requires.0.inv_in c.requires.0.part_in_lem i (omega arith)) (simp (to_z-of_z c.ranges.b) c.requires.0.wall_in) c.requires.1)
+    let a = c.args in
+    let i = c.loop-i.i in
+    rw (c.high_after-hi.ensures a.n)
+    (high_after_word a.n a.inv.now a.rate.now a.part.now a.d (to_z w64 (of_z w64 a.b)) a.t i
+    (c.requires.0.inv_in i (omega arith)) (c.requires.0.rate_in i (omega arith)) (in_levels c.requires.0.inv_in c.requires.0.part_in_lem i (omega arith)) (simp (to_z-of_z c.ranges.b) c.requires.0.wall_in) c.requires.1)
     in
     simp (got64 c.high_after-hi.result c.high_after-hi.type_inv) (fits32 (omega (arith, high_word)))
 
@@ -74,23 +71,23 @@ pub loop-i-preserved : goal.loop-i-preserved
 loop-i-preserved c =
     -- the ends of a turn, as the test has them
     let ordered : (let a = c.args in let i = c.loop-i.i in le_z (low_after a.n a.inv.now a.rate.now a.part.now a.d (to_z w64 (of_z w64 a.b)) a.t i) (high_after a.n a.inv.now a.rate.now a.part.now a.d (to_z w64 (of_z w64 a.b)) a.t i) ≡ not false) =
-        let a = c.args in
-        rw (← (c.low_after-lo.ensures a.n), ← (c.high_after-hi.ensures a.n)) (le_by c.low_after-lo.result c.high_after-hi.result (simp (got64 c.low_after-lo.result c.low_after-lo.type_inv, got64 c.high_after-hi.result c.high_after-hi.type_inv) at c.if-hi-lo.false))
+    let a = c.args in
+    rw (← (c.low_after-lo.ensures a.n), ← (c.high_after-hi.ensures a.n)) (le_by c.low_after-lo.result c.high_after-hi.result (simp (got64 c.low_after-lo.result c.low_after-lo.type_inv, got64 c.high_after-hi.result c.high_after-hi.type_inv) at c.if-hi-lo.false))
     in
     -- the ends of variable i fit the words that take them
     let low_word : Word c.low_after-lo.result =
-        let a = c.args in
-        let i = c.loop-i.i in
-        rw (c.low_after-lo.ensures a.n)
-        (low_after_word a.n a.inv.now a.rate.now a.part.now a.d (to_z w64 (of_z w64 a.b)) a.t i
-        (c.requires.0.inv_in i (omega arith)) (c.requires.0.rate_in i (omega arith)) (in_levels c.requires.0.inv_in c.requires.0.part_in_lem i (omega arith)) (simp (to_z-of_z c.ranges.b) c.requires.0.wall_in) c.requires.1)
+    let a = c.args in
+    let i = c.loop-i.i in
+    rw (c.low_after-lo.ensures a.n)
+    (low_after_word a.n a.inv.now a.rate.now a.part.now a.d (to_z w64 (of_z w64 a.b)) a.t i
+    (c.requires.0.inv_in i (omega arith)) (c.requires.0.rate_in i (omega arith)) (in_levels c.requires.0.inv_in c.requires.0.part_in_lem i (omega arith)) (simp (to_z-of_z c.ranges.b) c.requires.0.wall_in) c.requires.1)
     in
     let high_word : Word c.high_after-hi.result =
-        let a = c.args in
-        let i = c.loop-i.i in
-        rw (c.high_after-hi.ensures a.n)
-        (high_after_word a.n a.inv.now a.rate.now a.part.now a.d (to_z w64 (of_z w64 a.b)) a.t i
-        (c.requires.0.inv_in i (omega arith)) (c.requires.0.rate_in i (omega arith)) (in_levels c.requires.0.inv_in c.requires.0.part_in_lem i (omega arith)) (simp (to_z-of_z c.ranges.b) c.requires.0.wall_in) c.requires.1)
+    let a = c.args in
+    let i = c.loop-i.i in
+    rw (c.high_after-hi.ensures a.n)
+    (high_after_word a.n a.inv.now a.rate.now a.part.now a.d (to_z w64 (of_z w64 a.b)) a.t i
+    (c.requires.0.inv_in i (omega arith)) (c.requires.0.rate_in i (omega arith)) (in_levels c.requires.0.inv_in c.requires.0.part_in_lem i (omega arith)) (simp (to_z-of_z c.ranges.b) c.requires.0.wall_in) c.requires.1)
     in
     let a = c.args in
     let l = c.loop-i in

@@ -1,20 +1,13 @@
 -- The loop has written the ends of the first i variables, and each of them is ordered.
 use mathlib.Core.Path.{◌≡◌, refl, sym, ap₂}
 use mathlib.Core.Bool.{Bool, true, false, not, ◌&&◌}
-use mathlib.Core.List.{List}
-use Prim.Native.Nat.{ℕ, ◌+◌, ◌*◌, ◌-◌, ◌≤◌, ◌<◌}
+use Prim.Native.Nat.{◌+◌, ◌*◌, ◌<◌}
 use native.Mathlib.Omega.{arith}
-use lib.IntN.{ℤ}
-use lib.Signed.{lt_z, le_z}
+use lib.Signed.{le_z}
 use lib.ListN.{length, length-set}
-use mir.Syntax.{w64}
-use mir.Val.{to_z, of_z}
 use borrow.Author.Rules.{rules}
-use Rattle.integers.specs.Rounding.{max_z, min_z}
-use Rattle.integers.specs.Words.{onto}
-use Rattle.integers.specs.Counted.{all_below}
 use Rattle.integers.proofs.Signed.{got64, back32, fits32}
-use Rattle.plant.specs.Box.{low, high, box_by, cut}
+use Rattle.plant.specs.Box.{cut}
 use Rattle.delays.specs.Ranges.{Level}
 use Rattle.delays.proofs.Small.{level_max, level_min}
 use Rattle.steps.proofs.Written.{none_written, next_written, none_tested, next_tested, le_by}
@@ -43,8 +36,8 @@ unfolding cut
 returns-then-high-low c =
     -- the ends of a turn, as the test has them
     let ordered : (let a = c.args in let i = c.loop-i.i in le_z (lo a.a.now a.b.now i) (hi a.a.now a.b.now i) ≡ not true) =
-        let a = c.args in
-        rw (← c.cut_low-low.ensures, ← c.cut_high-high.ensures) (le_by c.cut_low-low.result c.cut_high-high.result (simp (got64 c.cut_low-low.result c.cut_low-low.type_inv, got64 c.cut_high-high.result c.cut_high-high.type_inv) at c.if-high-low.true))
+    let a = c.args in
+    rw (← c.cut_low-low.ensures, ← c.cut_high-high.ensures) (le_by c.cut_low-low.result c.cut_high-high.result (simp (got64 c.cut_low-low.result c.cut_low-low.type_inv, got64 c.cut_high-high.result c.cut_high-high.type_inv) at c.if-high-low.true))
     in
     let l = c.loop-i in
     ends_left c.args.n _ _ l.i (omega arith) ordered c.requires.room l.invariant.2
@@ -53,18 +46,18 @@ pub overflow_cast-out : goal.overflow_cast-out
 overflow_cast-out c =
     -- the ends of variable i are levels
     let low_level : Level c.cut_low-low.result =
-        let p = c.requires in
-        let i = c.loop-i.i in
-        rw c.cut_low-low.ensures (level_max _ _ (p.a_in i (omega arith)).low_in (p.b_in i (omega arith)).low_in)
+    let p = c.requires in
+    let i = c.loop-i.i in
+    rw c.cut_low-low.ensures (level_max _ _ (p.a_in i (omega arith)).low_in (p.b_in i (omega arith)).low_in)
     in
     simp (got64 c.cut_low-low.result c.cut_low-low.type_inv) (fits32 (omega (arith, low_level)))
 
 pub overflow_cast-out-in-loop-i : goal.overflow_cast-out-in-loop-i
 overflow_cast-out-in-loop-i c =
     let high_level : Level c.cut_high-high.result =
-        let p = c.requires in
-        let i = c.loop-i.i in
-        rw c.cut_high-high.ensures (level_min _ _ (p.a_in i (omega arith)).high_in (p.b_in i (omega arith)).high_in)
+    let p = c.requires in
+    let i = c.loop-i.i in
+    rw c.cut_high-high.ensures (level_min _ _ (p.a_in i (omega arith)).high_in (p.b_in i (omega arith)).high_in)
     in
     simp (got64 c.cut_high-high.result c.cut_high-high.type_inv) (fits32 (omega (arith, high_level)))
 
@@ -75,19 +68,19 @@ pub loop-i-preserved : goal.loop-i-preserved
 loop-i-preserved c =
     -- the ends of a turn, as the test has them
     let ordered : (let a = c.args in let i = c.loop-i.i in le_z (lo a.a.now a.b.now i) (hi a.a.now a.b.now i) ≡ not false) =
-        let a = c.args in
-        rw (← c.cut_low-low.ensures, ← c.cut_high-high.ensures) (le_by c.cut_low-low.result c.cut_high-high.result (simp (got64 c.cut_low-low.result c.cut_low-low.type_inv, got64 c.cut_high-high.result c.cut_high-high.type_inv) at c.if-high-low.false))
+    let a = c.args in
+    rw (← c.cut_low-low.ensures, ← c.cut_high-high.ensures) (le_by c.cut_low-low.result c.cut_high-high.result (simp (got64 c.cut_low-low.result c.cut_low-low.type_inv, got64 c.cut_high-high.result c.cut_high-high.type_inv) at c.if-high-low.false))
     in
     -- the ends of variable i are levels
     let low_level : Level c.cut_low-low.result =
-        let p = c.requires in
-        let i = c.loop-i.i in
-        rw c.cut_low-low.ensures (level_max _ _ (p.a_in i (omega arith)).low_in (p.b_in i (omega arith)).low_in)
+    let p = c.requires in
+    let i = c.loop-i.i in
+    rw c.cut_low-low.ensures (level_max _ _ (p.a_in i (omega arith)).low_in (p.b_in i (omega arith)).low_in)
     in
     let high_level : Level c.cut_high-high.result =
-        let p = c.requires in
-        let i = c.loop-i.i in
-        rw c.cut_high-high.ensures (level_min _ _ (p.a_in i (omega arith)).high_in (p.b_in i (omega arith)).high_in)
+    let p = c.requires in
+    let i = c.loop-i.i in
+    rw c.cut_high-high.ensures (level_min _ _ (p.a_in i (omega arith)).high_in (p.b_in i (omega arith)).high_in)
     in
     let a = c.args in
     let l = c.loop-i in

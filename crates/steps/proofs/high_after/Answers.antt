@@ -4,7 +4,6 @@ use borrow.Author.Tests.{eq-eqb, ne_eqb}
 use Rattle.integers.proofs.Signed.{got64}
 use Rattle.plant.specs.Box.{high}
 use Rattle.plant.specs.Steps.{high_after}
-use borrow.Author.Rules.{rules}
 use Rattle.steps.proofs.high_after.Goals as goal
 
 pub high_cut-requires : goal.high_cut-requires

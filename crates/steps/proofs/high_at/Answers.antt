@@ -8,7 +8,6 @@ use Rattle.integers.specs.Rounding.{ceil_z}
 use Rattle.plant.specs.Steps.{high_at}
 use Rattle.integers.proofs.Rounding.{ceil_shift}
 use Rattle.integers.proofs.Signed.{as_signed, fits64, back64, abs_add, ceil_abs, scaled}
-use borrow.Author.Rules.{rules}
 use Rattle.steps.proofs.high_at.Goals as goal
 
 small : (c : goal.After-ceil_div) → nat_abs (ceil_z (c.args.c *ℤ pos c.args.t.num) c.args.t.den) ≤ 2000000000

@@ -5,7 +5,6 @@ use lib.IntN.{pos, ◌-ℤ◌, ◌*ℤ◌}
 use mir.Facts.{to_z-of_z}
 use Rattle.integers.proofs.Signed.{as_signed, fits64, back64, got64, abs_minus, scaled}
 use Rattle.steps.proofs.Cuts.{room_small, high_past, high_before}
-use borrow.Author.Rules.{rules}
 use Rattle.steps.proofs.high_within.Goals as goal
 
 pub overflow_mul-way : goal.overflow_mul-way

@@ -2,7 +2,6 @@
 use mir.Facts.{to_z-of_z}
 use Rattle.integers.proofs.Signed.{got64}
 use Rattle.plant.specs.Box.{low}
-use borrow.Author.Rules.{rules}
 use Rattle.steps.proofs.landed_low.Goals as goal
 
 pub returns : goal.returns

@@ -4,7 +4,6 @@ use borrow.Author.Tests.{eq-eqb, ne_eqb}
 use Rattle.integers.proofs.Signed.{got64}
 use Rattle.plant.specs.Box.{low}
 use Rattle.plant.specs.Steps.{low_after}
-use borrow.Author.Rules.{rules}
 use Rattle.steps.proofs.low_after.Goals as goal
 
 pub low_cut-requires : goal.low_cut-requires

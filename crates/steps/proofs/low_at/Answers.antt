@@ -8,7 +8,6 @@ use Rattle.integers.specs.Rounding.{floor_z}
 use Rattle.plant.specs.Steps.{low_at}
 use Rattle.integers.proofs.Rounding.{floor_shift}
 use Rattle.integers.proofs.Signed.{as_signed, fits64, back64, abs_add, floor_abs, scaled}
-use borrow.Author.Rules.{rules}
 use Rattle.steps.proofs.low_at.Goals as goal
 
 small : (c : goal.After-floor_div) → nat_abs (floor_z (c.args.a *ℤ pos c.args.t.num) c.args.t.den) ≤ 2000000000

@@ -4,7 +4,6 @@ use mir.Facts.{to_z-of_z}
 use Rattle.integers.proofs.Signed.{got64}
 use Rattle.delays.specs.Ranges.{SmallEnd}
 use Rattle.steps.proofs.Cuts.{low_kept}
-use borrow.Author.Rules.{rules}
 use Rattle.steps.proofs.low_cut.Goals as goal
 
 pub low_within-requires : goal.low_within-requires

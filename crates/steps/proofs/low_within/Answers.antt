@@ -5,7 +5,6 @@ use lib.IntN.{pos, ◌-ℤ◌, ◌*ℤ◌}
 use mir.Facts.{to_z-of_z}
 use Rattle.integers.proofs.Signed.{as_signed, fits64, back64, got64, abs_minus, scaled}
 use Rattle.steps.proofs.Cuts.{room_small, low_past, low_before}
-use borrow.Author.Rules.{rules}
 use Rattle.steps.proofs.low_within.Goals as goal
 
 pub overflow_mul-way : goal.overflow_mul-way

@@ -1,15 +1,10 @@
 -- The loop has written where the first i variables land, and tested the order of both cuts; what is left of the mask begins with bit i.
 use mathlib.Core.Path.{◌≡◌, refl, sym, ◌∙◌}
-use mathlib.Core.Bool.{◌&&◌}
-use Prim.Native.Nat.{◌+◌, ◌*◌, ◌-◌, ◌/◌, ◌^◌, ◌≤◌, ◌<◌}
+use Prim.Native.Nat.{◌+◌, ◌*◌, ◌<◌}
 use native.Mathlib.Omega.{arith}
-use lib.Signed.{le_z}
 use lib.ListN.{length, length-set}
 use borrow.Author.Rules.{rules}
-use Rattle.integers.specs.Words.{onto}
-use Rattle.integers.specs.Counted.{all_below}
 use Rattle.integers.proofs.Signed.{got64, back32, fits32}
-use Rattle.plant.specs.Box.{box_by}
 use Rattle.plant.specs.Model.{masked}
 use Rattle.delays.specs.Ranges.{Level}
 use Rattle.steps.proofs.Written.{none_written, next_written}

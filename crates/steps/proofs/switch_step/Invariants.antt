@@ -1,20 +1,13 @@
 -- The loop has written where the first i variables land, and tested the order of both cuts; what is left of the mask begins with bit i.
-use mathlib.Core.Path.{◌≡◌, refl, sym, ◌∙◌}
+use mathlib.Core.Path.{◌≡◌}
 use mathlib.Core.Bool.{◌&&◌}
-use Prim.Native.Nat.{◌+◌, ◌*◌, ◌-◌, ◌/◌, ◌^◌, ◌≤◌, ◌<◌}
-use native.Mathlib.Omega.{arith}
+use Prim.Native.Nat.{◌-◌, ◌/◌, ◌^◌, ◌≤◌}
 use lib.Signed.{le_z}
-use lib.ListN.{length, length-set}
-use borrow.Author.Rules.{rules}
+use lib.ListN.{length}
 use Rattle.integers.specs.Words.{onto}
 use Rattle.integers.specs.Counted.{all_below}
-use Rattle.integers.proofs.Signed.{got64, back32, fits32}
 use Rattle.plant.specs.Box.{box_by}
-use Rattle.plant.specs.Model.{masked}
-use Rattle.delays.specs.Ranges.{Level}
-use Rattle.steps.proofs.Written.{none_written, next_written}
-use Rattle.steps.proofs.Landing.{guarded_low, guarded_high, landed_low, landed_high, landed_by, lands_by, none_both, next_both, whole_mask, half_mask, landed_low_level, landed_high_level}
-use Rattle.steps.proofs.Faces.{switch_handed}
+use Rattle.steps.proofs.Landing.{guarded_low, guarded_high, landed_low, landed_high}
 use Rattle.steps.proofs.switch_step.Given as goal
 
 abbrev pub invariant-loop-i : goal.invariant-loop-i

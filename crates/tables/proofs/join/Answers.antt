@@ -6,7 +6,6 @@ use Rattle.integers.proofs.Signed.{got32}
 use Rattle.integers.proofs.Tests.{true_is}
 use Rattle.integers.proofs.Counted.{eq_z_eq}
 use Rattle.tables.proofs.Faces.{join_placed, join_widened}
-use borrow.Author.Rules.{rules}
 use Rattle.tables.proofs.join.Goals as goal
 
 pub widen-requires : goal.widen-requires

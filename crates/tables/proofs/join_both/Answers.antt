@@ -10,7 +10,6 @@ use mir.Facts.{to_z-of_z}
 use Rattle.tables.specs.Room.{IsFace}
 use Rattle.tables.proofs.Faces.{face_long}
 use Rattle.tables.proofs.Cutting.{two_long, first_is_face, second_is_face, behind_long, behind_first, behind_put, own_joined, other_joined}
-use borrow.Author.Rules.{rules}
 use Rattle.tables.proofs.join_both.Goals as goal
 
 pub slice_bounds-join-end : goal.slice_bounds-join-end
@@ -24,14 +23,14 @@ slice_bounds-join-end-then-v-d c =
     -- the pieces' words
     let long : length c.args.pieces.now ≡ 2 * c.face_size-size.result = two_long c.args.n c.args.pieces.now c.requires.1 c.face_size-size.ensures in
     let first_long : length (take c.face_size-size.result c.args.pieces.now) ≡ c.face_size-size.result =
-        length-take-le c.face_size-size.result c.args.pieces.now (omega (arith, long))
+    length-take-le c.face_size-size.result c.args.pieces.now (omega (arith, long))
     in
     sym first_long
 
 pub join-requires : goal.join-requires
 join-requires c =
     let first_face : IsFace c.args.n (take c.face_size-size.result c.args.pieces.now) =
-        first_is_face c.args.n c.args.pieces.now c.requires.1 c.face_size-size.ensures
+    first_is_face c.args.n c.args.pieces.now c.requires.1 c.face_size-size.ensures
     in
     record { n_small = c.requires.0.n_small; box_there = omega (arith, c.requires.0.box_length); face_length = face_long c.args.n first_face }
 
@@ -46,14 +45,14 @@ slice_bounds-join_up_to-end-else-v-d c =
     -- the pieces' words
     let long : length c.args.pieces.now ≡ 2 * c.face_size-size.result = two_long c.args.n c.args.pieces.now c.requires.1 c.face_size-size.ensures in
     let first_long : length (take c.face_size-size.result c.args.pieces.now) ≡ c.face_size-size.result =
-        length-take-le c.face_size-size.result c.args.pieces.now (omega (arith, long))
+    length-take-le c.face_size-size.result c.args.pieces.now (omega (arith, long))
     in
     sym first_long
 
 pub join_up_to-requires : goal.join_up_to-requires
 join_up_to-requires c =
     let first_face : IsFace c.args.n (take c.face_size-size.result c.args.pieces.now) =
-        first_is_face c.args.n c.args.pieces.now c.requires.1 c.face_size-size.ensures
+    first_is_face c.args.n c.args.pieces.now c.requires.1 c.face_size-size.ensures
     in
     (c.requires.0, first_face)
 
@@ -62,7 +61,7 @@ join_from-requires c =
     -- the pieces' words
     let long : length c.args.pieces.now ≡ 2 * c.face_size-size.result = two_long c.args.n c.args.pieces.now c.requires.1 c.face_size-size.ensures in
     let first_long : length (take c.face_size-size.result c.args.pieces.now) ≡ c.face_size-size.result =
-        length-take-le c.face_size-size.result c.args.pieces.now (omega (arith, long))
+    length-take-le c.face_size-size.result c.args.pieces.now (omega (arith, long))
     in
     -- the first piece after its join, of as many words as before
     let first_exit : List ℤ = c.join_up_to.new.piece in
@@ -81,7 +80,7 @@ returns-else-v-d c =
     -- the pieces' words
     let long : length c.args.pieces.now ≡ 2 * c.face_size-size.result = two_long c.args.n c.args.pieces.now c.requires.1 c.face_size-size.ensures in
     let first_long : length (take c.face_size-size.result c.args.pieces.now) ≡ c.face_size-size.result =
-        length-take-le c.face_size-size.result c.args.pieces.now (omega (arith, long))
+    length-take-le c.face_size-size.result c.args.pieces.now (omega (arith, long))
     in
     -- the first piece after its join, of as many words as before
     let first_exit : List ℤ = c.join_up_to.new.piece in
@@ -100,7 +99,7 @@ pub slice_bounds-join_from-end : goal.slice_bounds-join_from-end
 slice_bounds-join_from-end c =
     let long : length c.args.pieces.now ≡ 2 * c.face_size-size.result = two_long c.args.n c.args.pieces.now c.requires.1 c.face_size-size.ensures in
     let first_long : length (take c.face_size-size.result c.args.pieces.now) ≡ c.face_size-size.result =
-        length-take-le c.face_size-size.result c.args.pieces.now (omega (arith, long))
+    length-take-le c.face_size-size.result c.args.pieces.now (omega (arith, long))
     in
     let first_exit : List ℤ = c.join_up_to.new.piece in
     let joined_long : length first_exit ≡ c.face_size-size.result = c.join_up_to.auto.piece ∙ first_long in

@@ -11,7 +11,6 @@ use Rattle.integers.specs.Words.{word}
 use Rattle.integers.proofs.Signed.{got32, got64, widened}
 use Rattle.tables.proofs.Faces.{max_small, face_long}
 use Rattle.tables.proofs.Cutting.{from_joined, from_none}
-use borrow.Author.Rules.{rules}
 use Rattle.tables.proofs.join_from.Goals as goal
 
 pub overflow_cast-from : goal.overflow_cast-from
@@ -24,12 +23,12 @@ pub overflow_cast-end : goal.overflow_cast-end
 overflow_cast-end c =
     -- the word that changes
     let end_is : (let a = c.args in c.larger-end.result ≡ max_z (word a.from.now (2 * a.v)) a.x) =
-        let y = word c.args.from.now (2 * c.args.v) in
-        let g = c.larger-arg-1.given in
-        rw (got32 y g, to_z-of_z c.ranges.x, to_z-of_z (widened y g), to_z-of_z (widened c.args.x c.ranges.x.sfits)) at c.larger-end.ensures
+    let y = word c.args.from.now (2 * c.args.v) in
+    let g = c.larger-arg-1.given in
+    rw (got32 y g, to_z-of_z c.ranges.x, to_z-of_z (widened y g), to_z-of_z (widened c.args.x c.ranges.x.sfits)) at c.larger-end.ensures
     in
     let end_small : mag c.larger-end.result < 2147483648 =
-        subst (λ (z : ℤ). mag z < 2147483648) (sym end_is) (max_small _ _ c.larger-arg-1.given c.ranges.x.sfits)
+    subst (λ (z : ℤ). mag z < 2147483648) (sym end_is) (max_small _ _ c.larger-arg-1.given c.ranges.x.sfits)
     in
     rw (got64 c.larger-end.result c.larger-end.type_inv) (record { sfits = end_small })
 
@@ -43,16 +42,16 @@ pub returns-then-x-from : goal.returns-then-x-from
 returns-then-x-from c =
     -- the word that changes
     let end_is : (let a = c.args in c.larger-end.result ≡ max_z (word a.from.now (2 * a.v)) a.x) =
-        let y = word c.args.from.now (2 * c.args.v) in
-        let g = c.larger-arg-1.given in
-        rw (got32 y g, to_z-of_z c.ranges.x, to_z-of_z (widened y g), to_z-of_z (widened c.args.x c.ranges.x.sfits)) at c.larger-end.ensures
+    let y = word c.args.from.now (2 * c.args.v) in
+    let g = c.larger-arg-1.given in
+    rw (got32 y g, to_z-of_z c.ranges.x, to_z-of_z (widened y g), to_z-of_z (widened c.args.x c.ranges.x.sfits)) at c.larger-end.ensures
     in
     let end_small : mag c.larger-end.result < 2147483648 =
-        subst (λ (z : ℤ). mag z < 2147483648) (sym end_is) (max_small _ _ c.larger-arg-1.given c.ranges.x.sfits)
+    subst (λ (z : ℤ). mag z < 2147483648) (sym end_is) (max_small _ _ c.larger-arg-1.given c.ranges.x.sfits)
     in
     -- what the test tells
     let left : (let a = c.args in le_z a.x (word a.from.now (2 * a.v + 1)) ≡ true) =
-        simp (got32 (word c.args.from.now (2 * c.args.v + 1)) c.t11-1.given, to_z-of_z c.ranges.x) at c.if-x-from.true
+    simp (got32 (word c.args.from.now (2 * c.args.v + 1)) c.t11-1.given, to_z-of_z c.ranges.x) at c.if-x-from.true
     in
     let a = c.args in
     let z = c.larger-end in

@@ -11,7 +11,6 @@ use Rattle.integers.specs.Words.{word}
 use Rattle.integers.proofs.Signed.{got32, got64, widened}
 use Rattle.tables.proofs.Faces.{min_small, face_long}
 use Rattle.tables.proofs.Cutting.{up_to_joined, up_to_none}
-use borrow.Author.Rules.{rules}
 use Rattle.tables.proofs.join_up_to.Goals as goal
 
 pub overflow_cast-from : goal.overflow_cast-from
@@ -24,12 +23,12 @@ pub overflow_cast-end : goal.overflow_cast-end
 overflow_cast-end c =
     -- the word that changes
     let end_is : (let a = c.args in c.smaller-end.result ≡ min_z (word a.from.now (2 * a.v + 1)) a.x) =
-        let y = word c.args.from.now (2 * c.args.v + 1) in
-        let g = c.smaller-arg-1.given in
-        rw (got32 y g, to_z-of_z c.ranges.x, to_z-of_z (widened y g), to_z-of_z (widened c.args.x c.ranges.x.sfits)) at c.smaller-end.ensures
+    let y = word c.args.from.now (2 * c.args.v + 1) in
+    let g = c.smaller-arg-1.given in
+    rw (got32 y g, to_z-of_z c.ranges.x, to_z-of_z (widened y g), to_z-of_z (widened c.args.x c.ranges.x.sfits)) at c.smaller-end.ensures
     in
     let end_small : mag c.smaller-end.result < 2147483648 =
-        subst (λ (z : ℤ). mag z < 2147483648) (sym end_is) (min_small _ _ c.smaller-arg-1.given c.ranges.x.sfits)
+    subst (λ (z : ℤ). mag z < 2147483648) (sym end_is) (min_small _ _ c.smaller-arg-1.given c.ranges.x.sfits)
     in
     rw (got64 c.smaller-end.result c.smaller-end.type_inv) (record { sfits = end_small })
 
@@ -43,16 +42,16 @@ pub returns-then-from-low : goal.returns-then-from-low
 returns-then-from-low c =
     -- the word that changes
     let end_is : (let a = c.args in c.smaller-end.result ≡ min_z (word a.from.now (2 * a.v + 1)) a.x) =
-        let y = word c.args.from.now (2 * c.args.v + 1) in
-        let g = c.smaller-arg-1.given in
-        rw (got32 y g, to_z-of_z c.ranges.x, to_z-of_z (widened y g), to_z-of_z (widened c.args.x c.ranges.x.sfits)) at c.smaller-end.ensures
+    let y = word c.args.from.now (2 * c.args.v + 1) in
+    let g = c.smaller-arg-1.given in
+    rw (got32 y g, to_z-of_z c.ranges.x, to_z-of_z (widened y g), to_z-of_z (widened c.args.x c.ranges.x.sfits)) at c.smaller-end.ensures
     in
     let end_small : mag c.smaller-end.result < 2147483648 =
-        subst (λ (z : ℤ). mag z < 2147483648) (sym end_is) (min_small _ _ c.smaller-arg-1.given c.ranges.x.sfits)
+    subst (λ (z : ℤ). mag z < 2147483648) (sym end_is) (min_small _ _ c.smaller-arg-1.given c.ranges.x.sfits)
     in
     -- what the test tells
     let left : (let a = c.args in le_z (word a.from.now (2 * a.v)) a.x ≡ true) =
-        simp (got32 (word c.args.from.now (2 * c.args.v)) c.t11-1.given, to_z-of_z c.ranges.x) at c.if-from-low.true
+    simp (got32 (word c.args.from.now (2 * c.args.v)) c.t11-1.given, to_z-of_z c.ranges.x) at c.if-from-low.true
     in
     let a = c.args in
     let z = c.smaller-end in

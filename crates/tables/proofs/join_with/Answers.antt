@@ -10,7 +10,6 @@ use mir.Facts.{to_z-of_z}
 use Rattle.plant.specs.Box.{present}
 use Rattle.tables.specs.Room.{joined_with}
 use Rattle.tables.proofs.Cutting.{one_changed, copy_long, changed_long, changed_joinable}
-use borrow.Author.Rules.{rules}
 use Rattle.tables.proofs.join_with.Goals as goal
 
 pub slice_bounds-copy-end : goal.slice_bounds-copy-end

@@ -1,7 +1,7 @@
 -- After l turns the locations before l are counted.
 use mathlib.Core.Path.{◌≡◌, ap, ◌∙◌}
 use native.Mathlib.Omega.{arith}
-use Prim.Native.Nat.{ℕ, ◌+◌, ◌-◌, ◌≤◌, ◌<◌}
+use Prim.Native.Nat.{ℕ, ◌+◌, ◌≤◌, ◌<◌}
 use Rattle.integers.specs.Counted.{sum_below}
 use Rattle.plant.specs.Model.{L#}
 use Rattle.plant.specs.Pieces.{per_face}

@@ -1,12 +1,9 @@
 -- After l turns the locations before l are counted.
-use mathlib.Core.Path.{◌≡◌, ap, ◌∙◌}
-use native.Mathlib.Omega.{arith}
-use Prim.Native.Nat.{ℕ, ◌+◌, ◌-◌, ◌≤◌, ◌<◌}
+use mathlib.Core.Path.{◌≡◌}
+use Prim.Native.Nat.{◌-◌, ◌≤◌}
 use Rattle.integers.specs.Counted.{sum_below}
 use Rattle.plant.specs.Model.{L#}
 use Rattle.plant.specs.Pieces.{per_face}
-use Rattle.plant.proofs.Pieces.{per_face_most}
-use Rattle.tables.proofs.Sizes.{layers_none, layers_more, layers_most}
 use Rattle.tables.proofs.layers.Given as goal
 
 abbrev pub invariant-loop-l : goal.invariant-loop-l

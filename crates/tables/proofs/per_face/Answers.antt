@@ -3,7 +3,6 @@ use mathlib.Core.Path.{◌∙◌}
 use Rattle.integers.proofs.Signed.{got32}
 use Rattle.plant.specs.Model.{cut_from, cut_of, cut_value}
 use Rattle.plant.specs.Pieces.{pieces_per_face, per_face}
-use borrow.Author.Rules.{rules}
 use Rattle.tables.proofs.per_face.Goals as goal
 
 pub returns : goal.returns

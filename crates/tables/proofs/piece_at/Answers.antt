@@ -4,7 +4,6 @@ use native.Mathlib.Omega.{arith}
 use native.Mathlib.Nat.{mul-le-mul}
 use Prim.Native.Nat.{ℕ, ◌+◌, ◌*◌, ◌≤◌}
 use Rattle.plant.specs.Tables.{face_size}
-use borrow.Author.Rules.{rules}
 use Rattle.tables.proofs.piece_at.Goals as goal
 
 small : (before q n : ℕ) → before ≤ 1536 → q ≤ 24 → n ≤ 6 → (before + q) * face_size n ≤ 20280

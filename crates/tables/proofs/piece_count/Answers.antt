@@ -5,7 +5,6 @@ use Prim.Native.Nat.{ℕ, ◌*◌}
 use Rattle.plant.specs.Tables.{piece_count}
 use Rattle.plant.proofs.Tables.{count_most}
 use Rattle.tables.proofs.Sizes.{count_layers}
-use borrow.Author.Rules.{rules}
 use Rattle.tables.proofs.piece_count.Goals as goal
 
 product : (c : goal.After-layers) → 2 * c.variables.result * c.layers.result ≡ piece_count c.args.model.now

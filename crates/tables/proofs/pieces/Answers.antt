@@ -4,7 +4,6 @@ use native.Mathlib.Omega.{arith}
 use Prim.Native.Nat.{ℕ, ◌*◌}
 use Rattle.plant.specs.Pieces as P
 use Rattle.plant.proofs.Tables.{pieces-most}
-use borrow.Author.Rules.{rules}
 use Rattle.tables.proofs.pieces.Goals as goal
 
 product : (c : goal.After-per_face) → let a = c.args in 2 * c.variables.result * c.per_face.result ≡ P.pieces a.model.now a.l

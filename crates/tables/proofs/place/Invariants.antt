@@ -1,15 +1,10 @@
 -- Filled from the front: the flag, then one word of the box in each turn.
-use mathlib.Core.Path.{◌≡◌, refl, ap, ◌∙◌}
+use mathlib.Core.Path.{◌≡◌}
 use mathlib.Core.List.{◌∷◌}
-use Prim.Native.Nat.{ℕ, ◌+◌, ◌*◌, ◌-◌, ◌≤◌}
-use native.Mathlib.Omega.{arith}
+use Prim.Native.Nat.{◌*◌, ◌-◌, ◌≤◌}
 use lib.IntN.{pos}
-use lib.ListN.{length, take, set, length-set}
-use mir.Syntax.{w32}
-use mir.Facts.{to_z-of_z}
-use borrow.Author.Rules.{sfits_of}
-use Rattle.integers.specs.Words.{word, onto}
-use Rattle.tables.proofs.Faces.{place_start, place_turn, place_end}
+use lib.ListN.{length, take}
+use Rattle.integers.specs.Words.{onto}
 use Rattle.tables.proofs.place.Given as goal
 
 abbrev pub invariant-loop-i : goal.invariant-loop-i

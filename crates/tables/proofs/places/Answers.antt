@@ -1,12 +1,12 @@
 -- After l turns the places of the locations up to l are written.
 use mathlib.Core.Path.{◌≡◌, sym}
 use native.Mathlib.Omega.{arith}
-use Prim.Native.Nat.{◌+◌, ◌-◌, ◌≤◌, ◌<◌}
+use Prim.Native.Nat.{◌+◌, ◌≤◌, ◌<◌}
 use Rattle.plant.specs.Model.{L#}
 use Rattle.plant.specs.Tables.{pieces_before}
 use Rattle.plant.proofs.PieceCases.{before_none, before_more}
 use Rattle.plant.proofs.Tables.{pieces-most}
-use Rattle.tables.proofs.Sizes.{PlacesTo, before_most, places_none, places_more, places_all}
+use Rattle.tables.proofs.Sizes.{before_most, places_none, places_more, places_all}
 use Rattle.tables.proofs.places.Goals as goal
 
 pub locations-locations-requires : goal.locations-locations-requires
@@ -23,9 +23,9 @@ pieces-before-requires c =
 pub overflow_add-before : goal.overflow_add-before
 overflow_add-before c =
     let small : c.loop-l.before + c.pieces-before.result ≤ 1560 =
-        let m = c.args.model.now in
-        let i = c.loop-l in
-        omega (arith, i.invariant.1, before_most m c.requires.0.head i.l i.invariant.0, c.pieces-before.ensures, pieces-most m i.l c.requires.0.head.n_small)
+    let m = c.args.model.now in
+    let i = c.loop-l in
+    omega (arith, i.invariant.1, before_most m c.requires.0.head i.l i.invariant.0, c.pieces-before.ensures, pieces-most m i.l c.requires.0.head.n_small)
     in
     omega (arith, small)
 

@@ -1,12 +1,9 @@
 -- After l turns the places of the locations up to l are written.
-use mathlib.Core.Path.{◌≡◌, sym}
-use native.Mathlib.Omega.{arith}
-use Prim.Native.Nat.{◌+◌, ◌-◌, ◌≤◌, ◌<◌}
+use mathlib.Core.Path.{◌≡◌}
+use Prim.Native.Nat.{◌-◌, ◌≤◌}
 use Rattle.plant.specs.Model.{L#}
 use Rattle.plant.specs.Tables.{pieces_before}
-use Rattle.plant.proofs.PieceCases.{before_none, before_more}
-use Rattle.plant.proofs.Tables.{pieces-most}
-use Rattle.tables.proofs.Sizes.{PlacesTo, before_most, places_none, places_more, places_all}
+use Rattle.tables.proofs.Sizes.{PlacesTo}
 use Rattle.tables.proofs.places.Given as goal
 
 abbrev pub invariant-loop-l : goal.invariant-loop-l

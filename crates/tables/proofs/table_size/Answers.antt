@@ -5,7 +5,6 @@ use Prim.Native.Nat.{ℕ, ◌*◌}
 use Rattle.plant.specs.Tables.{words_per_location, table_size}
 use Rattle.tables.proofs.Faces.{table_most}
 use Rattle.tables.proofs.Sizes.{table_layers}
-use borrow.Author.Rules.{rules}
 use Rattle.tables.proofs.table_size.Goals as goal
 
 product : (c : goal.After-words_per_location) → c.layers.result * c.words_per_location.result ≡ table_size c.args.model.now

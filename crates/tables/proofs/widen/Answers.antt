@@ -1,11 +1,11 @@
 -- Filled from the front: in each turn the low and the high of one more variable.
 use mathlib.Core.Path.{◌≡◌, refl, sym, ap, ◌∙◌, subst}
 use mathlib.Core.List.{◌∷◌}
-use Prim.Native.Nat.{ℕ, ◌+◌, ◌*◌, ◌-◌, ◌≤◌, ◌<◌}
+use Prim.Native.Nat.{ℕ, ◌+◌, ◌*◌, ◌<◌}
 use native.Mathlib.Omega.{arith}
 use lib.IntN.{ℤ, pos}
 use lib.Signed.{mag}
-use lib.ListN.{length, set, length-set}
+use lib.ListN.{set, length-set}
 use mir.Facts.{to_z-of_z}
 use Rattle.integers.specs.Rounding.{max_z, min_z}
 use Rattle.integers.proofs.Signed.{got32, got64, widened}
@@ -38,30 +38,30 @@ larger-high-requires c = tt
 pub overflow_cast-face-in-loop-i-2 : goal.overflow_cast-face-in-loop-i-2
 overflow_cast-face-in-loop-i-2 c =
     let low_is : (let l = c.loop-i in c.smaller-low.result ≡ min_z (word l.face (2 * l.i + 1)) (word c.args.from.now (2 * l.i))) =
-        let l = c.loop-i in
-        let x = word l.face (2 * l.i + 1) in
-        let y = word c.args.from.now (2 * l.i) in
-        let g = c.smaller-arg-1.given in
-        let h = c.smaller-arg-in-loop-i-1.given in
-        rw (got32 x g, got32 y h, to_z-of_z (widened x g), to_z-of_z (widened y h)) at c.smaller-low.ensures
+    let l = c.loop-i in
+    let x = word l.face (2 * l.i + 1) in
+    let y = word c.args.from.now (2 * l.i) in
+    let g = c.smaller-arg-1.given in
+    let h = c.smaller-arg-in-loop-i-1.given in
+    rw (got32 x g, got32 y h, to_z-of_z (widened x g), to_z-of_z (widened y h)) at c.smaller-low.ensures
     in
     let low_small : mag c.smaller-low.result < 2147483648 =
-        subst (λ (z : ℤ). mag z < 2147483648) (sym low_is) (min_small _ _ c.smaller-arg-1.given c.smaller-arg-in-loop-i-1.given)
+    subst (λ (z : ℤ). mag z < 2147483648) (sym low_is) (min_small _ _ c.smaller-arg-1.given c.smaller-arg-in-loop-i-1.given)
     in
     let x = c.smaller-low in rw (got64 x.result x.type_inv) (record { sfits = low_small })
 
 pub overflow_cast-face-in-loop-i-3 : goal.overflow_cast-face-in-loop-i-3
 overflow_cast-face-in-loop-i-3 c =
     let high_is : (let l = c.loop-i in c.larger-high.result ≡ max_z (word l.face (2 * l.i + 2)) (word c.args.from.now (2 * l.i + 1))) =
-        let l = c.loop-i in
-        let x = word l.face (2 * l.i + 2) in
-        let y = word c.args.from.now (2 * l.i + 1) in
-        let g = c.larger-arg-1.given in
-        let h = c.larger-arg-in-loop-i-1.given in
-        rw (got32 x g, got32 y h, to_z-of_z (widened x g), to_z-of_z (widened y h)) at c.larger-high.ensures
+    let l = c.loop-i in
+    let x = word l.face (2 * l.i + 2) in
+    let y = word c.args.from.now (2 * l.i + 1) in
+    let g = c.larger-arg-1.given in
+    let h = c.larger-arg-in-loop-i-1.given in
+    rw (got32 x g, got32 y h, to_z-of_z (widened x g), to_z-of_z (widened y h)) at c.larger-high.ensures
     in
     let high_small : mag c.larger-high.result < 2147483648 =
-        subst (λ (z : ℤ). mag z < 2147483648) (sym high_is) (max_small _ _ c.larger-arg-1.given c.larger-arg-in-loop-i-1.given)
+    subst (λ (z : ℤ). mag z < 2147483648) (sym high_is) (max_small _ _ c.larger-arg-1.given c.larger-arg-in-loop-i-1.given)
     in
     rw (got64 c.larger-high.result c.larger-high.type_inv) (record { sfits = high_small })
 
@@ -71,26 +71,26 @@ bounds-face-h c = simp length-set (omega arith)
 pub loop-i-preserved : goal.loop-i-preserved
 loop-i-preserved c =
     let low_is : (let l = c.loop-i in c.smaller-low.result ≡ min_z (word l.face (2 * l.i + 1)) (word c.args.from.now (2 * l.i))) =
-        let l = c.loop-i in
-        let x = word l.face (2 * l.i + 1) in
-        let y = word c.args.from.now (2 * l.i) in
-        let g = c.smaller-arg-1.given in
-        let h = c.smaller-arg-in-loop-i-1.given in
-        rw (got32 x g, got32 y h, to_z-of_z (widened x g), to_z-of_z (widened y h)) at c.smaller-low.ensures
+    let l = c.loop-i in
+    let x = word l.face (2 * l.i + 1) in
+    let y = word c.args.from.now (2 * l.i) in
+    let g = c.smaller-arg-1.given in
+    let h = c.smaller-arg-in-loop-i-1.given in
+    rw (got32 x g, got32 y h, to_z-of_z (widened x g), to_z-of_z (widened y h)) at c.smaller-low.ensures
     in
     let low_small : mag c.smaller-low.result < 2147483648 =
-        subst (λ (z : ℤ). mag z < 2147483648) (sym low_is) (min_small _ _ c.smaller-arg-1.given c.smaller-arg-in-loop-i-1.given)
+    subst (λ (z : ℤ). mag z < 2147483648) (sym low_is) (min_small _ _ c.smaller-arg-1.given c.smaller-arg-in-loop-i-1.given)
     in
     let high_is : (let l = c.loop-i in c.larger-high.result ≡ max_z (word l.face (2 * l.i + 2)) (word c.args.from.now (2 * l.i + 1))) =
-        let l = c.loop-i in
-        let x = word l.face (2 * l.i + 2) in
-        let y = word c.args.from.now (2 * l.i + 1) in
-        let g = c.larger-arg-1.given in
-        let h = c.larger-arg-in-loop-i-1.given in
-        rw (got32 x g, got32 y h, to_z-of_z (widened x g), to_z-of_z (widened y h)) at c.larger-high.ensures
+    let l = c.loop-i in
+    let x = word l.face (2 * l.i + 2) in
+    let y = word c.args.from.now (2 * l.i + 1) in
+    let g = c.larger-arg-1.given in
+    let h = c.larger-arg-in-loop-i-1.given in
+    rw (got32 x g, got32 y h, to_z-of_z (widened x g), to_z-of_z (widened y h)) at c.larger-high.ensures
     in
     let high_small : mag c.larger-high.result < 2147483648 =
-        subst (λ (z : ℤ). mag z < 2147483648) (sym high_is) (max_small _ _ c.larger-arg-1.given c.larger-arg-in-loop-i-1.given)
+    subst (λ (z : ℤ). mag z < 2147483648) (sym high_is) (max_small _ _ c.larger-arg-1.given c.larger-arg-in-loop-i-1.given)
     in
     let l = c.loop-i in
     let a = c.args in

@@ -1,17 +1,11 @@
 -- Filled from the front: in each turn the low and the high of one more variable.
-use mathlib.Core.Path.{◌≡◌, refl, sym, ap, ◌∙◌, subst}
+use mathlib.Core.Path.{◌≡◌}
 use mathlib.Core.List.{◌∷◌}
-use Prim.Native.Nat.{ℕ, ◌+◌, ◌*◌, ◌-◌, ◌≤◌, ◌<◌}
-use native.Mathlib.Omega.{arith}
-use lib.IntN.{ℤ, pos}
-use lib.Signed.{mag}
-use lib.ListN.{length, set, length-set}
-use mir.Facts.{to_z-of_z}
-use Rattle.integers.specs.Rounding.{max_z, min_z}
-use Rattle.integers.proofs.Signed.{got32, got64, widened}
-use Rattle.integers.specs.Words.{word, onto}
+use Prim.Native.Nat.{◌-◌, ◌≤◌}
+use lib.IntN.{pos}
+use lib.ListN.{length}
+use Rattle.integers.specs.Words.{onto}
 use Rattle.plant.specs.Box.{hull, box_at}
-use Rattle.tables.proofs.Faces.{min_small, max_small, widen_start, widen_turn, widen_end}
 use Rattle.tables.proofs.widen.Given as goal
 
 abbrev pub invariant-loop-i : goal.invariant-loop-i

@@ -4,7 +4,6 @@ use Prim.Native.Nat.{ℕ, ◌*◌}
 use native.Mathlib.Omega.{arith}
 use Rattle.plant.specs.Tables.{words_per_location}
 use Rattle.tables.proofs.Faces.{words_grow}
-use borrow.Author.Rules.{rules}
 use Rattle.tables.proofs.words_per_location.Goals as goal
 
 product : (c : goal.After-face_size) → let n = c.args.n in 2 * n * c.face_size.result ≡ words_per_location n

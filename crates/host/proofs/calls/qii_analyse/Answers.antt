@@ -1,5 +1,4 @@
 -- The answer has its reply, and both buffers are the analysis's.
-use borrow.Author.Rules.{rules}
 use Rattle.interface.proofs.ForC.{is_analysed}
 use Rattle.host.proofs.calls.qii_analyse.Goals as goal
 

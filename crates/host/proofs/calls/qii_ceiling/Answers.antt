@@ -1,6 +1,5 @@
 -- Each case of the ceiling has its reply.
 use mathlib.Core.Path.{sym, ap, ◌∙◌}
-use borrow.Author.Rules.{rules}
 use Rattle.plant.specs.Calls.{ceiling_reply}
 use Rattle.interface.proofs.ForC.{is_reply}
 use Rattle.host.proofs.calls.qii_ceiling.Goals as goal

@@ -1,6 +1,5 @@
 -- Each case of the verdict has its number.
 use mathlib.Core.Path.{sym, ap, ◌∙◌}
-use borrow.Author.Rules.{rules}
 use Rattle.plant.specs.declared.Verdict.{Verdict}
 use Rattle.plant.specs.Calls.{verdict_reply}
 use Rattle.host.proofs.calls.qii_check.Goals as goal

@@ -1,5 +1,4 @@
 -- The answer has its reply; both counters and both buffers are the desk call's.
-use borrow.Author.Rules.{rules}
 use Rattle.interface.proofs.ForC.{is_served}
 use Rattle.host.proofs.calls.qii_desk.Goals as goal
 

@@ -1,6 +1,5 @@
 -- Each case of the quote has its reply.
 use mathlib.Core.Path.{sym, ap, ◌∙◌}
-use borrow.Author.Rules.{rules}
 use Rattle.orders.specs.Quotes.{quote_reply}
 use Rattle.interface.proofs.ForC.{is_quote}
 use Rattle.host.proofs.calls.qii_quote.Goals as goal

@@ -1,5 +1,4 @@
 -- The count has its reply, and the words are the reader's.
-use borrow.Author.Rules.{rules}
 use Rattle.interface.proofs.ForC.{is_read}
 use Rattle.host.proofs.calls.qii_read_model.Goals as goal
 

@@ -1,5 +1,4 @@
 -- The count has its reply, and the bytes are the writer's.
-use borrow.Author.Rules.{rules}
 use Rattle.interface.proofs.ForC.{is_written}
 use Rattle.host.proofs.calls.qii_write_model.Goals as goal
 

@@ -46,11 +46,13 @@ land-requires c =
     let e = c.args.e in
     let count_is = counted m e c.source.ensures c.per_face-count.ensures in
     let v = c.cut_variable-variable in
-    let x = c.cut_value-value in
-    (c.requires.0, c.requires.1,
+    let x = c.cut_value-value in (
+      c.requires.0,
+      c.requires.1,
       record { is_switch = c.requires.2; count_is = count_is; is_piece = omega (arith, c.loop-k-test.true, count_is) },
       record { variable_is = got32 v.result v.type_inv ∙ v.ensures ∙ ap (cut_variable m) c.target-l.ensures; value_is = got32 x.result x.type_inv ∙ x.ensures ∙ ap (cut_value m) c.target-l.ensures },
-      is_table m c.args.table.now (joined_from m c.args.table.now e c.loop-k.k) c.loop-k.invariant.1)
+      is_table m c.args.table.now (joined_from m c.args.table.now e c.loop-k.k) c.loop-k.invariant.1,
+    )
 
 pub overflow_add-k : goal.overflow_add-k
 overflow_add-k c =

@@ -165,10 +165,13 @@ slice_bounds-join_from-end c =
 pub join_from-requires : goal.join_from-requires
 join_from-requires c =
     let r = read c.requires.0 c.requires.1 c.requires.2 c.requires.3 c.requires.4 c.ranges.variable c.variables-n.ensures c.target-l.ensures c.wall_variable.ensures c.target_side.ensures c.pieces_by-each.ensures in
-    let a = c.args in
-    (c.requires.0, c.requires.1, c.requires.2,
+    let a = c.args in (
+      c.requires.0,
+      c.requires.1,
+      c.requires.2,
       record { variable_is = to_z-of_z c.ranges.variable ∙ c.requires.3.variable_is; value_is = to_z-of_z c.ranges.value ∙ c.requires.3.value_is },
-      target_are_pieces a.model.now a.table.now a.e a.k (placed_at r).target_is (face_below r) (placed_at r).target_side_is a.out.now c.requires.4 (at_is r c.piece_at-at.ensures c.face_size.ensures) (part_is r c.piece_at-at.ensures c.face_size.ensures))
+      target_are_pieces a.model.now a.table.now a.e a.k (placed_at r).target_is (face_below r) (placed_at r).target_side_is a.out.now c.requires.4 (at_is r c.piece_at-at.ensures c.face_size.ensures) (part_is r c.piece_at-at.ensures c.face_size.ensures),
+    )
 
 pub returns : goal.returns
 returns c =

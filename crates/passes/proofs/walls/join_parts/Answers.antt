@@ -60,9 +60,9 @@ module _ (m t : List ℤ) (ok : Checked m t) (l : ℕ) (u : l < L# m) {n before 
   piece_ready : (before ≤ 1536) × (q ≤ 24) × (n ≤ 6)
   piece_ready =
       let h = (whole m t ok).head in (
-      omega (arith, before_is, before_most m h l (omega (arith, u))),
-      omega (arith, is_piece, pieces-most m l h.n_small),
-      omega (arith, n_is, h.n_small),
+        omega (arith, before_is, before_most m h l (omega (arith, u))),
+        omega (arith, is_piece, pieces-most m l h.n_small),
+        omega (arith, n_is, h.n_small),
       )
 
   -- where it begins
@@ -80,9 +80,10 @@ pub piece_at-requires : goal.piece_at-requires
 piece_at-requires c = piece_ready c.args.model.now c.args.table.now c.requires.0 c.args.l c.requires.1 c.variables-n.ensures c.requires.2 c.requires.4 c.loop-q-test.true
 
 pub face-piece-requires : goal.face-piece-requires
-face-piece-requires c =
-    (omega (arith, c.variables-n.ensures, (whole _ _ c.requires.0).head.n_small),
-      ends c.args.model.now c.args.table.now c.requires.0 c.args.l c.requires.1 c.variables-n.ensures c.requires.2 c.requires.4 c.loop-q-test.true c.piece_at.ensures)
+face-piece-requires c = (
+  omega (arith, c.variables-n.ensures, (whole _ _ c.requires.0).head.n_small),
+  ends c.args.model.now c.args.table.now c.requires.0 c.args.l c.requires.1 c.variables-n.ensures c.requires.2 c.requires.4 c.loop-q-test.true c.piece_at.ensures,
+)
 
 pub join_part-requires : goal.join_part-requires
 join_part-requires c =

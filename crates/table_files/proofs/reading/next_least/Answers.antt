@@ -36,10 +36,10 @@ named : (c : Else-not-index_within) → let a = c.args in
     × (within (pos 0) (pos (2 * n# a.model.now - 1)) (face_word a.file.now a.start) ≡ true)
     × (within (pos 0) (pos (per_face a.model.now (nat_abs (location_word a.file.now a.start)) - 1)) (index_word a.file.now a.start a.width) ≡ true)
 named c = let a = c.args in (
-      location_tested a.model.now a.file.now a.start c.locations.ensures c.number_within.ensures ∙ c.if-not-number_within.false,
-      face_tested a.model.now a.file.now a.start c.variables-faces.ensures c.number_within-2.ensures ∙ c.if-not-number_within-2.false,
-      piece_tested a.model.now a.file.now a.start a.width c.per_face-per.ensures c.number_at.ensures c.index_within.ensures ∙ c.if-not-index_within.false,
-    )
+  location_tested a.model.now a.file.now a.start c.locations.ensures c.number_within.ensures ∙ c.if-not-number_within.false,
+  face_tested a.model.now a.file.now a.start c.variables-faces.ensures c.number_within-2.ensures ∙ c.if-not-number_within-2.false,
+  piece_tested a.model.now a.file.now a.start a.width c.per_face-per.ensures c.number_at.ensures c.index_within.ensures ∙ c.if-not-index_within.false,
+)
 
 -- so the place names a piece
 is_key : (c : Else-not-index_within) → let a = c.args in KeyAt a.model.now a.places.now a.file.now a.start a.width

@@ -1,7 +1,6 @@
 -- A refusal by 35 to 38, one by 32, and the table read.
 use mathlib.Core.Path.{refl, sym, ap, ◌∙◌}
 use native.Mathlib.Omega.{arith}
-use borrow.Author.Rules.{rules}
 use Rattle.plant.specs.Tables.{table_ok}
 use Rattle.table_files.specs.TableRoom.{FieldsReady}
 use Rattle.plant.proofs.Passing.{whole}

@@ -1,6 +1,5 @@
 -- A refusal by the model's questions or 20, and the rest.
 use mathlib.Core.Path.{sym, ◌∙◌}
-use borrow.Author.Rules.{rules}
 use Rattle.files.proofs.TableAsked.{room_yes}
 use Rattle.table_files.proofs.TableReading.{room_refused, room_passed}
 use Rattle.table_files.proofs.reading.read_table.Goals as goal

@@ -1,7 +1,6 @@
 -- 32 and 39, once the model's questions and 20 are yes.
 use mathlib.Core.Bool.{Bool}
 use mathlib.Core.Path.{refl, sym, ap, ◌∙◌}
-use borrow.Author.Rules.{rules}
 use Rattle.plant.specs.Ask.{ask}
 use Rattle.plant.proofs.Asks.{go, halt, both}
 use Rattle.files.specs.TableFile.{write_questions}

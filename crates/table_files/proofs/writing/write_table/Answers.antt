@@ -1,6 +1,5 @@
 -- A refusal, or the whole file.
 use mathlib.Core.Path.{sym, ◌∙◌}
-use borrow.Author.Rules.{rules}
 use Rattle.plant.proofs.Writing.{write_refused, write_done}
 use Rattle.files.specs.TableFile.{write_table_call}
 use Rattle.table_files.proofs.TableWriting.{write_yes}
