@@ -91,7 +91,7 @@ module _ (second first : List ℤ) (asks : model_questions second ≡ 0) (into :
 
 pub finer_stays_safe : FinerStaysSafe
 finer_stays_safe first second asks₁ asks₂ into = record {
-  divided_accepted = divided_accepted;
+  divided_accepted = λ t h. divided_accepted t h;
   no_run_meets = λ t h. (third_demand second).no_run_meets (divided second first t) (divided_accepted t h);
   stays_safe = λ limit table work h. accepted_safe second (divided second first (analyse_call first limit table work).table) (table_accepted limit table work h);
   never_unknown = λ limit table work h limit' table' work' e.
