@@ -73,8 +73,8 @@ some_piece (cut_by v x) = omega arith
 
 module _ (m : List ℤ) (ok : Passed m) (l : ℕ) (u : l < L# m) where
   -- a variable that is not -1 is that of a cut
-  pub cut_words_lem : eq_z (cut_variable m l) (negsuc 0) ≡ false → IsCut m l
-  cut_words_lem e = ⊎_elim (λ h. no_true (sym e ∙ is_true (eq_z_intro h.no_variable))) (λ h. h) (ok.of_cut l u).words
+  pub words_of_cut : eq_z (cut_variable m l) (negsuc 0) ≡ false → IsCut m l
+  words_of_cut e = ⊎_elim (λ h. no_true (sym e ∙ is_true (eq_z_intro h.no_variable))) (λ h. h) (ok.of_cut l u).words
 
   pub location_ready : {n : ℕ} {inv : List ℤ} {c : ℕ} {variable value : ℤ} → LocationRead m l n inv c variable value → LocationReady n inv c variable
   unfolding per_face
@@ -83,5 +83,5 @@ module _ (m : List ℤ) (ok : Passed m) (l : ℕ) (u : l < L# m) where
     inv_length = length-invariant m (whole_passed m ok) l u;
     some_piece = some_piece (cut_of m l);
     two_most = per_face_most m l;
-    named = record { not_negative = λ e. (cut_words_lem e).not_negative; there = λ e. omega (arith, (cut_words_lem e).inside.0) };
+    named = record { not_negative = λ e. (words_of_cut e).not_negative; there = λ e. omega (arith, (words_of_cut e).inside.0) };
   })

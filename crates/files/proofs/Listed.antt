@@ -132,8 +132,8 @@ module _ (m : List ℤ) (k : ℕ) (e : ℕ → List ℤ) (small : n# m ≤ 6) (f
       subst (λ (x : List ℕ). words_at (head ++ x) (piece_field_at m i + 3) (piece_field_size m) ≡ e i) (append-nil (cat k (λ i. field 5 (words_bytes (e i)))))
       (fields_words_back head 5 e k (piece_field_size m) [] pieces_from head_length sized i l f)
 
-  pub file_length_lem : length file ≡ piece_field_at m k
-  file_length_lem = omega (arith, length-append head (cat k (λ i. field 5 (words_bytes (e i)))), head_length, length_fields head 5 e k (piece_field_size m) [] pieces_from head_length sized k (omega arith))
+  pub length_of_file : length file ≡ piece_field_at m k
+  length_of_file = omega (arith, length-append head (cat k (λ i. field 5 (words_bytes (e i)))), head_length, length_fields head 5 e k (piece_field_size m) [] pieces_from head_length sized k (omega arith))
 
   -- its length is told by its own bytes, whatever follows it
   module _ (rest : List ℕ) where
@@ -148,7 +148,7 @@ module _ (m : List ℤ) (k : ℕ) (e : ℕ → List ℤ) (small : n# m ≤ 6) (f
         ∙ sym (field_lies _ _ _ _ _ _ (fields_back head 5 e k (piece_field_size m) rest pieces_from head_length sized 0 h (omega (arith, place_most m)))).len_is
 
     pub length_told : k < 65536 → file_length (file ++ rest) ≡ length file
-    length_told h = rw (count_told h) (total k (length_at (file ++ rest) pieces_from) first_told ∙ sym file_length_lem)
+    length_told h = rw (count_told h) (total k (length_at (file ++ rest) pieces_from) first_told ∙ sym length_of_file)
       where
         total : (i l : ℕ) → (0 < i → l ≡ 4 * piece_field_size m) → pieces_from + i * (3 + l) ≡ piece_field_at m i
         total zero l f = omega arith

@@ -72,11 +72,11 @@ module _ (m : List ℤ) where
   unfolding cut_fields cut_locations
   cuts_length = length_cat_sum (L# m) (λ l. length (cut_field_of m l)) (cut_field_of m) (λ l _. refl) ∙ some_cuts (L# m)
 
-  file_length_lem : model_questions m ≡ 0 → length (model_file m) ≡ 19 + L# m * (24 * n# m + 7) + E# m * (16 * n# m + 27) + B# m * (8 * n# m + 7) + cut_locations m * 15
-  file_length_lem asks = lengths.file_length_lem m (whole_passed m (passed m asks)) ∙ omega (arith, cuts_length)
+  length_of_file : model_questions m ≡ 0 → length (model_file m) ≡ 19 + L# m * (24 * n# m + 7) + E# m * (16 * n# m + 27) + B# m * (8 * n# m + 7) + cut_locations m * 15
+  length_of_file asks = lengths.length_of_file m (whole_passed m (passed m asks)) ∙ omega (arith, cuts_length)
 
   longest : model_questions m ≡ 0 → length (model_file m) ≤ 29907
-  longest asks = let w : Whole m = whole_passed m (passed m asks) in omega (arith, lengths.file_length_lem m w, cuts_small m w.head, cuts_most m w)
+  longest asks = let w : Whole m = whole_passed m (passed m asks) in omega (arith, lengths.length_of_file m w, cuts_small m w.head, cuts_most m w)
 
 -- ---- both ways
 
@@ -113,7 +113,7 @@ model_back = record {
   written = written;
   too_short = too_short;
   refused_by = refused_by;
-  file_length_lem = file_length_lem;
+  length_of_file = length_of_file;
   longest = longest;
   written_read = written_read;
   read_written = read_written;

@@ -22,7 +22,7 @@ use Rattle.files.specs.ModelFile.{model_file, run_questions, head_words, head_qu
 -- P's file has 22 of P's 25 words, in 3 fields: its tag gives the edition, no field the two words of no cut; read into 26 words it gives P,
 -- and the last word is left
 record Read : Type 0 where
-  file_length_lem : length (model_file P) ≡ 97
+  length_of_file : length (model_file P) ≡ 97
   reads : read_model_call (model_file P) (replicate 26 (pos 7)) ≡ record { count = Done 25; words = P ++ (pos 7 ∷ []) }
   too_short : (read_model_call (model_file P) (replicate 24 (pos 7))).count ≡ Refused 5
   one_byte_more : read_model_call (model_file P ++ (0 ∷ [])) (replicate 25 (pos 7)) ≡ record { count = Refused 8; words = replicate 25 (pos 0) }
@@ -133,7 +133,7 @@ record InBytes : Type 0 where
 
 read : Read
 unfolding onto cat all_below bits_at word_at words_at word_bytes words_bytes field_at field ◌then◌ first low high box_by box_at location_at invariant rate start_flag start_box switch_at forbidden_at forbidden_location forbidden_box cut_at cut_variable cut_value model_size box_ok inside_ok zeros_ok start_ok location_questions forbidden_question strictly_inside cut_ok cut_question ranges_questions records_questions plant_p P model_file run_questions head_words head_questions cut_words_ok cut_field_questions end_questions cuts_questions body_questions run_words record_words file_cut cut_words file_words records_file_questions unless_refused read_model_call
-read = record { file_length_lem = refl; reads = refl; too_short = refl; one_byte_more = refl; one_byte_less = refl; no_byte = refl }
+read = record { length_of_file = refl; reads = refl; too_short = refl; one_byte_more = refl; one_byte_less = refl; no_byte = refl }
 
 edition_read : EditionRead
 unfolding dosing dose onto cat all_below bits_at word_at words_at word_bytes words_bytes field_at field ◌then◌ first low high box_by box_at location_at invariant rate start_flag start_box switch_at forbidden_at forbidden_location forbidden_box cut_at cut_variable cut_value model_size box_ok inside_ok zeros_ok start_ok location_questions forbidden_question strictly_inside cut_ok cut_question ranges_questions records_questions plant_p P model_file run_questions head_words head_questions cut_words_ok cut_field_questions end_questions cuts_questions body_questions run_words record_words file_cut cut_words file_words records_file_questions unless_refused read_model_call source target wall_variable source_side target_side reset_mask masked guard reset wall places_ok boxes_ok single_at single_ok source_wall target_wall guard_ok level_after lands_ok switch_questions

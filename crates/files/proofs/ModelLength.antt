@@ -56,8 +56,8 @@ module _ (m : List ℤ) (w : Whole m) where
   unfolding model_file cut_fields
   file_is = around_cuts m w ∙ ap (λ (s : List ℕ). s ++ cuts m) records_in_turn
 
-  pub file_length_lem : length (model_file m) ≡ cuts_from m + length (cut_fields m)
-  file_length_lem = ap length file_is ∙ length-append (records_file m) (cut_fields m) ∙ ap (λ (k : ℕ). k + length (cut_fields m)) records_length
+  pub length_of_file : length (model_file m) ≡ cuts_from m + length (cut_fields m)
+  length_of_file = ap length file_is ∙ length-append (records_file m) (cut_fields m) ∙ ap (λ (k : ℕ). k + length (cut_fields m)) records_length
 
   pub cuts_most : length (cut_fields m) ≤ 960
   unfolding cut_fields

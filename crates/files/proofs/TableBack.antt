@@ -45,7 +45,7 @@ use Rattle.files.specs.TableBack.{TableBack}
 use Rattle.files.proofs.Keys.{Among, Ascending, Listing, listing, no_longer}
 use Rattle.files.proofs.PieceKeys.{location_of, piece_in, key_location, key_piece, key_below, key_again, at_key, at_key_lem, table_again}
 use Rattle.files.proofs.PlaceWords.{place_most, length_place, place_location, place_face, place_piece, place_named, place_box, place_and_box}
-use Rattle.files.proofs.Listed.{is_present, box_of, entry, listed, file_listed, head_back, count_back, piece_field_back, piece_words_back, file_length_lem, length_told, field_words, location_at, piece_named_at, box_at_field, InOrder, key_of, key_l, key_q, piece_of_field, in_order}
+use Rattle.files.proofs.Listed.{is_present, box_of, entry, listed, file_listed, head_back, count_back, piece_field_back, piece_words_back, length_of_file, length_told, field_words, location_at, piece_named_at, box_at_field, InOrder, key_of, key_l, key_q, piece_of_field, in_order}
 use Rattle.files.proofs.TableAsked.{FieldsYes, fields_yes, fields_in_order, file_again, room_yes}
 
 -- ---- words
@@ -223,7 +223,7 @@ module _ (m t : List ℤ) (asks : model_questions m ≡ 0) (long : table_size m 
 
   end_asked : eqb (length file) (piece_field_at m (count# file)) ≡ true
   unfolding file
-  end_asked = eq-eqb (length file) (piece_field_at m (count# file)) (file_length_lem m k words ok.n_small (omega (arith, few)) sized ∙ ap (piece_field_at m) (sym count_is))
+  end_asked = eq-eqb (length file) (piece_field_at m (count# file)) (length_of_file m k words ok.n_small (omega (arith, few)) sized ∙ ap (piece_field_at m) (sym count_is))
 
   fields_asked : fields_questions m file ≡ 0
   unfolding fields_questions

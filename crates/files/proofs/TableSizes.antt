@@ -78,11 +78,11 @@ module _ (m t : List ℤ) where
 
 -- ---- the whole file
 
-pub file_length_lem : (m t : List ℤ) → 7 + length (piece_fields m t) ≡ length (table_file m t)
+pub length_of_file : (m t : List ℤ) → 7 + length (piece_fields m t) ≡ length (table_file m t)
 unfolding table_file
-file_length_lem m t = omega (arith, length-append (field 6 (word_bytes (pos (present_pieces m t)))) (piece_fields m t), length-field 6 (word_bytes (pos (present_pieces m t))), length-word (pos (present_pieces m t)))
+length_of_file m t = omega (arith, length-append (field 6 (word_bytes (pos (present_pieces m t)))) (piece_fields m t), length-field 6 (word_bytes (pos (present_pieces m t))), length-word (pos (present_pieces m t)))
 
 -- no table's file is longer than the number that 39 asks for
 pub file_most : (m t : List ℤ) → length (table_file m t) ≤ longest_table_file m
 unfolding piece_fields piece_count
-file_most m t = omega (arith, file_length_lem m t, locations_le m t (L# m), longest_is m)
+file_most m t = omega (arith, length_of_file m t, locations_le m t (L# m), longest_is m)

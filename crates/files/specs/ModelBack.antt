@@ -22,7 +22,7 @@ pub record ModelBack : Type 0 where
   -- every other list gets the number of the first question that it fails, whatever the buffer, and nothing is written
   pub refused_by : (m : List ℤ) (bytes : List ℕ) (q : ℕ) → model_questions m ≡ suc q → write_model_call m bytes ≡ record { count = Refused (suc q); file = bytes }
   -- how long the file is, and that none is longer than 29,907 bytes
-  pub file_length_lem : (m : List ℤ) → model_questions m ≡ 0
+  pub length_of_file : (m : List ℤ) → model_questions m ≡ 0
       → length (model_file m) ≡ 19 + L# m * (24 * n# m + 7) + E# m * (16 * n# m + 27) + B# m * (8 * n# m + 7) + cut_locations m * 15
   pub longest : (m : List ℤ) → model_questions m ≡ 0 → length (model_file m) ≤ 29907
   -- what is written is read, into any buffer that is long enough, as the same words

@@ -47,8 +47,8 @@ module _ (s : List ℕ) (at : ℕ) where
   value_word : word (cut_field_words s at) 2 ≡ word_at s (at + 3 + 4 + 4)
   value_word = words_nth s (at + 3) 3 2 (omega arith) ∙ ap (word_at s) (omega arith)
 
-  pub cut_words_lem : words_at s (at + 3 + 4) 2 ≡ word (cut_field_words s at) 1 ∷ word (cut_field_words s at) 2 ∷ []
-  cut_words_lem = two_at s (at + 3 + 4) ∙ ap₂ (λ (a b : ℤ). a ∷ b ∷ []) (sym variable_word) (sym value_word)
+  pub words_of_cut : words_at s (at + 3 + 4) 2 ≡ word (cut_field_words s at) 1 ∷ word (cut_field_words s at) 2 ∷ []
+  words_of_cut = two_at s (at + 3 + 4) ∙ ap₂ (λ (a b : ℤ). a ∷ b ∷ []) (sym variable_word) (sym value_word)
 
   pub by_location : {k : ℕ} (l : ℕ) → at < length s → k ≡ num (cut_field_words s at) 0 → eqb k l ≡ names_location s at l
   by_location l h e = rw (lt-leb (length s) at h, e) refl

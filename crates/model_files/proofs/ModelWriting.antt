@@ -29,7 +29,7 @@ use Rattle.plant.proofs.Passing.{whole_passed}
 use Rattle.files.specs.ModelFile.{cut_field_size, record_field, model_file, locations_from, switches_from, forbiddens_from, cuts_from, file_room_question, write_model_questions}
 use Rattle.files.specs.UncutModelFile.{records_file}
 use Rattle.model_files.specs.Room.{field_of, record_fields, RunRoom, CutRoom, FileRoom}
-use Rattle.files.proofs.ModelLength.{cut_field_of, cut_fields, length-cut-field, records_in_turn, records_length, file_is, file_length_lem}
+use Rattle.files.proofs.ModelLength.{cut_field_of, cut_fields, length-cut-field, records_in_turn, records_length, file_is, length_of_file}
 use Rattle.plant.proofs.Heads.{locations_at, switches_at, forbiddens_at, cuts_at, words_end}
 use Rattle.files.proofs.ModelRoundTrip.{two_words, head_field, locations, switches, forbiddens, length_head_field, before_switches, before_forbiddens}
 
@@ -164,7 +164,7 @@ module _ (m : List ℤ) (w : Whole m) where
 
 module _ (m : List ℤ) (d : List ℕ) (r : FileRoom m d) where
   pub cuts_room : cuts_from m + length (cut_fields m) ≤ length d
-  cuts_room = omega (arith, file_length_lem m r.whole, r.room)
+  cuts_room = omega (arith, length_of_file m r.whole, r.room)
 
   module _ {x : List ℕ} (same : length x ≡ length d) where
     pub locations_room : RunRoom m (location_at m 0) (L# m) (location_size (n# m)) x locations_from

@@ -16,7 +16,7 @@ use Rattle.plant.proofs.Asks.{ask_intro, ask_yes, then_both}
 use Rattle.plant.proofs.Passed.{passed}
 use Rattle.plant.proofs.Tables.{long_enough, made_ok, table_most}
 use Rattle.plant.proofs.Keeps.{pieces_after, pieces_ok, after_length, onto_begins}
-use Rattle.plant.proofs.ByLocation.{ceiling_by_pieces_lem}
+use Rattle.plant.proofs.ByLocation.{ceiling_is_by_pieces}
 use Rattle.plant.proofs.Search.{answer_code}
 use Rattle.plant.proofs.Demands.{model_yes, by_code, first_demand, passes_within}
 use Rattle.plant.proofs.AnalysisAsked.{model_asked, table_room, work_room}
@@ -131,6 +131,6 @@ quote_kept m = record {
   );
   every_file = λ asks t. omega (arith, file_most m t, bytes_are m asks);
   same_ceiling = same_ceiling m;
-  by_pieces = λ asks. ceiling_is m asks ∙ ceiling_by_pieces_lem m asks;
+  by_pieces = λ asks. ceiling_is m asks ∙ ceiling_is_by_pieces m asks;
   largest = largest m (model_questions m) refl;
 }

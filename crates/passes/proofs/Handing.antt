@@ -61,20 +61,20 @@ module _ (n : ℕ) (variable value : ℤ) (d : ℕ) (r : Bool) (after pieces : L
   joinable : (inv : List ℤ) → r ≡ true → FaceAll (InInvariant n inv) h → n ≤ 6 → CutVariable n variable → AreFaces n (pieces_per_face c) pieces → PiecesJoinable n variable value (take (2 * n) after) pieces
   joinable inv u all small w are =
       let b : InInvariant n inv (take (2 * n) after) = subst (FaceAll (InInvariant n inv)) (e ∙ ap (λ (x : Bool). cond x (present (take (2 * n) after)) absent) u) all in
-      record { n_small = small; box_length = b.sized; box_ordered = b.is_ordered; cut_words_lem = w; are_pieces = are }
+      record { n_small = small; box_length = b.sized; box_ordered = b.is_ordered; words_of_cut = w; are_pieces = are }
 
 -- the box after the delays t, to be joined to the pieces of a face
 module _ (n : ℕ) (inv rate bounds : List ℤ) (d : ℕ) (b : ℤ) (t : Interval) (variable value : ℤ) (pieces : List ℤ) (ok : AfterJoin n inv rate bounds b t)
-    (cut_words_lem : CutVariable n variable) (are : AreFaces n (pieces_per_face (cut_from variable value)) pieces) (out : List ℤ) (room : 2 * n ≤ length out) where
+    (words_of_cut : CutVariable n variable) (are : AreFaces n (pieces_per_face (cut_from variable value)) pieces) (out : List ℤ) (room : 2 * n ≤ length out) where
   abbrev after_joined : List ℤ
   after_joined = joined_each n (pieces_per_face (cut_from variable value)) pieces (cut_each n (cut_from variable value) d (face_after n inv rate bounds d b (Between t)))
 
   pub after_ready : WallReady n inv rate bounds b out × SmallInterval t
-  after_ready = (record { inv_in = ok.inv_in; rate_in = ok.rate_in; part_in_lem = ok.bounds_in; wall_in = ok.wall_in; room = room }, ok.small)
+  after_ready = (record { inv_in = ok.inv_in; rate_in = ok.rate_in; part_lies_in = ok.bounds_in; wall_in = ok.wall_in; room = room }, ok.small)
 
   module _ {r : Bool} {after : List ℤ} (gives : Handed n r after out (face_after n inv rate bounds d b (Between t))) where
     pub after_joinable : r ≡ true → PiecesJoinable n variable value (take (2 * n) after) pieces
-    after_joinable u = joinable n variable value d r after pieces (face_after n inv rate bounds d b (Between t)) gives.is_face inv u (after_in n inv rate bounds d b (Between t)) ok.n_small cut_words_lem are
+    after_joinable u = joinable n variable value d r after pieces (face_after n inv rate bounds d b (Between t)) gives.is_face inv u (after_in n inv rate bounds d b (Between t)) ok.n_small words_of_cut are
 
     pub after_joins : {exit : List ℤ} → r ≡ true → exit ≡ joined_each n (pieces_per_face (cut_from variable value)) pieces (cut_each n (cut_from variable value) d (present (take (2 * n) after))) → exit ≡ after_joined
     after_joins = joins_it n variable value d r after pieces (face_after n inv rate bounds d b (Between t)) gives.is_face
@@ -145,7 +145,7 @@ module _ (n : ℕ) (inv rate bounds : List ℤ) (end : End) (d : ℕ) (b variabl
 
       box_joinable : PiecesJoinable n variable value (box_after n inv rate bounds d b t) pieces
       unfolding box_after
-      box_joinable = record { n_small = ok.n_small; box_length = length-box_by n (low_after n inv rate bounds d b t) (high_after n inv rate bounds d b t); box_ordered = box_ordered; cut_words_lem = ok.cut_words_lem; are_pieces = ok.are_pieces }
+      box_joinable = record { n_small = ok.n_small; box_length = length-box_by n (low_after n inv rate bounds d b t) (high_after n inv rate bounds d b t); box_ordered = box_ordered; words_of_cut = ok.words_of_cut; are_pieces = ok.are_pieces }
 
       -- a present face in an uncut location
       module _ (none : eq_z variable (negsuc 0) ≡ true) where
@@ -180,7 +180,7 @@ module _ (n : ℕ) (inv rate part : List ℤ) (variable value : ℤ) (block : Li
       rate_in = ok.rate_in;
       rate_ordered = ok.rate_ordered;
       bounds_in = rw is_box (ok.part_ok.has (eq_z_eq (word part 0) (pos 1) (true_is flag)));
-      cut_words_lem = ok.cut_words_lem;
+      words_of_cut = ok.words_of_cut;
       are_pieces = ok.are_pieces;
     }
 
@@ -208,7 +208,7 @@ module _ (m : List ℤ) (l n : ℕ) (inv rate : List ℤ) (variable value : ℤ)
       rate_in = ok.rate_in;
       rate_ordered = ok.rate_ordered;
       bounds_in = subst (FaceAll (InInvariant n inv)) (start_is u) (rw (ok.n_is, ok.inv_is) (start_inside m (passed m ok.passes) l ok.below));
-      cut_words_lem = ok.cut_words_lem;
+      words_of_cut = ok.words_of_cut;
       are_pieces = ok.are_pieces;
     }
 
@@ -241,7 +241,7 @@ module _ (n mask : ℕ) (guard reset inv from : List ℤ) (d : ℕ) (variable va
       switch_is = ap (switch_step n mask guard reset inv) (read_present n from flag ∙ ap present (sym is_box)) ∙ gives.is_face
 
       pub switch_joinable : r ≡ true → PiecesJoinable n variable value (take (2 * n) after) pieces
-      switch_joinable u = joinable n variable value d r after pieces (switch_step n mask guard reset inv (face_read n from 0)) switch_is inv u (switch_in n mask guard reset inv (face_read n from 0)) ok.from_ok.n_small ok.cut_words_lem ok.are_pieces
+      switch_joinable u = joinable n variable value d r after pieces (switch_step n mask guard reset inv (face_read n from 0)) switch_is inv u (switch_in n mask guard reset inv (face_read n from 0)) ok.from_ok.n_small ok.words_of_cut ok.are_pieces
 
       pub switch_joins : {exit : List ℤ} → r ≡ true → exit ≡ switch_joined (present (take (2 * n) after)) → exit ≡ switch_joined (switch_step n mask guard reset inv (face_read n from 0))
       switch_joins = joins_it n variable value d r after pieces (switch_step n mask guard reset inv (face_read n from 0)) switch_is

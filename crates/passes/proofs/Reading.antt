@@ -98,8 +98,8 @@ module _ (m t : List ℤ) (ok : Checked m t) where
   placed e l = switch_placed m model_passed e l
 
   -- the first word of a cut
-  pub cut_words_lem : (l : ℕ) → l < L# m → CutVariable (n# m) (cut_variable m l)
-  cut_words_lem l u = ⊎_elim (λ h. inl h.no_variable) (λ h. inr (h.not_negative, h.inside.0)) (model_passed.of_cut l u).words
+  pub words_of_cut : (l : ℕ) → l < L# m → CutVariable (n# m) (cut_variable m l)
+  words_of_cut l u = ⊎_elim (λ h. inl h.no_variable) (λ h. inr (h.not_negative, h.inside.0)) (model_passed.of_cut l u).words
 
   -- ---- the parts of a location
 
@@ -172,7 +172,7 @@ module _ (m t : List ℤ) (ok : Checked m t) where
           inv_in = invariant_in m model_passed l u;
           rate_in = rate_in m model_passed l u;
           rate_ordered = (model_passed.of_location l u).rate_ordered;
-          cut_words_lem = cut_words_lem l u;
+          words_of_cut = words_of_cut l u;
           are_pieces = are_faces (n# m) (pieces m l) (piece_of m t l) block-is;
         })
 
@@ -189,7 +189,7 @@ module _ (m t : List ℤ) (ok : Checked m t) where
           rate_in = rate_in m model_passed l u;
           rate_ordered = (model_passed.of_location l u).rate_ordered;
           part_ok = part_inside l p u w part_is;
-          cut_words_lem = cut_words_lem l u;
+          words_of_cut = words_of_cut l u;
           are_pieces = are_faces (n# m) (pieces m l) (λ q. joins (n# m) p (wall_from m t l q) (piece_of m t l q)) block-is;
         })
 
@@ -228,7 +228,7 @@ module _ (m t : List ℤ) (ok : Checked m t) where
           reset_in = levels_from (n# m) (reset m e) (length-reset m whole e u) s.reset_levels;
           inv_in = invariant_in m model_passed (target m e) p.target_is;
           from_ok = part_ok (source m e) (source_piece m e k + 1) p.source_is (omega (arith, source_below e k u v)) from_is;
-          cut_words_lem = cut_words_lem (target m e) p.target_is;
+          words_of_cut = words_of_cut (target m e) p.target_is;
           are_pieces = w;
         })
 

@@ -44,7 +44,7 @@ pub record WallJoin (n : ℕ) (inv rate bounds : List ℤ) (end : End) (d : ℕ)
   pub d_below : d < n
   pub from_low : low inv d ≤ℤ b
   pub to_high : b ≤ℤ high inv d
-  pub cut_words_lem : CutVariable n variable
+  pub words_of_cut : CutVariable n variable
   pub are_pieces : AreFaces n (pieces_per_face (cut_from variable value)) pieces
 
 -- the wall steps from a box to all faces of a location
@@ -54,7 +54,7 @@ pub record WallsJoin (n : ℕ) (inv rate bounds : List ℤ) (variable value : �
   pub rate_in : Rates n rate
   pub rate_ordered : Ordered n rate
   pub bounds_in : InInvariant n inv bounds
-  pub cut_words_lem : CutVariable n variable
+  pub words_of_cut : CutVariable n variable
   pub are_pieces : AreFaces n (pieces_with n (cut_from variable value)) block
 
 -- those from a part
@@ -63,7 +63,7 @@ pub record PartJoin (n : ℕ) (inv rate part : List ℤ) (variable value : ℤ) 
   pub rate_in : Rates n rate
   pub rate_ordered : Ordered n rate
   pub part_ok : PartOk n (InInvariant n inv) part
-  pub cut_words_lem : CutVariable n variable
+  pub words_of_cut : CutVariable n variable
   pub are_pieces : AreFaces n (pieces_with n (cut_from variable value)) block
 
 -- those from the start part of location l, of n variables
@@ -76,7 +76,7 @@ pub record StartJoin (m : List ℤ) (l n : ℕ) (inv rate : List ℤ) (variable 
   pub inv_in : Levels n inv
   pub rate_in : Rates n rate
   pub rate_ordered : Ordered n rate
-  pub cut_words_lem : CutVariable n variable
+  pub words_of_cut : CutVariable n variable
   pub are_pieces : AreFaces n (pieces_with n (cut_from variable value)) block
 
 -- a switch step from a piece of the source's face
@@ -85,7 +85,7 @@ pub record SwitchJoin (n : ℕ) (guard reset inv from : List ℤ) (variable valu
   pub reset_in : Levels n reset
   pub inv_in : Levels n inv
   pub from_ok : PartOk n (Levels n) from
-  pub cut_words_lem : CutVariable n variable
+  pub words_of_cut : CutVariable n variable
   pub are_pieces : AreFaces n (pieces_per_face (cut_from variable value)) pieces
 
 -- what is known of location l by its number of pieces

@@ -67,7 +67,7 @@ pub record Promises : Type 0 where
   -- if they are a model's file
   pub model_back : ModelBack
   pub model_files_exact : ModelFilesExact
-  -- T-02: beside its words, which `meaning` carries (`start_part_lem`): every number but 13, and what passed before, is as it was
+  -- T-02: beside its words, which `meaning` carries (`start_part_is`): every number but 13, and what passed before, is as it was
   pub as_before : (m : List ℤ) → AsBefore m
   -- T-06: "A table accepted before stays accepted"
   pub nothing_lost : NothingLost

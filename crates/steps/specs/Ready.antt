@@ -12,7 +12,7 @@ pub record CutReady (n : ℕ) (a b out : List ℤ) : Type 0 where
 pub record WallReady (n : ℕ) (inv rate part : List ℤ) (b : ℤ) (out : List ℤ) : Type 0 where
   pub inv_in : Levels n inv
   pub rate_in : Rates n rate
-  pub part_in_lem : InInvariant n inv part
+  pub part_lies_in : InInvariant n inv part
   pub wall_in : Level b
   pub room : 2 * n ≤ length out
 

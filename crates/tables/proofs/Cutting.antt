@@ -172,7 +172,7 @@ module _ (n d : ℕ) (variable value : ℤ) (from pieces : List ℤ) (ok : Piece
   -- with one
   module _ (some : eq_z variable (negsuc 0) ≡ false) where
     is_variable : T (non_neg variable) × (nat_abs variable < n)
-    is_variable = ⊎_elim (λ e. absurd (subst T some (eq_z_intro e))) (λ h. h) ok.cut_words_lem
+    is_variable = ⊎_elim (λ e. absurd (subst T some (eq_z_intro e))) (λ h. h) ok.words_of_cut
 
     pub not_negative : T (non_neg variable)
     not_negative = is_variable.0

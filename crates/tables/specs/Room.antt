@@ -65,5 +65,5 @@ pub record PiecesJoinable (n : ℕ) (variable value : ℤ) (from pieces : List �
   pub n_small : n ≤ 6
   pub box_length : length from ≡ 2 * n
   pub box_ordered : Ordered n from
-  pub cut_words_lem : CutVariable n variable
+  pub words_of_cut : CutVariable n variable
   pub are_pieces : AreFaces n (pieces_per_face (cut_from variable value)) pieces

@@ -2,7 +2,7 @@
 use native.Mathlib.Omega.{arith}
 use lib.IntN.{negsuc, pos}
 use lib.ListN.{length-set}
-use Rattle.model_files.proofs.CutTurns.{cut_words_lem, two_stored}
+use Rattle.model_files.proofs.CutTurns.{words_of_cut, two_stored}
 use Rattle.model_files.proofs.fill_cut.Goals as goal
 
 pub overflow_add-from : goal.overflow_add-from
@@ -19,7 +19,7 @@ slice_set_of-words-else-named c = simp length-set (omega (arith, c.requires.1))
 
 pub returns-then-named : goal.returns-then-named
 returns-then-named c =
-    rw (c.if-named.true, ← (cut_words_lem c.args.file.now c.args.at)) c.copy_words.ensures
+    rw (c.if-named.true, ← (words_of_cut c.args.file.now c.args.at)) c.copy_words.ensures
 
 pub returns-else-named : goal.returns-else-named
 returns-else-named c =

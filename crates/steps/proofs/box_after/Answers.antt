@@ -23,12 +23,12 @@ loop-i-init c = (search rules, refl, none_written _ _ _, none_tested _)
 pub low_after-lo-requires : goal.low_after-lo-requires
 low_after-lo-requires c =
     let i = c.loop-i.i in
-    (c.requires.0.inv_in i (omega arith), c.requires.0.rate_in i (omega arith), in_levels c.requires.0.inv_in c.requires.0.part_in_lem i (omega arith), c.requires.1, c.requires.0.part_in_lem.inside.lower i (omega arith))
+    (c.requires.0.inv_in i (omega arith), c.requires.0.rate_in i (omega arith), in_levels c.requires.0.inv_in c.requires.0.part_lies_in i (omega arith), c.requires.1, c.requires.0.part_lies_in.inside.lower i (omega arith))
 
 pub high_after-hi-requires : goal.high_after-hi-requires
 high_after-hi-requires c =
     let i = c.loop-i.i in
-    (c.requires.0.inv_in i (omega arith), c.requires.0.rate_in i (omega arith), in_levels c.requires.0.inv_in c.requires.0.part_in_lem i (omega arith), c.requires.1, c.requires.0.part_in_lem.inside.higher i (omega arith))
+    (c.requires.0.inv_in i (omega arith), c.requires.0.rate_in i (omega arith), in_levels c.requires.0.inv_in c.requires.0.part_lies_in i (omega arith), c.requires.1, c.requires.0.part_lies_in.inside.higher i (omega arith))
 
 pub returns-then-hi-lo : goal.returns-then-hi-lo
 returns-then-hi-lo c =
@@ -49,7 +49,7 @@ overflow_cast-out c =
     let i = c.loop-i.i in
     rw (c.low_after-lo.ensures a.n)
     (low_after_word a.n a.inv.now a.rate.now a.part.now a.d (to_z w64 (of_z w64 a.b)) a.t i
-    (c.requires.0.inv_in i (omega arith)) (c.requires.0.rate_in i (omega arith)) (in_levels c.requires.0.inv_in c.requires.0.part_in_lem i (omega arith)) (simp (to_z-of_z c.ranges.b) c.requires.0.wall_in) c.requires.1)
+    (c.requires.0.inv_in i (omega arith)) (c.requires.0.rate_in i (omega arith)) (in_levels c.requires.0.inv_in c.requires.0.part_lies_in i (omega arith)) (simp (to_z-of_z c.ranges.b) c.requires.0.wall_in) c.requires.1)
     in
     simp (got64 c.low_after-lo.result c.low_after-lo.type_inv) (fits32 (omega (arith, low_word)))
 
@@ -60,7 +60,7 @@ overflow_cast-out-in-loop-i c =
     let i = c.loop-i.i in
     rw (c.high_after-hi.ensures a.n)
     (high_after_word a.n a.inv.now a.rate.now a.part.now a.d (to_z w64 (of_z w64 a.b)) a.t i
-    (c.requires.0.inv_in i (omega arith)) (c.requires.0.rate_in i (omega arith)) (in_levels c.requires.0.inv_in c.requires.0.part_in_lem i (omega arith)) (simp (to_z-of_z c.ranges.b) c.requires.0.wall_in) c.requires.1)
+    (c.requires.0.inv_in i (omega arith)) (c.requires.0.rate_in i (omega arith)) (in_levels c.requires.0.inv_in c.requires.0.part_lies_in i (omega arith)) (simp (to_z-of_z c.ranges.b) c.requires.0.wall_in) c.requires.1)
     in
     simp (got64 c.high_after-hi.result c.high_after-hi.type_inv) (fits32 (omega (arith, high_word)))
 
@@ -80,14 +80,14 @@ loop-i-preserved c =
     let i = c.loop-i.i in
     rw (c.low_after-lo.ensures a.n)
     (low_after_word a.n a.inv.now a.rate.now a.part.now a.d (to_z w64 (of_z w64 a.b)) a.t i
-    (c.requires.0.inv_in i (omega arith)) (c.requires.0.rate_in i (omega arith)) (in_levels c.requires.0.inv_in c.requires.0.part_in_lem i (omega arith)) (simp (to_z-of_z c.ranges.b) c.requires.0.wall_in) c.requires.1)
+    (c.requires.0.inv_in i (omega arith)) (c.requires.0.rate_in i (omega arith)) (in_levels c.requires.0.inv_in c.requires.0.part_lies_in i (omega arith)) (simp (to_z-of_z c.ranges.b) c.requires.0.wall_in) c.requires.1)
     in
     let high_word : Word c.high_after-hi.result =
     let a = c.args in
     let i = c.loop-i.i in
     rw (c.high_after-hi.ensures a.n)
     (high_after_word a.n a.inv.now a.rate.now a.part.now a.d (to_z w64 (of_z w64 a.b)) a.t i
-    (c.requires.0.inv_in i (omega arith)) (c.requires.0.rate_in i (omega arith)) (in_levels c.requires.0.inv_in c.requires.0.part_in_lem i (omega arith)) (simp (to_z-of_z c.ranges.b) c.requires.0.wall_in) c.requires.1)
+    (c.requires.0.inv_in i (omega arith)) (c.requires.0.rate_in i (omega arith)) (in_levels c.requires.0.inv_in c.requires.0.part_lies_in i (omega arith)) (simp (to_z-of_z c.ranges.b) c.requires.0.wall_in) c.requires.1)
     in
     let a = c.args in
     let l = c.loop-i in

@@ -17,7 +17,7 @@ use Rattle.plant.specs.Tables.{width, all_widths, other_widths, uncut_ceiling}
 use Rattle.plant.proofs.Passed.{Passed, passed}
 use Rattle.plant.proofs.Passing.{whole}
 use Rattle.passes.proofs.PartWords.{invariant_in}
-use Rattle.checks.proofs.Extents.{cut_words_lem}
+use Rattle.checks.proofs.Extents.{words_of_cut}
 use Rattle.checks.proofs.Widths.{widths_small}
 use Rattle.checks.proofs.Counts.{with_others, adds_uncut, adds_cut}
 use Rattle.checks.proofs.ceiling.location_ceiling.Goals as goal
@@ -38,12 +38,12 @@ module _ (m : List ℤ) (l : ℕ) (ok : Passed m) (u : l < L# m) {n : ℕ} {inv 
   -- ---- a cut location
   module _ (cut : eq_z (cut_variable m l) (negsuc 0) ≡ false) {v : ℕ} (v_is : v ≡ nat_abs (cut_variable m l)) where
     is_variable : v < n# m
-    is_variable = omega (arith, v_is, (cut_words_lem m ok l u cut).inside.0)
+    is_variable = omega (arith, v_is, (words_of_cut m ok l u cut).inside.0)
 
     -- the width read is the variable's, and with the others' it makes all
     together : {w widths : ℕ} → w ≡ width inv v → widths ≡ all_widths n inv → other_widths (n# m) (nat_abs (cut_variable m l)) (invariant m l) + w ≡ widths
     together a e =
-        omega (arith, a, ap₂ width inv_is v_is, with_others (n# m) (nat_abs (cut_variable m l)) (invariant m l) (cut_words_lem m ok l u cut).inside.0, widths_is e)
+        omega (arith, a, ap₂ width inv_is v_is, with_others (n# m) (nat_abs (cut_variable m l)) (invariant m l) (words_of_cut m ok l u cut).inside.0, widths_is e)
 
 -- the test of the cut's first word, and its variable, as the code reads them
 flag : (m : List ℤ) (l : ℕ) {z : ℤ} {r : Bool} → mag z < 2147483648 → z ≡ cut_variable m l → r ≡ eq_z (to_z w32 (of_z w32 z)) (negsuc 0) → r ≡ eq_z (cut_variable m l) (negsuc 0)
@@ -86,7 +86,7 @@ natural-requires c =
     let m = c.args.model.now in
     let v = c.cut_variable-variable in
     let told = flag m c.args.l v.type_inv v.ensures c.same.ensures in
-    simp (got32 v.result v.type_inv) (subst (λ (z : ℤ). T (non_neg z)) (sym v.ensures) (cut_words_lem m (passed m c.requires.0) c.args.l c.requires.1 (sym told ∙ c.if-same.false)).not_negative)
+    simp (got32 v.result v.type_inv) (subst (λ (z : ℤ). T (non_neg z)) (sym v.ensures) (words_of_cut m (passed m c.requires.0) c.args.l c.requires.1 (sym told ∙ c.if-same.false)).not_negative)
 
 pub width-requires : goal.width-requires
 width-requires c =

@@ -50,7 +50,7 @@ join_after-requires c =
     let delays_are = simp (to_z-of_z c.ranges.b) at c.wall_delays.ensures in
     simp (to_z-of_z c.ranges.b, to_z-of_z c.ranges.variable, to_z-of_z c.ranges.value) (
       after_ok a.n a.inv.now a.rate.now a.bounds.now a.end a.d a.b a.variable a.value a.pieces.now c.requires delays_are c.in-Between.is,
-      c.requires.cut_words_lem,
+      c.requires.words_of_cut,
       c.requires.are_pieces,
     )
 

@@ -94,7 +94,7 @@ module _ {n : ℕ} {inv rate bounds : List ℤ} {variable value : ℤ} {block : 
           d_below = omega (arith, is_face);
           from_low = rw wall_is (between_ends n inv invariant_ordered f is_face).0;
           to_high = rw wall_is (between_ends n inv invariant_ordered f is_face).1;
-          cut_words_lem = r.cut_words_lem;
+          words_of_cut = r.words_of_cut;
           are_pieces = next_are_pieces n cut block given r.are_pieces f is_face h at_is end_is;
         }
 

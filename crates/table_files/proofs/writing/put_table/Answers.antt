@@ -5,7 +5,7 @@ use native.Mathlib.Omega.{arith}
 use mir.Syntax.{w32}
 use mir.Facts.{to_z_pos}
 use Rattle.integers.proofs.Signed.{fits32}
-use Rattle.files.proofs.TableSizes.{longest_least, file_length_lem}
+use Rattle.files.proofs.TableSizes.{longest_least, length_of_file}
 use Rattle.table_files.proofs.TableWriting.{present_few, file_put}
 use Rattle.table_files.proofs.writing.put_table.Goals as goal
 
@@ -30,5 +30,5 @@ returns c =
       bytes =
           file_put a.model.now a.table.now a.file.now c.put_header.new.out c.put_word.new.out _ c.payload_length.ensures c.put_header.ensures
           (rw (to_z_pos w32 {n = p.result} few, p.ensures) at c.put_word.ensures) c.put_pieces.ensures.bytes;
-      count = c.put_pieces.ensures.end ∙ file_length_lem a.model.now a.table.now;
+      count = c.put_pieces.ensures.end ∙ length_of_file a.model.now a.table.now;
     }
