@@ -1,4 +1,5 @@
 -- Reading and writing a model file undo each other: both are about the file of the words, and reading is exact.
+use Rattle.std.specs.Prelude.{Err, Ok}
 use mathlib.Core.Path.{◌≡◌, refl, sym, ap, ap₂, ◌∙◌}
 use mathlib.Core.Bool.{Bool, true, false, cond}
 use mathlib.Core.List.{List}
@@ -12,7 +13,6 @@ use Rattle.integers.specs.Words.{eq_z, AreBytes, onto}
 use Rattle.integers.specs.Counted.{sum_below}
 use Rattle.integers.proofs.Buffers.{take-onto, length_cat_sum}
 use Rattle.files.specs.Fields.{field_length}
-use Rattle.plant.specs.declared.Count.TheVariants.{Done, Refused}
 use Rattle.plant.specs.Ask.{ask, ◌then◌}
 use Rattle.plant.specs.Model.{n#, L#, E#, B#, cut_variable, model_size}
 use Rattle.plant.specs.Questions.{model_questions}
@@ -36,15 +36,15 @@ use Rattle.files.proofs.ModelLength as lengths
 -- ---- how the call ends
 
 module _ (m : List ℤ) (bytes : List ℕ) (asks : model_questions m ≡ 0) where
-  written : length (model_file m) ≤ length bytes → write_model_call m bytes ≡ record { count = Done (length (model_file m)); file = onto (model_file m) bytes }
+  written : length (model_file m) ≤ length bytes → write_model_call m bytes ≡ record { count = Ok (length (model_file m)); file = onto (model_file m) bytes }
   unfolding write_model_call write_model_questions
   written h = ap (λ (q : ℕ). write_by q (model_file m) bytes) (then_intro asks (ask_intro (leb (length (model_file m)) (length bytes)) 40 (le→leb (length (model_file m)) (length bytes) h)))
 
-  too_short : length bytes < length (model_file m) → write_model_call m bytes ≡ record { count = Refused 40; file = bytes }
+  too_short : length bytes < length (model_file m) → write_model_call m bytes ≡ record { count = Err 40; file = bytes }
   unfolding write_model_call write_model_questions ◌then◌
   too_short h = rw (asks, lt-leb (length (model_file m)) (length bytes) h) refl
 
-refused_by : (m : List ℤ) (bytes : List ℕ) (q : ℕ) → model_questions m ≡ suc q → write_model_call m bytes ≡ record { count = Refused (suc q); file = bytes }
+refused_by : (m : List ℤ) (bytes : List ℕ) (q : ℕ) → model_questions m ≡ suc q → write_model_call m bytes ≡ record { count = Err (suc q); file = bytes }
 unfolding write_model_call write_model_questions ◌then◌
 refused_by m bytes q e = rw e refl
 
@@ -81,20 +81,20 @@ module _ (m : List ℤ) where
 -- ---- both ways
 
 written_read : (m : List ℤ) (bytes : List ℕ) (words : List ℤ) → (write_reply (write_model_call m bytes)).code ≡ 100 → model_size m ≤ length words
-    → read_model_call (bytes_written (write_model_call m bytes)) words ≡ record { count = Done (model_size m); words = onto (take (model_size m) m) words }
+    → read_model_call (bytes_written (write_model_call m bytes)) words ≡ record { count = Ok (model_size m); words = onto (take (model_size m) m) words }
 written_read m bytes words code room =
     let y : (model_questions m ≡ 0) × (length (model_file m) ≤ length bytes) = write_asked m bytes code in
     let s : bytes_written (write_model_call m bytes) ≡ model_file m = ap bytes_written (written m bytes y.0 y.1) ∙ take-onto (model_file m) bytes (length (model_file m)) refl in
     ap (λ (s : List ℕ). read_model_call s words) s ∙ model_files_exact.file_reads m words y.0 room
 
 -- what is written of words whose file is s
-writes : (s : List ℕ) (m : List ℤ) (bytes : List ℕ) → IsModelFile s m → length s ≤ length bytes → write_model_call m bytes ≡ record { count = Done (length s); file = onto s bytes }
+writes : (s : List ℕ) (m : List ℤ) (bytes : List ℕ) → IsModelFile s m → length s ≤ length bytes → write_model_call m bytes ≡ record { count = Ok (length s); file = onto s bytes }
 writes s m bytes i room =
     let e : model_file m ≡ s = sym i.is_file in
-    written m bytes i.passes (omega (arith, ap length e)) ∙ ap (λ (x : List ℕ). record { count = Done (length x); file = onto x bytes }) e
+    written m bytes i.passes (omega (arith, ap length e)) ∙ ap (λ (x : List ℕ). record { count = Ok (length x); file = onto x bytes }) e
 
 read_written : (s : List ℕ) (words : List ℤ) (bytes : List ℕ) → AreBytes s → (read_reply (read_model_call s words)).code ≡ 100 → length s ≤ length bytes
-    → write_model_call (words_read (read_model_call s words)) bytes ≡ record { count = Done (length s); file = onto s bytes }
+    → write_model_call (words_read (read_model_call s words)) bytes ≡ record { count = Ok (length s); file = onto s bytes }
 read_written s words bytes b code = writes s (words_read (read_model_call s words)) bytes (model_files_exact.read_is_file s words b code)
 
 -- ---- words past the model's length

@@ -1,5 +1,6 @@
 -- A model's file is read exactly if it is the file of words that pass the questions, and then gives those words. One way, each
 -- field that is written is read back; the other way, each field that is read is the one that would be written.
+use Rattle.std.specs.Prelude.{Err, Ok}
 use mathlib.Core.Path.{◌≡◌, refl, sym, ap, ap₂, subst, ◌∙◌}
 use mathlib.Core.Bool.{Bool}
 use mathlib.Core.Logic.{⊎_elim}
@@ -29,7 +30,6 @@ use Rattle.plant.specs.Questions.{ranges_questions, edition_question, records_qu
 use Rattle.plant.proofs.Asks.{ask_intro, ask_le, asked, then_both, then_intro, then_le, first_intro, first_le}
 use Rattle.plant.proofs.Numbers.{records_le, ranges_le}
 use Rattle.plant.proofs.Passed.{IsUncut, IsCut, Passed, passed, ranges_passed}
-use Rattle.plant.specs.declared.Count.TheVariants.{Done, Refused}
 use Rattle.plant.specs.Calls.{read_reply, words_read, unless_refused}
 use Rattle.plant.proofs.Reading.{past, done}
 use Rattle.plant.proofs.Whole as model
@@ -258,7 +258,7 @@ module _ (m : List ℤ) where
           ∙ ap (λ (k : ℕ). take k m) size_is
 
       reads : (words : List ℤ) → ranges_questions m ≡ 0 → records_questions m ≡ 0 → model_size m ≤ length words
-          → record { count = Done (model_size m); words = onto (take (model_size m) m) words } ≡ read_model_call s words
+          → record { count = Ok (model_size m); words = onto (take (model_size m) m) words } ≡ read_model_call s words
       unfolding read_model_call head_questions records_file_questions
       reads words ranges records room =
           let size : model_size (head_words s) ≡ model_size m = same_size (head_words s) m same in
@@ -444,7 +444,7 @@ head_passed s e =
 -- ---- the theorem
 
 pub file_read : (m words : List ℤ) → model_questions m ≡ 0 → model_size m ≤ length words
-    → record { count = Done (model_size m); words = onto (take (model_size m) m) words } ≡ read_model_call (model_file m) words
+    → record { count = Ok (model_size m); words = onto (take (model_size m) m) words } ≡ read_model_call (model_file m) words
 unfolding model_file model_questions
 file_read m words e room =
     let x : _ × _ = asked (leb 5 (length m)) 5 _ (omega arith) e in
@@ -466,12 +466,12 @@ read_is_file s words b e =
     (read_file s b k.0 (within_one (word h 1) 64 (ranges_passed h k.1).L_within) (body_passed s h z.0) k.1 z.1)
 
 -- what a refusal leaves
-refused_by : (s : List ℕ) (words : List ℤ) (q : ℕ) → (head_questions s then buffer_question (head_words s) (length words)) ≡ suc q → read_model_call s words ≡ record { count = Refused (suc q); words = words }
+refused_by : (s : List ℕ) (words : List ℤ) (q : ℕ) → (head_questions s then buffer_question (head_words s) (length words)) ≡ suc q → read_model_call s words ≡ record { count = Err (suc q); words = words }
 unfolding read_model_call unless_refused
 refused_by s words q e = rw e refl
 
 zeroed_by : (s : List ℕ) (words : List ℤ) (q : ℕ) → (head_questions s then buffer_question (head_words s) (length words)) ≡ 0
-    → records_file_questions s (head_words s) ≡ suc q → read_model_call s words ≡ record { count = Refused (suc q); words = replicate (length words) (pos 0) }
+    → records_file_questions s (head_words s) ≡ suc q → read_model_call s words ≡ record { count = Err (suc q); words = replicate (length words) (pos 0) }
 unfolding read_model_call unless_refused
 zeroed_by s words q e f = rw (e, f) refl
 

@@ -1,4 +1,5 @@
 -- Reading and writing a table file undo each other: both sides are the list of the present pieces by ascending key.
+use Rattle.std.specs.Prelude.{Err, Ok}
 use mathlib.Core.Path.{◌≡◌, refl, sym, ap, ap₂, ◌∙◌, subst}
 use mathlib.Core.Bool.{true, cond}
 use mathlib.Core.List.{List, [], ◌∷◌, ◌++◌}
@@ -28,7 +29,6 @@ use Rattle.plant.specs.Box.{low, high, box_by, box_at, Face, absent, present, fa
 use Rattle.plant.specs.Model.{n#, L#, invariant}
 use Rattle.plant.specs.Questions.{model_questions}
 use Rattle.plant.specs.Pieces.{any_cut, per_face, pieces, piece_face, piece_index}
-use Rattle.plant.specs.declared.Count.TheVariants.{Done, Refused}
 use Rattle.plant.specs.Tables.{pieces_before, piece_count, table_size, longest_table_file, table_by, piece_of, table_ok}
 use Rattle.plant.proofs.Asks.{ask_intro, ask_yes, asked, then_both, then_intro, first_intro, ask_le, then_le, first_le}
 use Rattle.plant.proofs.Numbers.{model_le}
@@ -397,7 +397,7 @@ module _ (m : List ℤ) where
   -- ---- a read whose questions are all yes, and only such a one, gives the file's table
 
   abbrev is_read : List ℕ → List ℤ → ReadOutcome
-  is_read s buffer = record { count = Done (table_size m); words = onto (file_table m s) buffer }
+  is_read s buffer = record { count = Ok (table_size m); words = onto (file_table m s) buffer }
 
   reads : (s : List ℕ) (buffer : List ℤ) → room_questions m (length buffer) ≡ 0 → table_file_questions m s ≡ 0 → read_table_call m s buffer ≡ is_read s buffer
   unfolding read_table_call
@@ -412,7 +412,7 @@ module _ (m : List ℤ) where
   -- ---- the same of a write, and the table's file
 
   abbrev is_written : List ℤ → List ℕ → WriteOutcome
-  is_written t bytes = record { count = Done (length (table_file m t)); file = onto (table_file m t) bytes }
+  is_written t bytes = record { count = Ok (length (table_file m t)); file = onto (table_file m t) bytes }
 
   -- the questions of a write, in two parts
   abbrev AsksWrite : List ℤ → ℕ → Type 0
@@ -436,42 +436,42 @@ module _ (m : List ℤ) where
 
 -- ---- refusals
 
-refused_by : (m t : List ℤ) (bytes : List ℕ) (q : ℕ) → write_questions m t (length bytes) ≡ suc q → write_table_call m t bytes ≡ record { count = Refused (suc q); file = bytes }
+refused_by : (m t : List ℤ) (bytes : List ℕ) (q : ℕ) → write_questions m t (length bytes) ≡ suc q → write_table_call m t bytes ≡ record { count = Err (suc q); file = bytes }
 unfolding write_table_call
 refused_by m t bytes q e = rw e refl
 
-too_short : (m t : List ℤ) (bytes : List ℕ) → model_questions m ≡ 0 → table_size m ≤ length t → T (table_ok m t) → length bytes < longest_table_file m → write_table_call m t bytes ≡ record { count = Refused 39; file = bytes }
+too_short : (m t : List ℤ) (bytes : List ℕ) → model_questions m ≡ 0 → table_size m ≤ length t → T (table_ok m t) → length bytes < longest_table_file m → write_table_call m t bytes ≡ record { count = Err 39; file = bytes }
 unfolding write_questions ◌then◌
 too_short m t bytes asks long good short =
     refused_by m t bytes 38 (rw (room_asked m asks (length t) long, is_true {b = table_ok m t} good, lt-leb (longest_table_file m) (length bytes) short) refl)
 
-read_refused_by : (m : List ℤ) (s : List ℕ) (buffer : List ℤ) (q : ℕ) → room_questions m (length buffer) ≡ suc q → read_table_call m s buffer ≡ record { count = Refused (suc q); words = buffer }
+read_refused_by : (m : List ℤ) (s : List ℕ) (buffer : List ℤ) (q : ℕ) → room_questions m (length buffer) ≡ suc q → read_table_call m s buffer ≡ record { count = Err (suc q); words = buffer }
 unfolding read_table_call unless_refused
 read_refused_by m s buffer q e = rw e refl
 
 read_zeroed_by : (m : List ℤ) (s : List ℕ) (buffer : List ℤ) (q : ℕ) → room_questions m (length buffer) ≡ 0 → table_file_questions m s ≡ suc q
-    → read_table_call m s buffer ≡ record { count = Refused (suc q); words = replicate (length buffer) (pos 0) }
+    → read_table_call m s buffer ≡ record { count = Err (suc q); words = replicate (length buffer) (pos 0) }
 unfolding read_table_call unless_refused
 read_zeroed_by m s buffer q e f = rw (e, f) refl
 
 -- ---- the theorem
 
 written : (m t : List ℤ) (bytes : List ℕ) → model_questions m ≡ 0 → table_size m ≤ length t → T (table_ok m t) → longest_table_file m ≤ length bytes
-    → write_table_call m t bytes ≡ record { count = Done (length (table_file m t)); file = onto (table_file m t) bytes }
+    → write_table_call m t bytes ≡ record { count = Ok (length (table_file m t)); file = onto (table_file m t) bytes }
 written m t bytes asks long good room = writes m t bytes (room_asked m asks (length t) long, good, room)
 
 written_read : (m t : List ℤ) (bytes : List ℕ) (buffer : List ℤ) → (write_reply (write_table_call m t bytes)).code ≡ 100 → table_size m ≤ length buffer
-    → read_table_call m (bytes_written (write_table_call m t bytes)) buffer ≡ record { count = Done (table_size m); words = onto (take (table_size m) t) buffer }
+    → read_table_call m (bytes_written (write_table_call m t bytes)) buffer ≡ record { count = Ok (table_size m); words = onto (take (table_size m) t) buffer }
 written_read m t bytes buffer code room =
     let y : AsksWrite m t (length bytes) = write_yes m t bytes code in
     let p : (model_questions m ≡ 0) × (table_size m ≤ length t) = room_yes m (length t) y.0 in
     let f : bytes_written (write_table_call m t bytes) ≡ table_file m t = ap bytes_written (writes m t bytes y) ∙ take-onto (table_file m t) bytes (length (table_file m t)) refl in
     ap (λ (s : List ℕ). read_table_call m s buffer) f
     ∙ reads m (table_file m t) buffer (room_asked m p.0 (length buffer) room) (file_asked m t p.0 p.1 y.1)
-    ∙ ap (λ (w : List ℤ). record { count = Done (table_size m); words = onto w buffer }) (file_table_lem m t p.0 p.1 y.1)
+    ∙ ap (λ (w : List ℤ). record { count = Ok (table_size m); words = onto w buffer }) (file_table_lem m t p.0 p.1 y.1)
 
 read_written : (m : List ℤ) (s : List ℕ) (buffer : List ℤ) (bytes : List ℕ) → AreBytes s → (read_reply (read_table_call m s buffer)).code ≡ 100 → longest_table_file m ≤ length bytes
-    → write_table_call m (words_read (read_table_call m s buffer)) bytes ≡ record { count = Done (length s); file = onto s bytes }
+    → write_table_call m (words_read (read_table_call m s buffer)) bytes ≡ record { count = Ok (length s); file = onto s bytes }
 unfolding table_file_questions file_table
 read_written m s buffer bytes are code room =
     let r : (room_questions m (length buffer) ≡ 0) × (table_file_questions m s ≡ 0) = read_yes m s buffer code in
@@ -482,7 +482,7 @@ read_written m s buffer bytes are code room =
     let w : words_read (read_table_call m s buffer) ≡ file_table m s = ap words_read (reads m s buffer r.0 r.1) ∙ take-onto (file_table m s) buffer (table_size m) l in
     ap (λ (t : List ℤ). write_table_call m t bytes) w
     ∙ writes m (file_table m s) bytes (room_asked m asks (length (file_table m s)) (omega (arith, l)), ask_yes (table_ok m (file_table m s)) 32 (omega arith) q.1, room)
-    ∙ ap (λ (x : List ℕ). record { count = Done (length x); file = onto x bytes }) (again m ok s (fields_yes m s ok.n_positive ok.L_positive q.0) are)
+    ∙ ap (λ (x : List ℕ). record { count = Ok (length x); file = onto x bytes }) (again m ok s (fields_yes m s ok.n_positive ok.L_positive q.0) are)
 
 pub table_back : TableBack
 table_back = record {

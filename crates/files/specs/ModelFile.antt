@@ -1,6 +1,6 @@
 -- Document 01, "Files" and "The questions, in order": the file of a model, and what reading one gives. And document 02: its first tag,
 -- which gives its edition (T-10), the fields of its cuts (T-12), and what writing one gives (T-01).
-use Rattle.std.specs.Prelude.{Bool, false, cond, not, ◌&&◌, ◌||◌, List, [], ◌∷◌, ◌++◌, ℕ, zero, suc, ◌+◌, ◌-◌, eqb, leb, ℤ, pos, negsuc, length, get_or}
+use Rattle.std.specs.Prelude.{Bool, false, cond, not, ◌&&◌, ◌||◌, List, [], ◌∷◌, ◌++◌, ℕ, zero, suc, ◌+◌, ◌-◌, eqb, leb, ℤ, pos, negsuc, length, get_or, Ok}
 use Rattle.integers.specs.Words.{word, num, eq_z, within, onto}
 use Rattle.integers.specs.Counted.{cat}
 use Rattle.files.specs.Bytes.{words_at, words_bytes, part}
@@ -8,7 +8,6 @@ use Rattle.files.specs.Fields.{header_size, payload_length, field_place, field_a
 use Rattle.files.specs.declared.Field.{Field}
 use Rattle.files.specs.declared.Field.TheVariants.{Whole, Cut, Short}
 use Rattle.plant.specs.Ask.{ask, ◌then◌, first}
-use Rattle.plant.specs.declared.Count.TheVariants.{Done}
 use Rattle.plant.specs.Model.{n#, L#, E#, B#, edition, location_size, switch_size, forbidden_size, location_at, switch_at, forbidden_at, cut_variable, cut_value, model_size}
 use Rattle.plant.specs.Questions.{ranges_questions, records_questions, model_questions}
 use Rattle.plant.specs.Calls.{ReadOutcome, unless_refused, zeroed, WriteOutcome, write_by}
@@ -182,7 +181,7 @@ records_file_questions s h = body_questions s h then records_questions (file_wor
 abbrev pub read_records : (s : List ℕ) (h words : List ℤ) → ReadOutcome
 read_records s h words =
     unless_refused (records_file_questions s h) (zeroed words)
-    (record { count = Done (model_size h); words = onto (file_words s h) words })
+    (record { count = Ok (model_size h); words = onto (file_words s h) words })
 
 unfoldable pub read_model_call : (s : List ℕ) (words : List ℤ) → ReadOutcome
 read_model_call s words =

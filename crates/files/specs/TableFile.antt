@@ -1,11 +1,10 @@
 -- Document 01, "Files" and "The questions, in order", with pieces for faces (document 02, T-12): the file of a table, and what
 -- reading and writing one give.
-use Rattle.std.specs.Prelude.{Bool, cond, ◌&&◌, List, [], ◌∷◌, ◌++◌, ℕ, zero, suc, ◌+◌, ◌-◌, ◌*◌, eqb, leb, ℤ, pos, nat_abs, length, get_or}
+use Rattle.std.specs.Prelude.{Bool, cond, ◌&&◌, List, [], ◌∷◌, ◌++◌, ℕ, zero, suc, ◌+◌, ◌-◌, ◌*◌, eqb, leb, ℤ, pos, nat_abs, length, get_or, Ok}
 use Rattle.integers.specs.Words.{word, num, within, onto}
 use Rattle.integers.specs.Counted.{cat, sum_below}
 use Rattle.files.specs.Bytes.{word_at, words_at, word_bytes, words_bytes}
 use Rattle.files.specs.Fields.{header_size, payload_length, field_place, length_at, field_at, is_field, field}
-use Rattle.plant.specs.declared.Count.TheVariants.{Done}
 use Rattle.plant.specs.Ask.{ask, ◌then◌, first}
 use Rattle.plant.specs.Box.{low, high, box_by, box_at, Face, absent, present}
 use Rattle.plant.specs.Model.{n#, L#}
@@ -155,7 +154,7 @@ room_questions m room = model_questions m then table_room_question m room
 abbrev pub read_faces : (m : List ℤ) (s : List ℕ) (table : List ℤ) → ReadOutcome
 read_faces m s table =
     unless_refused (table_file_questions m s) (zeroed table)
-    (record { count = Done (table_size m); words = onto (file_table m s) table })
+    (record { count = Ok (table_size m); words = onto (file_table m s) table })
 
 unfoldable pub read_table_call : (m : List ℤ) (s : List ℕ) (table : List ℤ) → ReadOutcome
 read_table_call m s table = unless_refused (room_questions m (length table)) table (read_faces m s table)

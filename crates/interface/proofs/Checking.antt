@@ -1,4 +1,5 @@
 -- The host check's number, from what the calls below it say.
+use Rattle.std.specs.Prelude.{Err, Ok}
 use mathlib.Core.Path.{◌≡◌, refl, sym, ap, ◌∙◌}
 use mathlib.Core.Bool.{true}
 use mathlib.Core.List.{List}
@@ -10,7 +11,6 @@ use Rattle.integers.specs.Words.{onto}
 use Rattle.integers.proofs.Tests.{is_true}
 use Rattle.plant.specs.Ask.{◌then◌}
 use Rattle.plant.specs.Tables.{table_size, table_ok}
-use Rattle.plant.specs.declared.Count.TheVariants.{Done, Refused}
 use Rattle.plant.specs.Calls.{certificate_questions, check_by, ReadOutcome, read_reply, zeroed}
 use Rattle.plant.proofs.Asks.{ask_yes, then_both}
 use Rattle.plant.proofs.Reading.{done}
@@ -30,21 +30,21 @@ module _ (m : List ℤ) (t : List ℕ) where
 
   module _ (held : List ℤ) (fits : table_size m ≤ length held) where
     abbrev all : ReadOutcome
-    all = record { count = Done (table_size m); words = onto (file_table m t) held }
+    all = record { count = Ok (table_size m); words = onto (file_table m t) held }
 
     -- a refusal is the number of the file's questions
-    pub table_refused : {q : ℕ} {x : List ℤ} → ◌≡◌ {A = ReadOutcome} (record { count = Refused q; words = x }) (read_faces m t held) → (q ≡ table_file_questions m t) × (table_file_questions m t ≡ 0 → ⊥)
+    pub table_refused : {q : ℕ} {x : List ℤ} → ◌≡◌ {A = ReadOutcome} (record { count = Err q; words = x }) (read_faces m t held) → (q ≡ table_file_questions m t) × (table_file_questions m t ≡ 0 → ⊥)
     table_refused {q} e = refused_number (table_file_questions m t) (zeroed held) all (table_size m) q refl (ap (λ (o : ReadOutcome). o.count) e)
 
     -- else all of them are yes, and the words are the file's table
-    module _ {size : ℕ} {x : List ℤ} (e : ◌≡◌ {A = ReadOutcome} (record { count = Done size; words = x }) (read_faces m t held)) where
+    module _ {size : ℕ} {x : List ℤ} (e : ◌≡◌ {A = ReadOutcome} (record { count = Ok size; words = x }) (read_faces m t held)) where
       read_done : (table_file_questions m t ≡ 0) × (read_faces m t held ≡ all)
       read_done = done (table_file_questions m t) (zeroed held) all (omega (arith, table_le m t)) (sym (ap (λ (o : ReadOutcome). (read_reply o).code) e))
 
       pub table_yes : table_file_questions m t ≡ 0
       table_yes = read_done.0
 
-      read_all : ◌≡◌ {A = ReadOutcome} (record { count = Done size; words = x }) all
+      read_all : ◌≡◌ {A = ReadOutcome} (record { count = Ok size; words = x }) all
       read_all = e ∙ read_done.1
 
       pub table_front : Front x size (file_table m t)

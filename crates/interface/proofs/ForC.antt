@@ -1,10 +1,10 @@
 -- Each call for C gives what its call gives, with the reply in place of the enum; and the desk's counters are sums.
+use Rattle.std.specs.Prelude.{Result}
 use mathlib.Core.Path.{◌≡◌, refl, sym, ap, subst, ◌∙◌}
 use mathlib.Core.List.{List, [], ◌∷◌}
 use Prim.Native.Nat.{ℕ}
 use lib.IntN.{ℤ}
 use Rattle.plant.specs.declared.Answer.{Answer}
-use Rattle.plant.specs.declared.Count.{Count}
 use Rattle.plant.specs.Calls.{Reply, answer_reply, Analysed, count_reply, ReadOutcome, WriteOutcome}
 use Rattle.orders.specs.declared.Desk.{Desk}
 use Rattle.orders.specs.Desks.{fresh_desk, Holds, Served, Call, desk_after, replies, answers_of, passes_of, DeskCounts}

@@ -1,6 +1,7 @@
 -- What reading a model file into the host's words tells. A call reads into few words first. Where the reader gives another number
 -- than 5, it is that of the file's questions without 5; where it gives 5, the call reads again, into words that hold the longest
 -- model.
+use Rattle.std.specs.Prelude.{Err, Ok, Result}
 use mathlib.Core.Path.{◌≡◌, refl, sym, ap, subst, ◌∙◌}
 use mathlib.Core.Bool.{Bool, true, false}
 use mathlib.Core.List.{List}
@@ -15,8 +16,6 @@ use Rattle.integers.proofs.Buffers.{take-onto}
 use Rattle.plant.specs.Ask.{ask, ◌then◌}
 use Rattle.plant.specs.Model.{head_size, model_size}
 use Rattle.plant.specs.Questions.{ranges_questions, edition_question, records_questions, model_questions}
-use Rattle.plant.specs.declared.Count.{Count}
-use Rattle.plant.specs.declared.Count.TheVariants.{Done, Refused}
 use Rattle.plant.specs.Calls.{count_reply, ReadOutcome, read_reply, words_read, unless_refused, zeroed}
 use Rattle.plant.proofs.Asks.{ask_intro, asked, then_both, then_le}
 use Rattle.plant.proofs.Reading.{done}
@@ -52,7 +51,7 @@ both_yes (suc x) y u v next e = absurd (omega arith)
 
 -- ---- what a reader's refusal tells
 
-pub refused_number : (k : ℕ) (words : List ℤ) (next : ReadOutcome) (v q : ℕ) → next.count ≡ Done v → Refused q ≡ (unless_refused k words next).count → (q ≡ k) × (k ≡ 0 → ⊥)
+pub refused_number : (k : ℕ) (words : List ℤ) (next : ReadOutcome) (v q : ℕ) → next.count ≡ Ok v → Err q ≡ (unless_refused k words next).count → (q ≡ k) × (k ≡ 0 → ⊥)
 unfolding unless_refused
 refused_number zero words next v q d e = absurd (let z : ◌≡◌ {A = ℕ} 0 1 = cc in omega arith)
 refused_number (suc k) words next v q d e = (ap (λ (c : Count). (count_reply c).code) e, λ z. omega arith)
@@ -118,7 +117,7 @@ module _ (s : List ℕ) where
   -- into words that have room
   module _ (held : List ℤ) (roomy : Roomy s held) where
     abbrev all : ReadOutcome
-    all = record { count = Done (model_size h); words = onto (file_words s h) held }
+    all = record { count = Ok (model_size h); words = onto (file_words s h) held }
 
     -- 1 to 5
     abbrev front_questions : ℕ
@@ -135,7 +134,7 @@ module _ (s : List ℕ) where
     count_is = one_chain front_questions (records_file_questions s h) held (zeroed held) all ∙ ap (λ (q : ℕ). (unless_refused q (zeroed held) all).count) questions_are
 
     -- a refusal is the number of the file's questions
-    pub read_refused : {q : ℕ} {x : List ℤ} → ◌≡◌ {A = ReadOutcome} (record { count = Refused q; words = x }) (read_model_call s held) → (q ≡ model_file_questions s) × (model_file_questions s ≡ 0 → ⊥)
+    pub read_refused : {q : ℕ} {x : List ℤ} → ◌≡◌ {A = ReadOutcome} (record { count = Err q; words = x }) (read_model_call s held) → (q ≡ model_file_questions s) × (model_file_questions s ≡ 0 → ⊥)
     read_refused {q} e = refused_number (model_file_questions s) (zeroed held) all (model_size h) q refl (ap (λ (o : ReadOutcome). o.count) e ∙ count_is)
 
     -- where all of them are yes, the words are the model's
@@ -152,14 +151,14 @@ module _ (s : List ℕ) where
       (model_files_exact.read_is_file s held bytes (ap (λ (o : ReadOutcome). (read_reply o).code) e))
 
   -- a reader that is done
-  module _ (held : List ℤ) {size : ℕ} {x : List ℤ} (e : ◌≡◌ {A = ReadOutcome} (record { count = Done size; words = x }) (read_model_call s held)) where
+  module _ (held : List ℤ) {size : ℕ} {x : List ℤ} (e : ◌≡◌ {A = ReadOutcome} (record { count = Ok size; words = x }) (read_model_call s held)) where
     roomy : Roomy s held
     roomy = other_roomy s held e (λ z. omega arith)
 
     pub read_yes : model_file_questions s ≡ 0
     read_yes = (done (model_file_questions s) (zeroed held) (all held roomy) (omega (arith, questions_le)) (sym (ap (λ (o : ReadOutcome). (read_reply o).code) e ∙ ap (λ (c : Count). (count_reply c).code) (count_is held roomy)))).0
 
-    read_all : ◌≡◌ {A = ReadOutcome} (record { count = Done size; words = x }) (all held roomy)
+    read_all : ◌≡◌ {A = ReadOutcome} (record { count = Ok size; words = x }) (all held roomy)
     read_all = e ∙ reads held roomy read_yes
 
     pub read_front : Front x size (model_of s)

@@ -1,5 +1,6 @@
 -- What every call at the desk keeps to: it is the analysis where the counters can take the limit, an answer moves them and a refusal
 -- does not, its passes are within the limit, and 22 keeps the counters from running over.
+use Rattle.std.specs.Prelude.{Err}
 use mathlib.Core.Path.{◌≡◌, refl, sym, ap, subst}
 use mathlib.Core.Bool.{Bool, true, false, cond}
 use mathlib.Core.Logic.{◌⊎◌}
@@ -14,7 +15,6 @@ use lib.ListN.{length}
 use Rattle.integers.proofs.Tests.{is_true}
 use Rattle.plant.specs.Ask.{ask, ◌then◌}
 use Rattle.plant.specs.Tables.{table_size}
-use Rattle.plant.specs.declared.Answer.TheVariants.{Refused}
 use Rattle.plant.specs.Questions.{model_questions}
 use Rattle.plant.specs.Calls.{Analysed, answer_reply, reply_of, analysis, analysis_questions, analyse_by, analyse_call}
 use Rattle.plant.specs.Demands.{Room}
@@ -47,7 +47,7 @@ module _ (d : Desk) (m : List ℤ) (limit : ℕ) (table work : List ℤ) where
   is_analysis h = same_by (analysis_questions m table work) (counters_ok d limit) h
 
   full : (T (counters_ok d limit) → ⊥) → analysis_questions m table work ≡ 0
-      → desk_call d m limit table work ≡ record { desk = d; analysed = record { answer = Refused 22; table = table; work = work } }
+      → desk_call d m limit table work ≡ record { desk = d; analysed = record { answer = Err 22; table = table; work = work } }
   full h asks = sym (desk_full d m limit table work asks (by (counters_ok d limit) h))
     where
       by : (b : Bool) → (T b → ⊥) → b ≡ false

@@ -10,7 +10,7 @@ use lib.Seq.{drop_at}
 use Rattle.integers.specs.Words.{onto}
 use Rattle.plant.specs.Questions.{model_questions}
 use Rattle.plant.specs.Tables.{longest_table_file, table_ok, table_after}
-use Rattle.plant.specs.Calls.{Analysed, reply_of, ceiling_reply, ceiling_by, ceiling_call, passes_of, answer_table, analysis, analysis_questions, answered, analyse_by, analyse_call, write_reply}
+use Rattle.plant.specs.Calls.{Analysed, reply_of, count_reply, ceiling_by, ceiling_call, passes_of, answer_table, analysis, analysis_questions, answered, analyse_by, analyse_call, write_reply}
 use Rattle.plant.specs.Demands.{ceiling, answers, Room}
 use Rattle.plant.proofs.Asks.{ask_intro, ask_yes, then_both}
 use Rattle.plant.proofs.Passed.{passed}
@@ -36,7 +36,7 @@ module _ (m : List ℤ) where
   largest zero e = let w : Whole m = whole m e in (table_most m w.head.n_small w.head.L_small, longest_most m w, ceiling-most m (passed m e))
   largest (suc q) e = (omega arith, omega arith, omega arith)
 
-  same_by : (q : ℕ) → (quote_reply (quote_by m q)).ceiling ≡ (ceiling_reply (ceiling_by m q)).value
+  same_by : (q : ℕ) → (quote_reply (quote_by m q)).ceiling ≡ (count_reply (ceiling_by m q)).value
   same_by zero = refl
   same_by (suc q) = refl
 

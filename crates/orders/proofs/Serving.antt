@@ -1,4 +1,5 @@
 -- The desk call by cases: what the definition gives in each branch of the code, and that the counters hold what is added.
+use Rattle.std.specs.Prelude.{Err}
 use mathlib.Core.Path.{◌≡◌, refl, sym, ap, ap₂, ◌∙◌, subst}
 use mathlib.Core.Bool.{Bool, true, false, ◌&&◌}
 use mathlib.Core.List.{List}
@@ -9,7 +10,6 @@ use lib.Dec.{T, leb, ltb}
 use lib.IntN.{ℤ}
 use Rattle.plant.specs.Ask.{ask}
 use Rattle.plant.specs.declared.Answer.{Answer}
-use Rattle.plant.specs.declared.Answer.TheVariants.{Refused}
 use Rattle.plant.specs.Calls.{Analysed, reply_of, analysis, passes_of, analysis_questions, answered}
 use Rattle.plant.proofs.Asks.{go, halt, ask_intro, then_intro}
 use Rattle.plant.proofs.Search.{within_limit}
@@ -49,7 +49,7 @@ module _ (d : Desk) (limit : ℕ) where
 module _ (d : Desk) (m : List ℤ) (limit : ℕ) (table work : List ℤ) where
   -- a refusal moves nothing and changes nothing lent
   abbrev unmoved : ℕ → Served
-  unmoved q = record { desk = d; analysed = record { answer = Refused q; table = table; work = work } }
+  unmoved q = record { desk = d; analysed = record { answer = Err q; table = table; work = work } }
 
   unmoved_by : (q : ℕ) → (q ≡ 0 → ⊥) → unmoved q ≡ desk_by q d m limit table work
   unmoved_by zero n = absurd (n refl)

@@ -1,4 +1,5 @@
 -- Words that follow a model's change nothing that the desk and the quote give.
+use Rattle.std.specs.Prelude.{Ok}
 use mathlib.Core.Path.{◌≡◌, refl, ap, ◌∙◌}
 use mathlib.Core.List.{List}
 use Prim.Native.Nat.{ℕ, zero, suc}
@@ -11,7 +12,6 @@ use Rattle.plant.proofs.AnalysisAsked.{model_asked}
 use Rattle.plant.proofs.Beginning.{alone, questions_alone}
 use Rattle.plant.proofs.Alike.{Alike, same_size, same_longest, same_ceiling}
 use Rattle.plant.proofs.WordsBehind.{alike_alone, answered_alone, analysis_questions_alone}
-use Rattle.orders.specs.declared.Quote.TheVariants.{AtMost}
 use Rattle.orders.specs.declared.Desk.{Desk}
 use Rattle.orders.specs.Desks.{counters_ok, desk_questions, counted, desk_by, desk_call}
 use Rattle.orders.specs.Quotes.{quote_by, quote_call}
@@ -20,7 +20,7 @@ module _ (m : List ℤ) where
   quote_by_lem : (q : ℕ) → (q ≡ 0 → model_questions m ≡ 0) → quote_by (alone m) q ≡ quote_by m q
   quote_by_lem zero h =
       let like : Alike (alone m) m = alike_alone m (h refl) in
-      λ i. AtMost (record { words = same_size (alone m) m like i; bytes = same_longest (alone m) m like i; ceiling = same_ceiling (alone m) m like i })
+      λ i. Ok (record { words = same_size (alone m) m like i; bytes = same_longest (alone m) m like i; ceiling = same_ceiling (alone m) m like i })
   quote_by_lem (suc q) h = refl
 
   pub quote_alone : quote_call (alone m) ≡ quote_call m

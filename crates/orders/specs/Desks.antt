@@ -1,7 +1,6 @@
 -- Document 01, "Desk and host": the desk's counters, and what a desk call does to them and to lent memory.
-use Rattle.std.specs.Prelude.{◌≡◌, Bool, cond, ◌&&◌, ◌⊎◌, List, [], ◌∷◌, ℕ, zero, suc, ◌+◌, ◌≤◌, T, leb, ℤ}
+use Rattle.std.specs.Prelude.{◌≡◌, Bool, cond, ◌&&◌, ◌⊎◌, List, [], ◌∷◌, ℕ, zero, suc, ◌+◌, ◌≤◌, T, leb, ℤ, Err}
 use Rattle.plant.specs.Ask.{ask, ◌then◌}
-use Rattle.plant.specs.declared.Answer.TheVariants.{Refused}
 use Rattle.plant.specs.Questions.{model_questions}
 use Rattle.plant.specs.Calls.{Reply, Analysed, reply_of, analysis, analysis_questions, answered, analyse_call}
 use Rattle.plant.specs.Demands.{Room}
@@ -33,7 +32,7 @@ counted d a = record { desk = record { jobs = d.jobs + 1; passes = d.passes + (r
 
 abbrev pub desk_by : ℕ → (d : Desk) (m : List ℤ) (limit : ℕ) (table work : List ℤ) → Served
 desk_by zero d m limit table work = counted d (answered m (analysis m limit) table work)
-desk_by (suc k) d m limit table work = record { desk = d; analysed = record { answer = Refused (suc k); table = table; work = work } }
+desk_by (suc k) d m limit table work = record { desk = d; analysed = record { answer = Err (suc k); table = table; work = work } }
 
 unfoldable pub desk_call : (d : Desk) (m : List ℤ) (limit : ℕ) (table work : List ℤ) → Served
 desk_call d m limit table work = desk_by (desk_questions d m limit table work) d m limit table work
@@ -55,7 +54,7 @@ pub record DeskFirstDemand (d : Desk) (m : List ℤ) : Type 0 where
   -- every other input gets the number of the first of the desk's questions that it fails, and changes nothing
   pub refused_by :
       (limit : ℕ) (table work : List ℤ) (q : ℕ) → desk_questions d m limit table work ≡ suc q
-      → desk_call d m limit table work ≡ record { desk = d; analysed = record { answer = Refused (suc q); table = table; work = work } }
+      → desk_call d m limit table work ≡ record { desk = d; analysed = record { answer = Err (suc q); table = table; work = work } }
 
 -- ---- what every call at the desk keeps to
 
@@ -73,7 +72,7 @@ pub record DeskAnswers (d : Desk) (m : List ℤ) (limit : ℕ) (table work : Lis
   pub is_analysis : T (counters_ok d limit) → (desk_call d m limit table work).analysed ≡ analyse_call m limit table work
   -- where they cannot, an analysis that would be answered is refused by 22, and nothing changes
   pub full : (T (counters_ok d limit) → ⊥) → analysis_questions m table work ≡ 0
-      → desk_call d m limit table work ≡ record { desk = d; analysed = record { answer = Refused 22; table = table; work = work } }
+      → desk_call d m limit table work ≡ record { desk = d; analysed = record { answer = Err 22; table = table; work = work } }
   -- an answered call moves passes by the passes answered and jobs by 1, a refused one neither
   pub passes_moved : let s = desk_call d m limit table work in s.desk.passes ≡ d.passes + cond (is_answer (reply_of s.analysed)) (reply_of s.analysed).value 0
   pub jobs_moved : let s = desk_call d m limit table work in s.desk.jobs ≡ d.jobs + cond (is_answer (reply_of s.analysed)) 1 0

@@ -1,22 +1,21 @@
 -- Document 02, T-07, "Quoting an order": what the call gives, from model words alone, and that no analysis by passes exceeds it.
-use Rattle.std.specs.Prelude.{◌≡◌, ◌↔◌, List, ℕ, zero, suc, ◌+◌, ◌≤◌, ℤ, length, drop}
-use Rattle.orders.specs.declared.Quote.{Quote}
-use Rattle.orders.specs.declared.Quote.TheVariants.{AtMost, Refused}
+use Rattle.std.specs.Prelude.{◌≡◌, ◌↔◌, List, ℕ, zero, suc, ◌+◌, ◌≤◌, ℤ, length, drop, Err, Ok, Result}
 use Rattle.plant.specs.Questions.{model_questions}
-use Rattle.plant.specs.Tables.{table_size, longest_table_file, ceiling_of, ceiling_by_pieces}
-use Rattle.plant.specs.Calls.{reply_of, answer_table, analyse_call, write_reply, bytes_question}
+use Rattle.plant.specs.Tables.{table_size, table_after, longest_table_file, ceiling_of, ceiling_by_pieces}
+use Rattle.plant.specs.Calls.{reply_of, analyse_call, write_reply, bytes_question}
 use Rattle.plant.specs.Demands.{ceiling, answers}
 use Rattle.files.specs.TableFile.{table_file, write_table_call}
 use Rattle.orders.specs.declared.Desk.{Desk}
+use Rattle.orders.specs.declared.Figures.{Figures}
 use Rattle.orders.specs.Desks.{desk_call}
 
 -- ---- the call: the table's words (20, 21), the longest table file in bytes (39) and the ceiling; or the model's refusal
 
-abbrev pub quote_by : List ℤ → ℕ → Quote
-quote_by m zero = AtMost (record { words = table_size m; bytes = longest_table_file m; ceiling = ceiling_of m })
-quote_by m (suc k) = Refused (suc k)
+abbrev pub quote_by : List ℤ → ℕ → Result Figures ℕ
+quote_by m zero = Ok (record { words = table_size m; bytes = longest_table_file m; ceiling = ceiling_of m })
+quote_by m (suc k) = Err (suc k)
 
-unfoldable pub quote_call : List ℤ → Quote
+unfoldable pub quote_call : List ℤ → Result Figures ℕ
 quote_call m = quote_by m (model_questions m)
 
 -- its number, 100 or the refusal's own, and its three values, 0 on a refusal
@@ -26,9 +25,9 @@ pub record QuoteReply : Type 0 where
   pub bytes : ℕ
   pub ceiling : ℕ
 
-abbrev pub quote_reply : Quote → QuoteReply
-quote_reply (AtMost f) = record { code = 100; words = f.words; bytes = f.bytes; ceiling = f.ceiling }
-quote_reply (Refused k) = record { code = k; words = 0; bytes = 0; ceiling = 0 }
+abbrev pub quote_reply : Result Figures ℕ → QuoteReply
+quote_reply (Ok f) = record { code = 100; words = f.words; bytes = f.bytes; ceiling = f.ceiling }
+quote_reply (Err k) = record { code = k; words = 0; bytes = 0; ceiling = 0 }
 
 abbrev pub quoted : List ℤ → QuoteReply
 quoted m = quote_reply (quote_call m)
@@ -41,7 +40,7 @@ pub record NoneExceeds (m : List ℤ) (limit : ℕ) (table work : List ℤ) : Ty
   pub passes_within : (reply_of (analyse_call m limit table work)).value ≤ (quoted m).ceiling
   pub charge_within : (d : Desk) → (desk_call d m limit table work).desk.passes ≤ d.passes + (quoted m).ceiling
   -- the table's words are the words, and what stands behind them in the buffer is unchanged
-  pub table_words : 100 ≤ answers m limit table work → length (answer_table m (analyse_call m limit table work).answer) ≡ (quoted m).words
+  pub table_words : 100 ≤ answers m limit table work → length (table_after m (reply_of (analyse_call m limit table work)).value) ≡ (quoted m).words
   pub behind_words : drop (quoted m).words (analyse_call m limit table work).table ≡ drop (quoted m).words table
   -- the answer's file is no longer than the bytes, and a buffer of as many takes it
   pub file_within : 100 ≤ answers m limit table work → length (table_file m (analyse_call m limit table work).table) ≤ (quoted m).bytes

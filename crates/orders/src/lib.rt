@@ -15,10 +15,3 @@ pub struct Figures {
     pub bytes: usize,
     pub ceiling: u64,
 }
-
-// What a model is quoted, or a refusal's number.
-#[derive(Clone, Copy)]
-pub enum Quote {
-    AtMost(Figures),
-    Refused(u32),
-}

@@ -8,7 +8,7 @@ use lib.Dec.{leb, le→leb, leb→le}
 use lib.IntN.{ℤ}
 use lib.ListN.{length}
 use borrow.Author.Tests.{lt-leb}
-use Rattle.plant.specs.declared.Answer.TheVariants.{Refused}
+use Rattle.std.specs.Prelude.{Err}
 use Rattle.plant.specs.Ask.{ask, ◌then◌}
 use Rattle.plant.specs.Questions.{model_questions}
 use Rattle.plant.specs.Tables.{table_size}
@@ -62,13 +62,13 @@ module _ (m table work : List ℤ) where
 -- ---- the call
 
 module _ (m : List ℤ) (limit : ℕ) (table work : List ℤ) where
-  unmoved_by : (q : ℕ) → (q ≡ 0 → ⊥) → ◌≡◌ {A = Analysed} (record { answer = Refused q; table = table; work = work }) (analyse_by q m limit table work)
+  unmoved_by : (q : ℕ) → (q ≡ 0 → ⊥) → ◌≡◌ {A = Analysed} (record { answer = Err q; table = table; work = work }) (analyse_by q m limit table work)
   unmoved_by zero n = absurd (n refl)
   unmoved_by (suc q) n = refl
 
   module _ (q : ℕ) (e : q ≡ analysis_questions m table work) where
     -- a refusal changes nothing
-    pub analyse_refused : (q ≡ 0 → ⊥) → ◌≡◌ {A = Analysed} (record { answer = Refused q; table = table; work = work }) (analyse_call m limit table work)
+    pub analyse_refused : (q ≡ 0 → ⊥) → ◌≡◌ {A = Analysed} (record { answer = Err q; table = table; work = work }) (analyse_call m limit table work)
     unfolding analyse_call
     analyse_refused n = unmoved_by q n ∙ ap (λ (x : ℕ). analyse_by x m limit table work) e
 

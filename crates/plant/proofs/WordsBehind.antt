@@ -9,7 +9,7 @@ use lib.IntN.{ℤ, pos}
 use lib.ListN.{length, take, drop, take-append-drop, replicate}
 use Rattle.integers.specs.Words.{equal, onto}
 use Rattle.plant.specs.declared.Answer.TheVariants.{Safe, Unknown, Unfinished}
-use Rattle.plant.specs.declared.Ceiling.TheVariants.{Passes}
+use Rattle.std.specs.Prelude.{Ok}
 use Rattle.plant.specs.Ask.{ask, ◌then◌}
 use Rattle.plant.specs.Box.{absent}
 use Rattle.plant.specs.Model.{L#, cut_at, model_size, cut_from, cut_of}
@@ -116,7 +116,7 @@ module _ (m : List ℤ) (asks : model_questions m ≡ 0) where
   pub answered_alone : (limit : ℕ) (table work : List ℤ) → answered (alone m) (analysis (alone m) limit) table work ≡ answered m (analysis m limit) table work
   unfolding analysis answer_table
   answered_alone limit table work = λ i.
-      record { answer = search_alone limit 0 i; table = onto (after_alone (passes_of (search_alone limit 0 i)) i) table; work = replicate (length work) (pos 0) }
+      record { answer = Ok (search_alone limit 0 i); table = onto (after_alone (passes_of (search_alone limit 0 i)) i) table; work = replicate (length work) (pos 0) }
 
 -- ---- the calls, of every list of words
 
@@ -129,7 +129,7 @@ module _ (m : List ℤ) where
   room_alone asks k = ap (λ (size : ℕ). ask (leb size k) 20) (same_size (alone m) m (alike_alone m asks))
 
   ceiling_by_lem : (q : ℕ) → (q ≡ 0 → model_questions m ≡ 0) → ceiling_by (alone m) q ≡ ceiling_by m q
-  ceiling_by_lem zero h = ap Passes (same_ceiling (alone m) m (alike_alone m (h refl)))
+  ceiling_by_lem zero h = ap Ok (same_ceiling (alone m) m (alike_alone m (h refl)))
   ceiling_by_lem (suc q) h = refl
 
   pub ceiling_alone : ceiling_call (alone m) ≡ ceiling_call m
