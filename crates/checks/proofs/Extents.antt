@@ -1,4 +1,5 @@
 -- The side that a piece keeps to, by the tests that code makes of the words of the location's cut.
+use Rattle.std.specs.Prelude.{Option, Some, None}
 use mathlib.Core.Path.{◌≡◌, refl, sym, ap₂, ◌∙◌}
 use mathlib.Core.Bool.{Bool, true, false, cond}
 use mathlib.Core.Logic.{⊎_elim}
@@ -66,10 +67,10 @@ pub count_is : {m : List ℤ} {l n : ℕ} {inv : List ℤ} {c : ℕ} {variable v
 unfolding pieces
 count_is r = ap₂ (λ (n c : ℕ). 2 * n * c) r.n_is r.c_is
 
-some_piece : (c : Cut) → 0 < pieces_per_face c
+some_piece : (c : Option Cut) → 0 < pieces_per_face c
 unfolding pieces_per_face
-some_piece uncut = omega arith
-some_piece (cut_by v x) = omega arith
+some_piece None = omega arith
+some_piece (Some cut) = omega arith
 
 module _ (m : List ℤ) (ok : Passed m) (l : ℕ) (u : l < L# m) where
   -- a variable that is not -1 is that of a cut

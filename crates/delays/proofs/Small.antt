@@ -1,4 +1,5 @@
 -- Delays between two levels at a rate are small: their cross products fit a word.
+use Rattle.std.specs.Prelude.{Option, Some, None}
 use mathlib.Core.Path.{◌≡◌, subst}
 use mathlib.Core.Bool.{Bool, true, false, not, ◌&&◌, ◌||◌}
 use mathlib.Core.List.{List}
@@ -17,8 +18,6 @@ use Rattle.plant.specs.declared.Fraction.{Fraction}
 use Rattle.plant.specs.declared.End.{End}
 use Rattle.plant.specs.declared.End.TheVariants.{At, Endless}
 use Rattle.plant.specs.declared.Interval.{Interval}
-use Rattle.plant.specs.declared.Delays.{Delays}
-use Rattle.plant.specs.declared.Delays.TheVariants.{Between, Never}
 use Rattle.plant.specs.Delays.{ratio, no_delay, earliest_into, is_endless, latest_into, delays_into, le_f, later, sooner, both}
 use Rattle.plant.specs.Box.{low, high}
 use Rattle.delays.specs.Ranges.{Level, Rate, Levels, InInvariant, Small, SmallEnd, SmallInterval}
@@ -45,9 +44,9 @@ and_no_left true false h k = k
 and_no_left false t h k = tt
 
 -- where there is an interval of delays, it is small
-abbrev pub SmallDelays : Delays → Type 0
-SmallDelays Never = Unit {0}
-SmallDelays (Between t) = SmallInterval t
+abbrev pub SmallDelays : Option Interval → Type 0
+SmallDelays None = Unit {0}
+SmallDelays (Some t) = SmallInterval t
 
 module _ (p q a c lo hi : ℤ) (lp : Level p) (lq : Level q) (ra : Rate a) (rc : Rate c) (ll : Level lo) (lh : Level hi) where
   earliest_into_small : T (not (no_delay p q a c lo hi)) → Small (earliest_into p q a c lo hi)
@@ -72,7 +71,7 @@ module _ (p q a c lo hi : ℤ) (lp : Level p) (lq : Level q) (ra : Rate a) (rc :
   unfolding delays_into
   into_small = by_test SmallDelays (no_delay p q a c lo hi) (λ _. tt) (λ n. record { earliest_small = earliest_into_small n; latest_small = latest_into_small })
 
-  pub delays_small : (t : Interval) → delays_into p q a c lo hi ≡ Between t → SmallInterval t
+  pub delays_small : (t : Interval) → delays_into p q a c lo hi ≡ Some t → SmallInterval t
   delays_small t e = subst SmallDelays e into_small
 
 -- a cross product

@@ -1,5 +1,6 @@
 -- The touch test goes through the variables and keeps the interval of delays that serve all so far. One variable whose cut
 -- is empty, or that no delay brings into its range, settles the test.
+use Rattle.std.specs.Prelude.{Option, Some, None}
 use mathlib.Core.Path.{◌≡◌, refl, sym, ap, ap₂, ◌∙◌, subst}
 use mathlib.Core.Logic.{⊎_elim}
 use mathlib.Core.Bool.{Bool, true, false, not, ◌&&◌, ◌||◌}
@@ -15,8 +16,6 @@ use Rattle.integers.proofs.Parts.{arith_z}
 use Rattle.integers.proofs.Tests.{or_yes, is_true, is_false}
 use Rattle.integers.proofs.Counted.{split}
 use Rattle.plant.specs.declared.Interval.{Interval}
-use Rattle.plant.specs.declared.Delays.{Delays}
-use Rattle.plant.specs.declared.Delays.TheVariants.{Between, Never}
 use Rattle.plant.specs.Box.{low, high, ordered, cut}
 use Rattle.plant.specs.Delays.{no_delay, delays_into, both_delays, has_delay, any_delay, reaches_end, both}
 use Rattle.plant.specs.Steps.{delays_into_box, touches}
@@ -25,12 +24,12 @@ use Rattle.delays.specs.Ranges.{Level, LevelAt, RateAt, SmallInterval}
 use Rattle.delays.proofs.Small.{delays_small, shared_small, level_max, level_min}
 
 -- delays shared with none are none; two intervals share an interval
-both_never : (s t : Delays) → t ≡ Never → both_delays s t ≡ Never
+both_never : (s t : Option Interval) → t ≡ None → both_delays s t ≡ None
 unfolding both_delays
-both_never Never t e = refl
-both_never (Between s) t e = ap (both_delays (Between s)) e
+both_never None t e = refl
+both_never (Some s) t e = ap (both_delays (Some s)) e
 
-pub both_between : {s t : Delays} {w v : Interval} → s ≡ Between w → t ≡ Between v → both_delays s t ≡ Between (both w v)
+pub both_between : {s t : (Option Interval)} {w v : Interval} → s ≡ Some w → t ≡ Some v → both_delays s t ≡ Some (both w v)
 unfolding both_delays
 both_between e f = ap₂ both_delays e f
 
@@ -41,7 +40,7 @@ pub and_false : (s t : Bool) → t ≡ false → s && t ≡ false
 and_false true t e = e
 and_false false t e = refl
 
-never : (p q a c lo hi : ℤ) → no_delay p q a c lo hi ≡ true → delays_into p q a c lo hi ≡ Never
+never : (p q a c lo hi : ℤ) → no_delay p q a c lo hi ≡ true → delays_into p q a c lo hi ≡ None
 unfolding delays_into
 never p q a c lo hi e = simp e
 
@@ -54,7 +53,7 @@ lowest inv box i = max_z (low box i) (low inv i)
 abbrev pub highest : (inv box : List ℤ) → ℕ → ℤ
 highest inv box i = min_z (high box i) (high inv i)
 
-abbrev pub delays_at : (inv rate part box : List ℤ) → ℕ → Delays
+abbrev pub delays_at : (inv rate part box : List ℤ) → ℕ → Option Interval
 delays_at inv rate part box i = delays_into (low part i) (high part i) (low rate i) (high rate i) (lowest inv box i) (highest inv box i)
 
 abbrev pub no_delay_at : (inv rate part box : List ℤ) → ℕ → Bool
@@ -67,7 +66,7 @@ module _ {inv box : List ℤ} {i : ℕ} (v : LevelAt inv i) (b : LevelAt box i) 
   pub highest_in : Level (highest inv box i)
   highest_in = level_min (high box i) (high inv i) b.high_in v.high_in
 
-  pub found_small : {rate part : List ℤ} {t : Interval} → RateAt rate i → LevelAt part i → delays_at inv rate part box i ≡ Between t → SmallInterval t
+  pub found_small : {rate part : List ℤ} {t : Interval} → RateAt rate i → LevelAt part i → delays_at inv rate part box i ≡ Some t → SmallInterval t
   found_small {rate} {part} {t} r p e =
       delays_small (low part i) (high part i) (low rate i) (high rate i) (lowest inv box i) (highest inv box i)
       p.low_in p.high_in r.low_in r.high_in lowest_in highest_in t e
@@ -83,7 +82,7 @@ module _ (n : ℕ) (inv rate part box : List ℤ) where
   pub record SharedSoFar (w : Interval) (i : ℕ) : Type 0 where
     pub seen : i ≤ n
     pub cuts : (j : ℕ) → j < i → low region j ≤ℤ high region j
-    pub shares : delays_into_box rate part region i ≡ Between w
+    pub shares : delays_into_box rate part region i ≡ Some w
     pub small : SmallInterval w
 
   pub shared_start : SharedSoFar any_delay 0
@@ -105,7 +104,7 @@ module _ (n : ℕ) (inv rate part box : List ℤ) where
   cut_holds : (i : ℕ) → i < n → lt_z (highest inv box i) (lowest inv box i) ≡ false → low region i ≤ℤ high region i
   cut_holds i l u = rw (low_cut n box inv i l, high_cut n box inv i l) (not_less (highest inv box i) (lowest inv box i) u)
 
-  pub shared_more : {w t : Interval} {i : ℕ} → SharedSoFar w i → i < n → lt_z (highest inv box i) (lowest inv box i) ≡ false → delays_at inv rate part box i ≡ Between t → SmallInterval t → SharedSoFar (both w t) (i + 1)
+  pub shared_more : {w t : Interval} {i : ℕ} → SharedSoFar w i → i < n → lt_z (highest inv box i) (lowest inv box i) ≡ false → delays_at inv rate part box i ≡ Some t → SmallInterval t → SharedSoFar (both w t) (i + 1)
   shared_more {w} {t} {i} h l u e k =
       record {
         seen = omega arith;
@@ -118,7 +117,7 @@ module _ (n : ℕ) (inv rate part box : List ℤ) where
   unfolding touches has_delay
   shared_end {w} {i} h e =
       let o : ordered n region ≡ true = is_true (ordered_intro n region (λ j l. h.cuts j (omega arith))) in
-      let d : delays_into_box rate part region n ≡ Between w = subst (λ (x : ℕ). delays_into_box rate part region x ≡ Between w) e h.shares in
+      let d : delays_into_box rate part region n ≡ Some w = subst (λ (x : ℕ). delays_into_box rate part region x ≡ Some w) e h.shares in
       simp (o, d)
 
   -- a cut that is empty is never touched
@@ -129,16 +128,16 @@ module _ (n : ℕ) (inv rate part box : List ℤ) where
       simp o
 
   -- once a variable has no delay, none is shared any more
-  never_stays : (i k : ℕ) → i < k → k ≤ n → delays_at inv rate part box i ≡ Never → delays_into_box rate part region k ≡ Never
+  never_stays : (i k : ℕ) → i < k → k ≤ n → delays_at inv rate part box i ≡ None → delays_into_box rate part region k ≡ None
   unfolding both_delays
   never_stays i zero l m e = absurd (omega arith)
   never_stays i (suc k) l m e =
       delays_at_lem k (omega arith) ∙
-      ⊎_elim (λ u. ap (λ (s : Delays). both_delays s (delays_at inv rate part box k)) (never_stays i k u (omega arith) e))
-      (λ q. both_never (delays_into_box rate part region k) (delays_at inv rate part box k) (subst (λ (x : ℕ). delays_at inv rate part box x ≡ Never) q e))
+      ⊎_elim (λ u. ap (λ (s : Option Interval). both_delays s (delays_at inv rate part box k)) (never_stays i k u (omega arith) e))
+      (λ q. both_never (delays_into_box rate part region k) (delays_at inv rate part box k) (subst (λ (x : ℕ). delays_at inv rate part box x ≡ None) q e))
       (split i k l)
 
-  pub no_delay_lem : (i : ℕ) → i < n → delays_at inv rate part box i ≡ Never → touches n inv rate part box ≡ false
+  pub no_delay_lem : (i : ℕ) → i < n → delays_at inv rate part box i ≡ None → touches n inv rate part box ≡ false
   unfolding touches has_delay
   no_delay_lem i l e = and_false (ordered n region) (has_delay (delays_into_box rate part region n)) (ap has_delay (never_stays i n l (omega arith) e))
 

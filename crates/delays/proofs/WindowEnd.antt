@@ -1,5 +1,6 @@
 -- A part inside the invariant is there at delay 0, so each of its variables has an interval from 0 to its latest delay, and the window
 -- from 0 to the soonest of these. A wall's delays begin at 0 or later: cut to such a window, they keep their earliest.
+use Rattle.std.specs.Prelude.{Option, Some, None}
 use mathlib.Core.Path.{◌≡◌, refl, sym, ap, ◌∙◌, subst}
 use mathlib.Core.Bool.{Bool, true, false, not, cond}
 use mathlib.Core.List.{List}
@@ -17,8 +18,6 @@ use Rattle.plant.specs.declared.Fraction.{Fraction}
 use Rattle.plant.specs.declared.End.{End}
 use Rattle.plant.specs.declared.End.TheVariants.{At, Endless}
 use Rattle.plant.specs.declared.Interval.{Interval}
-use Rattle.plant.specs.declared.Delays.{Delays}
-use Rattle.plant.specs.declared.Delays.TheVariants.{Between, Never}
 use Rattle.plant.specs.Box.{low, high}
 use Rattle.plant.specs.Delays.{ratio, no_delay, latest_into, delays_into, delays_to, le_f, later, sooner, both_delays, reaches_end, or_never}
 use Rattle.plant.specs.Steps.{delays_into_box}
@@ -37,7 +36,7 @@ less_no : (a b : ℤ) → b ≤ℤ a → lt_z a b ≡ false
 less_no a b h = is_false (not_T (lt_z a b) (λ t. omega arith_z))
 
 -- of one variable
-from_inside : (p q a c lo hi : ℤ) → p ≤ℤ q → lo ≤ℤ p → q ≤ℤ hi → delays_into p q a c lo hi ≡ Between (up_to (latest_into p q a c lo hi))
+from_inside : (p q a c lo hi : ℤ) → p ≤ℤ q → lo ≤ℤ p → q ≤ℤ hi → delays_into p q a c lo hi ≡ Some (up_to (latest_into p q a c lo hi))
 unfolding delays_into
 from_inside p q a c lo hi pq above below = simp (less_no hi p (trans pq below), less_no q lo (trans above pq))
 
@@ -66,7 +65,7 @@ module _ (n : ℕ) (inv rate part : List ℤ) where
   -- before variable i: the end of the window of those so far
   pub record EndSoFar (e : End) (i : ℕ) : Type 0 where
     pub seen : i ≤ n
-    pub shares : delays_into_box rate part inv i ≡ Between (up_to e)
+    pub shares : delays_into_box rate part inv i ≡ Some (up_to e)
     pub small : SmallEnd e
 
   pub end_start : EndSoFar Endless 0
@@ -89,8 +88,8 @@ module _ (n : ℕ) (inv rate part : List ℤ) where
 
     pub end_more : {e l : End} {i : ℕ} → EndSoFar e i → i < n → l ≡ latest_of i → EndSoFar (sooner e l) (i + 1)
     end_more {e} {l} {i} h u k =
-        let own : delays_into (low part i) (high part i) (low rate i) (high rate i) (low inv i) (high inv i) ≡ Between (up_to l) =
-        from_inside (low part i) (high part i) (low rate i) (high rate i) (low inv i) (high inv i) (parts.is_ordered i u) (parts.inside.lower i u) (parts.inside.higher i u) ∙ ap (λ (x : End). Between (up_to x)) (sym k) in
+        let own : delays_into (low part i) (high part i) (low rate i) (high rate i) (low inv i) (high inv i) ≡ Some (up_to l) =
+        from_inside (low part i) (high part i) (low rate i) (high rate i) (low inv i) (high inv i) (parts.is_ordered i u) (parts.inside.lower i u) (parts.inside.higher i u) ∙ ap (λ (x : End). Some (up_to x)) (sym k) in
         record {
           seen = omega arith;
           shares = rw add-one (next i ∙ both_between h.shares own);
@@ -98,7 +97,7 @@ module _ (n : ℕ) (inv rate part : List ℤ) where
         }
 
   pub end_all : {e : End} {i : ℕ} → EndSoFar e i → i ≡ n → WindowEnd n inv rate part e
-  end_all {e} {i} h k = record { is_window = subst (λ (x : ℕ). delays_into_box rate part inv x ≡ Between (up_to e)) k h.shares; small = h.small }
+  end_all {e} {i} h k = record { is_window = subst (λ (x : ℕ). delays_into_box rate part inv x ≡ Some (up_to e)) k h.shares; small = h.small }
 
 -- ---- a wall's delays, cut to such a window
 
@@ -106,9 +105,9 @@ module _ (n : ℕ) (inv rate part : List ℤ) where
 after_zero : (f : Fraction) → 0 < f.num → later f (ratio (pos 0) (pos 1)) ≡ f
 after_zero f h = simp (is_false {b = le_f f (ratio (pos 0) (pos 1))} (not_T (le_f f (ratio (pos 0) (pos 1))) (λ t. omega (arith, leb→le (f.num * 1) (0 * f.den) t))))
 
-abbrev KeepsEarliest : Delays → Type 0
-KeepsEarliest Never = Unit {0}
-KeepsEarliest (Between t) = later t.earliest (ratio (pos 0) (pos 1)) ≡ t.earliest
+abbrev KeepsEarliest : Option Interval → Type 0
+KeepsEarliest None = Unit {0}
+KeepsEarliest (Some t) = later t.earliest (ratio (pos 0) (pos 1)) ≡ t.earliest
 
 away : (x y : ℤ) → T (lt_z y x) → 0 < nat_abs (x -ℤ y)
 away x y t = abs_positive (x -ℤ y) (omega (arith_z, # x ⊟ # y))
@@ -122,34 +121,34 @@ earliest_kept p q a c lo hi = by_test KeepsEarliest (no_delay p q a c lo hi) (λ
     Kept : Fraction → Type 0
     Kept f = later f (ratio (pos 0) (pos 1)) ≡ f
 
-module _ (p q a c b : ℤ) {t : Interval} (found : delays_to p q a c b ≡ Between t) (e : End) where
-  cut_is : both_delays (delays_to p q a c b) (Between (up_to e)) ≡ Between (record { earliest = t.earliest; latest = sooner t.latest e })
+module _ (p q a c b : ℤ) {t : Interval} (found : delays_to p q a c b ≡ Some t) (e : End) where
+  cut_is : both_delays (delays_to p q a c b) (Some (up_to e)) ≡ Some (record { earliest = t.earliest; latest = sooner t.latest e })
   unfolding both_delays
-  cut_is = ap (λ (ds : Delays). both_delays ds (Between (up_to e))) found
-      ∙ ap (λ (f : Fraction). Between (record { earliest = f; latest = sooner t.latest e })) (subst KeepsEarliest found (earliest_kept p q a c b b))
+  cut_is = ap (λ (ds : Option Interval). both_delays ds (Some (up_to e))) found
+      ∙ ap (λ (f : Fraction). Some (record { earliest = f; latest = sooner t.latest e })) (subst KeepsEarliest found (earliest_kept p q a c b b))
 
   -- by the test of what is left
   pub wall-cut : {x : Bool} → reaches_end t.earliest (sooner t.latest e) ≡ x
-      → cond x (Between (record { earliest = t.earliest; latest = sooner t.latest e })) Never ≡ or_never (both_delays (delays_to p q a c b) (Between (up_to e)))
+      → cond x (Some (record { earliest = t.earliest; latest = sooner t.latest e })) None ≡ or_never (both_delays (delays_to p q a c b) (Some (up_to e)))
   unfolding or_never
-  wall-cut h = ap (λ (y : Bool). cond y (Between (record { earliest = t.earliest; latest = sooner t.latest e })) Never) (sym h) ∙ ap or_never (sym cut_is)
+  wall-cut h = ap (λ (y : Bool). cond y (Some (record { earliest = t.earliest; latest = sooner t.latest e })) None) (sym h) ∙ ap or_never (sym cut_is)
 
-pub wall_none : (ds : Delays) (e : End) → ds ≡ Never → Never ≡ or_never (both_delays ds (Between (up_to e)))
+pub wall_none : (ds : Option Interval) (e : End) → ds ≡ None → None ≡ or_never (both_delays ds (Some (up_to e)))
 unfolding or_never both_delays
-wall_none ds e none = ap (λ (x : Delays). or_never (both_delays x (Between (up_to e)))) (sym none)
+wall_none ds e none = ap (λ (x : Option Interval). or_never (both_delays x (Some (up_to e)))) (sym none)
 
 -- what is left of small delays is small
-both_small : (s t : Delays) → SmallDelays s → SmallDelays t → SmallDelays (both_delays s t)
+both_small : (s t : Option Interval) → SmallDelays s → SmallDelays t → SmallDelays (both_delays s t)
 unfolding both_delays
-both_small Never t x y = tt
-both_small (Between s) Never x y = tt
-both_small (Between s) (Between t) x y = shared_small x y
+both_small None t x y = tt
+both_small (Some s) None x y = tt
+both_small (Some s) (Some t) x y = shared_small x y
 
-or_never_small : (ds : Delays) → SmallDelays ds → SmallDelays (or_never ds)
+or_never_small : (ds : Option Interval) → SmallDelays ds → SmallDelays (or_never ds)
 unfolding or_never
-or_never_small Never x = tt
-or_never_small (Between t) x = by_test SmallDelays (reaches_end t.earliest t.latest) (λ _. x) (λ _. tt)
+or_never_small None x = tt
+or_never_small (Some t) x = by_test SmallDelays (reaches_end t.earliest t.latest) (λ _. x) (λ _. tt)
 
-pub wall_small : (ds : Delays) (e : End) (t : Interval) → SmallDelays ds → SmallEnd e → or_never (both_delays ds (Between (up_to e))) ≡ Between t → SmallInterval t
-wall_small ds e t x y k = subst SmallDelays k (or_never_small (both_delays ds (Between (up_to e)))
-    (both_small ds (Between (up_to e)) x (record { earliest_small = record { num_small = omega arith; den_positive = omega arith; den_small = omega arith }; latest_small = y })))
+pub wall_small : (ds : Option Interval) (e : End) (t : Interval) → SmallDelays ds → SmallEnd e → or_never (both_delays ds (Some (up_to e))) ≡ Some t → SmallInterval t
+wall_small ds e t x y k = subst SmallDelays k (or_never_small (both_delays ds (Some (up_to e)))
+    (both_small ds (Some (up_to e)) x (record { earliest_small = record { num_small = omega arith; den_positive = omega arith; den_small = omega arith }; latest_small = y })))

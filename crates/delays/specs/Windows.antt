@@ -1,8 +1,7 @@
 -- The window of a part that is inside the invariant: it begins at 0, so its end says all of it.
-use Rattle.std.specs.Prelude.{◌≡◌, List, ℕ, ℤ, pos, ◌≤ℤ◌}
+use Rattle.std.specs.Prelude.{◌≡◌, List, ℕ, ℤ, pos, ◌≤ℤ◌, Some}
 use Rattle.plant.specs.declared.End.{End}
 use Rattle.plant.specs.declared.Interval.{Interval}
-use Rattle.plant.specs.declared.Delays.TheVariants.{Between}
 use Rattle.plant.specs.Box.{low, high}
 use Rattle.plant.specs.Delays.{ratio}
 use Rattle.plant.specs.Steps.{window}
@@ -19,5 +18,5 @@ up_to e = record { earliest = ratio (pos 0) (pos 1); latest = e }
 
 -- the window of a part ends at e
 pub record WindowEnd (n : ℕ) (inv rate part : List ℤ) (e : End) : Type 0 where
-  pub is_window : window n inv rate part ≡ Between (up_to e)
+  pub is_window : window n inv rate part ≡ Some (up_to e)
   pub small : SmallEnd e

@@ -6,7 +6,6 @@ ghost use Rattle.integers.specs.Rounding.{max_z, min_z};
 ghost use Rattle.plant.specs.Box.{low, high};
 ghost use Rattle.plant.specs.Delays as D;
 ghost use Rattle.plant.specs.Delays.{ratio, no_delay, is_endless, earliest_into, latest_into, delays_into, delays_to, le_f, both, both_delays, reaches_end, or_never};
-ghost use Rattle.plant.specs.declared.Delays.TheVariants.{Between};
 ghost use Rattle.plant.specs.Steps as Steps;
 ghost use Rattle.delays.specs.Ranges.{Level, Rate, LevelAt, RateAt, Levels, Rates, InInvariant, Small, SmallEnd, SmallInterval};
 ghost use Rattle.delays.specs.Windows.{WithinAt, up_to, WindowEnd};

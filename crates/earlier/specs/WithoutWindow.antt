@@ -2,9 +2,9 @@
 -- checker's questions with it, some definitions written out in one. All else is today's. No call and no demand rests on this file: it
 -- says that a table accepted before stays accepted, and what follows for the answers. The names are those of the definitions that
 -- they stand for.
-use Rattle.std.specs.Prelude.{◌≡◌, not, List, ℕ, zero, suc, ◌≤◌, ◌<◌, T, ℤ, length, take}
+use Rattle.plant.specs.declared.Interval.{Interval}
+use Rattle.std.specs.Prelude.{◌≡◌, not, List, ℕ, zero, suc, ◌≤◌, ◌<◌, T, ℤ, length, take, Option}
 use Rattle.integers.specs.Words.{equal}
-use Rattle.plant.specs.declared.Delays.{Delays}
 use Rattle.plant.specs.Ask.{ask, ◌then◌}
 use Rattle.plant.specs.Box.{low, high, Ordered, Face, absent, FaceIn, on_box, joins}
 use Rattle.plant.specs.Model.{n#, E#, invariant, rate, source, variable_of, face_wall}
@@ -22,7 +22,7 @@ use Rattle.plant.specs.Demands.{ceiling, answers, Room}
 
 module _ (n : ℕ) (inv rate part : List ℤ) (d : ℕ) (b : ℤ) where
   -- the delays to the wall look at variable d alone
-  unfoldable pub wall_delays : Delays
+  unfoldable pub wall_delays : Option Interval
   wall_delays = delays_to (low part d) (high part d) (low rate d) (high rate d) b
 
   unfoldable pub wall_step : Face

@@ -1,4 +1,5 @@
 -- A model without cuts has no field of tag 8: its file ends with the forbidden boxes.
+use Rattle.std.specs.Prelude.{Option, Some, None}
 use mathlib.Core.Path.{◌≡◌, refl, sym, ap, ◌∙◌}
 use mathlib.Core.Bool.{Bool, true, false, cond}
 use mathlib.Core.List.{List, [], ◌++◌, append-nil}
@@ -12,9 +13,9 @@ use Rattle.files.specs.ModelFile.{first_tag, head_field_size, record_field, cut_
 use Rattle.files.specs.UncutModelFile.{UncutModelFile}
 
 -- a cut that is none has variable -1
-abbrev is_cut : Cut → Bool
-is_cut uncut = false
-is_cut (cut_by v x) = true
+abbrev is_cut : Option Cut → Bool
+is_cut None = false
+is_cut (Some cut) = true
 
 by_test_none : (t : Bool) (v : ℕ) (x : ℤ) → cond t uncut (cut_by v x) ≡ uncut → t ≡ true
 by_test_none true v x e = refl

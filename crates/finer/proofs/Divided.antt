@@ -1,5 +1,6 @@
 -- A model with further cuts: the first is wider in the sense of growth, each piece of the second belonging to one of the first's. And
 -- the first's table, divided, lies inside it.
+use Rattle.std.specs.Prelude.{Option, Some, None}
 use mathlib.Core.Path.{◌≡◌, refl, sym, ap, ◌∙◌, subst, subst₃}
 use mathlib.Core.Logic.{◌⊎◌, inl, inr, ⊎_elim}
 use mathlib.Core.List.{List}
@@ -75,16 +76,16 @@ module _ (second first : List ℤ) (into : Finer second first) where
 
     one_of : l < L# second → OfFace ⊎ SamePiece
     unfolding undivided
-    one_of u = ⊎_elim (λ e. inl (e, ap (λ (c : Cut). undivided_by c (piece_face second l q) q) e)) (λ e. by (cut_of first l) refl e) (into.cuts l (in_first u))
+    one_of u = ⊎_elim (λ e. inl (e, ap (λ (c : Option Cut). undivided_by c (piece_face second l q) q) e)) (λ e. by (cut_of first l) refl e) (into.cuts l (in_first u))
       where
-        by : (c : Cut) → cut_of first l ≡ c → cut_of second l ≡ cut_of first l → OfFace ⊎ SamePiece
-        by uncut f e = inl (f, ap (λ (c : Cut). undivided_by c (piece_face second l q) q) f)
-        by (cut_by v x) f e = inr (e, ap (λ (c : Cut). undivided_by c (piece_face second l q) q) f)
+        by : (c : Option Cut) → cut_of first l ≡ c → cut_of second l ≡ cut_of first l → OfFace ⊎ SamePiece
+        by None f e = inl (f, ap (λ (c : Option Cut). undivided_by c (piece_face second l q) q) f)
+        by (Some cut) f e = inr (e, ap (λ (c : Option Cut). undivided_by c (piece_face second l q) q) f)
 
     pub is_piece : l < L# second → q < pieces second l → whole < pieces first l
     unfolding pieces per_face pieces_per_face
     is_piece u v = ⊎_elim
-        (λ s. subst (λ (x : ℕ). x < pieces first l) (sym s.1) (subst (λ (c : Cut). piece_face second l q < 2 * n# first * pieces_per_face c) (sym s.0) (omega (arith, face_below second l q v, same_n))))
+        (λ s. subst (λ (x : ℕ). x < pieces first l) (sym s.1) (subst (λ (c : Option Cut). piece_face second l q < 2 * n# first * pieces_per_face c) (sym s.0) (omega (arith, face_below second l q v, same_n))))
         (λ s. subst (λ (x : ℕ). x < pieces first l) (sym s.1) (subst (λ (x : ℕ). q < x) (λ i. 2 * same_n i * pieces_per_face (s.0 i)) v))
         (one_of u)
 
@@ -98,7 +99,7 @@ module _ (second first : List ℤ) (into : Finer second first) where
     pub sides : l < L# second → (b : List ℤ) → FaceIn (n# second) (cut_to_extent (n# second) (piece_extent second l q) b) (cut_to_extent (n# first) (piece_extent first l whole) b)
     unfolding piece_extent piece_variable piece_face piece_index per_face extent_by cut_to_extent
     sides u b = ⊎_elim
-        (λ s. subst (λ (c : Cut). FaceIn (n# second) (cut_to_extent (n# second) (piece_extent second l q) b) (cut_to_extent (n# first) (extent_by c (piece_variable first l whole) (piece_index first l whole)) b)) (sym s.0) (extent_inside (n# second) (piece_extent second l q) b))
+        (λ s. subst (λ (c : Option Cut). FaceIn (n# second) (cut_to_extent (n# second) (piece_extent second l q) b) (cut_to_extent (n# first) (extent_by c (piece_variable first l whole) (piece_index first l whole)) b)) (sym s.0) (extent_inside (n# second) (piece_extent second l q) b))
         (λ s. face_eq (n# second) (λ i. cut_to_extent (same_n i) (extent_by (s.0 i) (variable_of (sym s.1 i / pieces_per_face (s.0 i))) (sym s.1 i % pieces_per_face (s.0 i))) b))
         (one_of u)
 

@@ -1,4 +1,5 @@
 -- A cut adds pieces: the ceiling, the words of a table and the number in 39 are at least those of the model without it.
+use Rattle.std.specs.Prelude.{Option, None}
 use mathlib.Core.Path.{◌≡◌, sym, ap, subst}
 use mathlib.Core.Logic.{◌⊎◌, inl, inr, ⊎_elim}
 use mathlib.Core.List.{List}
@@ -19,14 +20,14 @@ use Rattle.finer.specs.Finer.{Finer}
 use Rattle.finer.proofs.Divided.{same_n, same_L, same_invariant}
 
 -- what a cut adds to a location's ceiling
-ceiling_more : (n : ℕ) (inv : List ℤ) (c : Cut) → location_ceiling n inv uncut ≤ location_ceiling n inv c
+ceiling_more : (n : ℕ) (inv : List ℤ) (c : Option Cut) → location_ceiling n inv uncut ≤ location_ceiling n inv c
 unfolding location_ceiling
-ceiling_more n inv uncut = omega arith
-ceiling_more n inv (cut_by v x) = omega arith
+ceiling_more n inv None = omega arith
+ceiling_more n inv (Some cut) = omega arith
 
-ceiling_kept : (n : ℕ) (inv : List ℤ) (c c' : Cut) → (c' ≡ uncut) ⊎ (c ≡ c') → location_ceiling n inv c' ≤ location_ceiling n inv c
-ceiling_kept n inv c c' (inl e) = subst (λ (x : Cut). location_ceiling n inv x ≤ location_ceiling n inv c) (sym e) (ceiling_more n inv c)
-ceiling_kept n inv c c' (inr e) = subst (λ (x : Cut). location_ceiling n inv c' ≤ location_ceiling n inv x) (sym e) (omega arith)
+ceiling_kept : (n : ℕ) (inv : List ℤ) (c c' : Option Cut) → (c' ≡ uncut) ⊎ (c ≡ c') → location_ceiling n inv c' ≤ location_ceiling n inv c
+ceiling_kept n inv c c' (inl e) = subst (λ (x : Option Cut). location_ceiling n inv x ≤ location_ceiling n inv c) (sym e) (ceiling_more n inv c)
+ceiling_kept n inv c c' (inr e) = subst (λ (x : Option Cut). location_ceiling n inv c' ≤ location_ceiling n inv x) (sym e) (omega arith)
 
 module _ (second first : List ℤ) (into : Finer second first) where
   -- a sum over the locations

@@ -1,6 +1,6 @@
 -- Document 02, T-12, "Cut faces": when the second of two models is the first with further cuts, and a table of the first divided into
 -- the second's pieces.
-use Rattle.std.specs.Prelude.{◌≡◌, ◌⊎◌, List, ℕ, ◌<◌, ℤ, take}
+use Rattle.std.specs.Prelude.{◌≡◌, ◌⊎◌, List, ℕ, ◌<◌, ℤ, take, Option, Some, None}
 use Rattle.plant.specs.Model.{L#, Cut, uncut, cut_by, cut_at, cut_of}
 use Rattle.plant.specs.Pieces.{piece_face}
 use Rattle.plant.specs.Tables.{table_by, piece_of, to_piece}
@@ -15,9 +15,9 @@ pub record Finer (second first : List ℤ) : Type 0 where
 -- ---- piece q of location l of the second belongs to one piece of the first: where the first does not cut l, to the whole face, whose
 -- one piece has the face's number; where it does, to the same piece
 
-abbrev pub undivided_by : Cut → (face q : ℕ) → ℕ
-undivided_by uncut face q = face
-undivided_by (cut_by v x) face q = q
+abbrev pub undivided_by : Option Cut → (face q : ℕ) → ℕ
+undivided_by None face q = face
+undivided_by (Some cut) face q = q
 
 unfoldable pub undivided : (second first : List ℤ) (l q : ℕ) → ℕ
 undivided second first l q = undivided_by (cut_of first l) (piece_face second l q) q

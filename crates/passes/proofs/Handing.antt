@@ -1,5 +1,6 @@
 -- A step that is handed over as an answer and words, joined to the pieces of a face: they are joined with it, or stay; and the
 -- steps from a part, which is there or not, joined to all pieces of a location.
+use Rattle.std.specs.Prelude.{Option, Some, None}
 use mathlib.Core.Path.{◌≡◌, refl, sym, ap, ◌∙◌, subst}
 use mathlib.Core.Bool.{Bool, true, false, cond}
 use mathlib.Core.List.{List}
@@ -17,8 +18,6 @@ use Rattle.plant.specs.Box.{low, high, Ordered, box_at, hull, Face, absent, pres
 use Rattle.plant.specs.Model.{n#, Cut, uncut, cut_by, cut_from, variable_of}
 use Rattle.plant.specs.Pieces.{pieces_per_face}
 use Rattle.plant.specs.declared.Interval.{Interval}
-use Rattle.plant.specs.declared.Delays.{Delays}
-use Rattle.plant.specs.declared.Delays.TheVariants.{Between, Never}
 use Rattle.plant.specs.Delays.{delays_to, both_delays, or_never}
 use Rattle.plant.specs.Steps.{low_after, high_after, box_after, face_after, wall_delays, wall_step, switch_step}
 use Rattle.plant.specs.Tables.{face_size, face_read, start_part}
@@ -48,7 +47,7 @@ none_joined n k words are = sym (cat_ext k (λ q. face_words n (join n (face_in 
 
 -- the step h by the answer r, with the words after, joined to the pieces of a face of wall variable d
 module _ (n : ℕ) (variable value : ℤ) (d : ℕ) (r : Bool) (after pieces : List ℤ) (h : Face) (e : h ≡ cond r (present (take (2 * n) after)) absent) where
-  abbrev c : Cut
+  abbrev c : Option Cut
   c = cut_from variable value
 
   joins_it : {exit : List ℤ} → r ≡ true → exit ≡ joined_each n (pieces_per_face c) pieces (cut_each n c d (present (take (2 * n) after))) → exit ≡ joined_each n (pieces_per_face c) pieces (cut_each n c d h)
@@ -67,32 +66,32 @@ module _ (n : ℕ) (variable value : ℤ) (d : ℕ) (r : Bool) (after pieces : L
 module _ (n : ℕ) (inv rate bounds : List ℤ) (d : ℕ) (b : ℤ) (t : Interval) (variable value : ℤ) (pieces : List ℤ) (ok : AfterJoin n inv rate bounds b t)
     (words_of_cut : CutVariable n variable) (are : AreFaces n (pieces_per_face (cut_from variable value)) pieces) (out : List ℤ) (room : 2 * n ≤ length out) where
   abbrev after_joined : List ℤ
-  after_joined = joined_each n (pieces_per_face (cut_from variable value)) pieces (cut_each n (cut_from variable value) d (face_after n inv rate bounds d b (Between t)))
+  after_joined = joined_each n (pieces_per_face (cut_from variable value)) pieces (cut_each n (cut_from variable value) d (face_after n inv rate bounds d b (Some t)))
 
   pub after_ready : WallReady n inv rate bounds b out × SmallInterval t
   after_ready = (record { inv_in = ok.inv_in; rate_in = ok.rate_in; part_lies_in = ok.bounds_in; wall_in = ok.wall_in; room = room }, ok.small)
 
-  module _ {r : Bool} {after : List ℤ} (gives : Handed n r after out (face_after n inv rate bounds d b (Between t))) where
+  module _ {r : Bool} {after : List ℤ} (gives : Handed n r after out (face_after n inv rate bounds d b (Some t))) where
     pub after_joinable : r ≡ true → PiecesJoinable n variable value (take (2 * n) after) pieces
-    after_joinable u = joinable n variable value d r after pieces (face_after n inv rate bounds d b (Between t)) gives.is_face inv u (after_in n inv rate bounds d b (Between t)) ok.n_small words_of_cut are
+    after_joinable u = joinable n variable value d r after pieces (face_after n inv rate bounds d b (Some t)) gives.is_face inv u (after_in n inv rate bounds d b (Some t)) ok.n_small words_of_cut are
 
     pub after_joins : {exit : List ℤ} → r ≡ true → exit ≡ joined_each n (pieces_per_face (cut_from variable value)) pieces (cut_each n (cut_from variable value) d (present (take (2 * n) after))) → exit ≡ after_joined
-    after_joins = joins_it n variable value d r after pieces (face_after n inv rate bounds d b (Between t)) gives.is_face
+    after_joins = joins_it n variable value d r after pieces (face_after n inv rate bounds d b (Some t)) gives.is_face
 
     pub after_joins_nothing : r ≡ false → pieces ≡ after_joined
-    after_joins_nothing u = joins_nothing n variable value d r after pieces (face_after n inv rate bounds d b (Between t)) gives.is_face u are
+    after_joins_nothing u = joins_nothing n variable value d r after pieces (face_after n inv rate bounds d b (Some t)) gives.is_face u are
 
-some_piece : (c : Cut) → 1 ≤ pieces_per_face c
+some_piece : (c : Option Cut) → 1 ≤ pieces_per_face c
 unfolding pieces_per_face
-some_piece uncut = omega arith
-some_piece (cut_by v x) = omega arith
+some_piece None = omega arith
+some_piece (Some cut) = omega arith
 
 -- the wall step from a box whose window ends so
 module _ (n : ℕ) (inv rate bounds : List ℤ) (end : End) (d : ℕ) (b variable value : ℤ) (pieces : List ℤ) (ok : WallJoin n inv rate bounds end d b variable value pieces) where
   abbrev wall_joined : Face → List ℤ
   wall_joined g = joined_each n (pieces_per_face (cut_from variable value)) pieces (cut_each n (cut_from variable value) d g)
 
-  abbrev alone : Delays
+  abbrev alone : Option Interval
   alone = delays_to (low bounds d) (high bounds d) (low rate d) (high rate d) b
 
   bounds_levels : Levels n bounds
@@ -109,21 +108,21 @@ module _ (n : ℕ) (inv rate bounds : List ℤ) (end : End) (d : ℕ) (b variabl
   pieces_there = omega (arith, ap length ok.are_pieces, faces_length n (pieces_per_face (cut_from variable value)) (face_in n pieces), mul-le-mul_right (face_size n) (some_piece (cut_from variable value)))
 
   -- its delays, as code has them
-  module _ {ds : Delays} (found : ds ≡ or_never (both_delays alone (Between (up_to end)))) where
+  module _ {ds : (Option Interval)} (found : ds ≡ or_never (both_delays alone (Some (up_to end)))) where
     are_delays : wall_delays n inv rate bounds d b ≡ ds
     unfolding wall_delays
-    are_delays = ap (λ (w : Delays). or_never (both_delays alone w)) ok.window_end.is_window ∙ sym found
+    are_delays = ap (λ (w : Option Interval). or_never (both_delays alone w)) ok.window_end.is_window ∙ sym found
 
     step_is : wall_step n inv rate bounds d b ≡ face_after n inv rate bounds d b ds
     unfolding wall_step
     step_is = ap (face_after n inv rate bounds d b) are_delays
 
     -- none
-    pub wall_nothing : ds ≡ Never → pieces ≡ wall_joined (wall_step n inv rate bounds d b)
+    pub wall_nothing : ds ≡ None → pieces ≡ wall_joined (wall_step n inv rate bounds d b)
     wall_nothing none = none_joined n (pieces_per_face (cut_from variable value)) pieces ok.are_pieces ∙ ap wall_joined (sym (step_is ∙ ap (face_after n inv rate bounds d b) none))
 
     -- an interval
-    module _ {t : Interval} (some : ds ≡ Between t) where
+    module _ {t : Interval} (some : ds ≡ Some t) where
       pub after_ok : AfterJoin n inv rate bounds b t
       after_ok = record {
         n_small = ok.n_small;
@@ -136,7 +135,7 @@ module _ (n : ℕ) (inv rate bounds : List ℤ) (end : End) (d : ℕ) (b variabl
             ok.window_end.small (sym found ∙ some);
       }
 
-      pub wall_after : {exit : List ℤ} → exit ≡ wall_joined (face_after n inv rate bounds d b (Between t)) → exit ≡ wall_joined (wall_step n inv rate bounds d b)
+      pub wall_after : {exit : List ℤ} → exit ≡ wall_joined (face_after n inv rate bounds d b (Some t)) → exit ≡ wall_joined (wall_step n inv rate bounds d b)
       wall_after e = e ∙ ap wall_joined (sym (step_is ∙ ap (face_after n inv rate bounds d b) some))
 
       -- its box is not empty
@@ -158,7 +157,7 @@ module _ (n : ℕ) (inv rate bounds : List ℤ) (end : End) (d : ℕ) (b variabl
             ∙ ap wall_joined (sym (not_empty n (box_after n inv rate bounds d b t) box_ordered)))
 
 -- the step to face f is what the location's pieces of that face are given
-pub walls_given : (n : ℕ) (inv rate bounds : List ℤ) (c : Cut) (f : ℕ) (words : List ℤ) → joined_each n (pieces_per_face c) words (cut_each n c (variable_of f) (wall_step n inv rate bounds (variable_of f) (word inv f))) ≡ joined_each n (pieces_per_face c) words (λ j. walls_from n inv rate c (present bounds) (f * pieces_per_face c + j))
+pub walls_given : (n : ℕ) (inv rate bounds : List ℤ) (c : Option Cut) (f : ℕ) (words : List ℤ) → joined_each n (pieces_per_face c) words (cut_each n c (variable_of f) (wall_step n inv rate bounds (variable_of f) (word inv f))) ≡ joined_each n (pieces_per_face c) words (λ j. walls_from n inv rate c (present bounds) (f * pieces_per_face c + j))
 walls_given n inv rate bounds c f words = same_joined n (pieces_per_face c) words _ _
     (λ j u i. cut_each n c (variable_of (sym (face_of_number c f j u) i)) (wall_step n inv rate bounds (variable_of (sym (face_of_number c f j u) i)) (word inv (sym (face_of_number c f j u) i))) (sym (index_of_number c f j u) i))
 

@@ -1,4 +1,5 @@
 -- A switch step joined to the words of the pieces on which it lands is joined to those pieces of the table and to no other.
+use Rattle.std.specs.Prelude.{Option, Some, None}
 use mathlib.Core.Path.{◌≡◌, refl, sym, ap, ◌∙◌}
 use mathlib.Core.Bool.{Bool, cond, ◌&&◌, true, false}
 use mathlib.Core.List.{List, ◌++◌, append_assoc}
@@ -98,10 +99,10 @@ piece_put m g h l q u v elsewhere =
 -- ---- where switch e lands: on the pieces of its target's face
 
 -- the pieces of face f
-of_face : (c : Cut) (f q : ℕ) → q / pieces_per_face c ≡ f → (f * pieces_per_face c ≤ q) × (q < f * pieces_per_face c + pieces_per_face c)
+of_face : (c : Option Cut) (f q : ℕ) → q / pieces_per_face c ≡ f → (f * pieces_per_face c ≤ q) × (q < f * pieces_per_face c + pieces_per_face c)
 unfolding pieces_per_face
-of_face uncut f q e = (omega arith, omega arith)
-of_face (cut_by v x) f q e = (omega arith, omega arith)
+of_face None f q e = (omega arith, omega arith)
+of_face (Some cut) f q e = (omega arith, omega arith)
 
 -- the first of the pieces on which switch e lands
 abbrev pub target_first : List ℤ → ℕ → ℕ

@@ -1,5 +1,6 @@
 -- Faces that stand one after the other: each is read back from its place, and there it is joined with what leads to it. In a
 -- location they are the pieces of its faces, as many for each.
+use Rattle.std.specs.Prelude.{Option, Some, None}
 use mathlib.Core.Path.{◌≡◌, sym, ap, ◌∙◌}
 use mathlib.Core.List.{List, ◌++◌}
 use Prim.Native.Nat.{ℕ, ◌+◌, ◌*◌, ◌-◌, ◌<◌, ◌≤◌}
@@ -54,16 +55,16 @@ same_joined n k words h h' e = cat_ext k (λ q. face_words n (join n (face_in n 
 
 -- ---- the pieces of a location with the cut c: of face f those from f * p on, p for each
 
-pub pieces_few : (c : Cut) → pieces_per_face c ≤ 2
+pub pieces_few : (c : Option Cut) → pieces_per_face c ≤ 2
 unfolding pieces_per_face
-pieces_few uncut = omega arith
-pieces_few (cut_by v x) = omega arith
+pieces_few None = omega arith
+pieces_few (Some cut) = omega arith
 
-pub group_few : (n : ℕ) (c : Cut) → n ≤ 6 → pieces_per_face c * face_size n ≤ 26
+pub group_few : (n : ℕ) (c : Option Cut) → n ≤ 6 → pieces_per_face c * face_size n ≤ 26
 group_few n c h = let b : face_size n ≤ 13 = omega arith in let g : pieces_per_face c * face_size n ≤ 2 * 13 = mul-le-mul (pieces_few c) b in omega arith
 
 -- of which the faces below f are joined with the faces h
-module _ (n : ℕ) (c : Cut) (block : List ℤ) (h : ℕ → Face) where
+module _ (n : ℕ) (c : Option Cut) (block : List ℤ) (h : ℕ → Face) where
   abbrev pub group_size : ℕ
   group_size = pieces_per_face c * face_size n
 

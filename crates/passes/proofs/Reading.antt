@@ -1,5 +1,6 @@
 -- What a pass reads of a model and a table that passed their questions: parts whose levels are in range, and pieces that stand
 -- in their words.
+use Rattle.std.specs.Prelude.{Option, Some, None}
 use mathlib.Core.Path.{◌≡◌, refl, sym, ap, ◌∙◌}
 use mathlib.Core.Logic.{inl, inr, ⊎_elim}
 use mathlib.Core.List.{List}
@@ -56,15 +57,15 @@ pub record LocationRead (m : List ℤ) (l n : ℕ) (inv rates : List ℤ) (varia
 uncut_words : (m : List ℤ) (l : ℕ) → CutPassed m l → per_face m l ≡ 1 → IsUncut m l
 uncut_words m l ok e = ⊎_elim (λ h. h) (λ h. absurd (omega (arith, e, two_per_face m l (cut_some m l h.not_negative)))) ok.words
 
-one_of : (n : ℕ) (c : Cut) → 1 ≤ n → 2 * n * pieces_per_face c ≡ 2 * n → pieces_per_face c ≡ 1
+one_of : (n : ℕ) (c : Option Cut) → 1 ≤ n → 2 * n * pieces_per_face c ≡ 2 * n → pieces_per_face c ≡ 1
 unfolding pieces_per_face
-one_of n uncut u e = refl
-one_of n (cut_by v x) u e = absurd (omega arith)
+one_of n None u e = refl
+one_of n (Some cut) u e = absurd (omega arith)
 
-at_least : (n : ℕ) (c : Cut) → 2 * n ≤ 2 * n * pieces_per_face c
+at_least : (n : ℕ) (c : Option Cut) → 2 * n ≤ 2 * n * pieces_per_face c
 unfolding pieces_per_face
-at_least n uncut = omega arith
-at_least n (cut_by v x) = omega arith
+at_least n None = omega arith
+at_least n (Some cut) = omega arith
 
 -- of a model with 2n pieces for each location none is cut
 pub no_cut : (m : List ℤ) → 1 ≤ n# m → pieces_before m (L# m) ≡ 2 * n# m * L# m → NoCut m

@@ -1,6 +1,6 @@
 -- What the code that joins a step to the pieces of a face asks of the words that it is lent, and the words that it leaves. A
 -- location's cut is given by its two words, variable and value.
-use Rattle.std.specs.Prelude.{◌≡◌, List, ℕ, ◌*◌, ◌/◌, ◌%◌, ◌<◌, ◌≤◌, ℤ, pos, ◌≤ℤ◌, length}
+use Rattle.std.specs.Prelude.{◌≡◌, List, ℕ, ◌*◌, ◌/◌, ◌%◌, ◌<◌, ◌≤◌, ℤ, pos, ◌≤ℤ◌, length, Option}
 use Rattle.integers.specs.Words.{word}
 use Rattle.plant.specs.Box.{low, high, Ordered, box_at, Face, on_box, join}
 use Rattle.plant.specs.Model.{n#, L#, E#, invariant, source, target, wall_variable, cut_variable, cut_value, Cut, cut_from, cut_of, variable_of}
@@ -21,7 +21,7 @@ pub record PartOk (n : ℕ) (P : List ℤ → Type 0) (part : List ℤ) : Type 0
   pub has : word part 0 ≡ pos 1 → P (box_at n part 1)
 
 -- how many pieces a location of n variables with the cut c has
-abbrev pub pieces_with : ℕ → Cut → ℕ
+abbrev pub pieces_with : ℕ → Option Cut → ℕ
 pieces_with n c = 2 * n * pieces_per_face c
 
 -- the box after the delays t from a box to the value b of a variable
@@ -111,7 +111,7 @@ pub record NoCut (m : List ℤ) : Type 0 where
   pub one_each : (l : ℕ) → l < L# m → per_face m l ≡ 1
 
 -- what the wall steps from a part give to each piece q of a location with the cut c
-abbrev pub walls_from : (n : ℕ) (inv rate : List ℤ) → Cut → Face → ℕ → Face
+abbrev pub walls_from : (n : ℕ) (inv rate : List ℤ) → Option Cut → Face → ℕ → Face
 walls_from n inv rate c g q =
     let f = q / pieces_per_face c in
     cut_each n c (variable_of f) (on_box g (λ b. wall_step n inv rate b (variable_of f) (word inv f))) (q % pieces_per_face c)

@@ -3,7 +3,6 @@
 ghost use Rattle.std.specs.Prelude.{◌≡◌, ◌*◌, ◌<◌, pos, length};
 ghost use Rattle.integers.specs.Words.{word};
 ghost use Rattle.plant.specs.Box.{box_at, hull, present, face_words};
-ghost use Rattle.plant.specs.declared.Delays.TheVariants.{Between};
 ghost use Rattle.plant.specs.Model.{L#, cut_variable, cut_value, cut_from};
 ghost use Rattle.plant.specs.Pieces.{pieces_per_face, pieces};
 ghost use Rattle.plant.specs.Steps.{box_after, face_after, wall_step};

@@ -1,4 +1,5 @@
 -- Widths of levels are small, and so are the ceilings that they add up to: a location's, and the largest of all models.
+use Rattle.std.specs.Prelude.{Option, Some, None}
 use mathlib.Core.Bool.{Bool, true, false, cond}
 use mathlib.Core.List.{List}
 use Prim.Native.Nat.{ℕ, ◌+◌, ◌*◌, ◌-◌, ◌<◌, ◌≤◌}
@@ -41,14 +42,14 @@ per_location n w k u v =
     let few : 2 * (n - 1) ≤ 2 * (k - 1) = omega arith in
     omega (arith, mul-le-mul few v)
 
-pub location_most : (n : ℕ) (inv : List ℤ) → ((i : ℕ) → i < n → width inv i ≤ 2000000) → n ≤ 6 → (c : Cut) → CutInside n inv c → location_ceiling n inv c ≤ 200000022
+pub location_most : (n : ℕ) (inv : List ℤ) → ((i : ℕ) → i < n → width inv i ≤ 2000000) → n ≤ 6 → (c : Option Cut) → CutInside n inv c → location_ceiling n inv c ≤ 200000022
 unfolding location_ceiling
-location_most n inv each few uncut h = omega (arith, per_location n (all_widths n inv) 6 few (omega (arith, widths_small n inv each)))
-location_most n inv each few (cut_by v x) h =
+location_most n inv each few None h = omega (arith, per_location n (all_widths n inv) 6 few (omega (arith, widths_small n inv each)))
+location_most n inv each few (Some cut) h =
     omega (
       arith,
       per_location n (all_widths n inv) 6 few (omega (arith, widths_small n inv each)),
-      per_location (n - 1) (other_widths n v inv) 5 (omega arith) (omega (arith, others_small n inv each v h.0)),
+      per_location (n - 1) (other_widths n cut.variable inv) 5 (omega arith) (omega (arith, others_small n inv each cut.variable h.0)),
     )
 
 module _ (m : List ℤ) (ok : Passed m) where

@@ -1,7 +1,7 @@
 -- Document 01, "The questions, in order", and document 02: the number of each refusal, and what a call answers, by numbers.
 use Rattle.std.specs.Prelude.{ℕ, Result, Ok, Err}
 use Rattle.plant.specs.declared.Refusal.{Refusal}
-use Rattle.plant.specs.declared.Refusal.TheVariants.{FirstField, Variables, Locations, SwitchesAndBoxes, Words, FieldTag, FieldLength, ModelEnd, Invariant, Rates, Start, Places, SwitchBoxes, MaskedResets, Guard, Landing, Forbidden, TableWords, WorkWords, Counters, Table, Unchanged, Touching, CountField, PieceField, PieceOrder, TableEnd, TableBytes, ModelBytes, Edition, Cut}
+use Rattle.plant.specs.declared.Refusal.TheVariants.{FirstField, Variables, Locations, SwitchesAndBoxes, Words, FieldTag, FieldLength, ModelEnd, Invariant, Rates, Start, Places, SwitchBoxes, MaskedResets, Guard, Landing, Forbidden, TableWords, WorkWords, Counters, Table, Unchanged, Touching, CountField, PieceField, PieceOrder, TableEnd, TableBytes, ModelBytes, Edition, CutPlace}
 
 abbrev pub number : Refusal → ℕ
 number FirstField = 1
@@ -34,7 +34,7 @@ number TableEnd = 38
 number TableBytes = 39
 number ModelBytes = 40
 number Edition = 43
-number Cut = 46
+number CutPlace = 46
 
 -- questions that are all yes, or the refusal of the first that is not: 0, or its number
 abbrev pub asked : Result Unit Refusal → ℕ

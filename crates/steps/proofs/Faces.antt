@@ -1,5 +1,6 @@
 -- What the steps hand over is the face of the definition: by the answer it is absent, or present with the box at the front of the lent words.
 -- That box is ordered and inside the invariant.
+use Rattle.std.specs.Prelude.{Option, Some, None}
 use mathlib.Core.Path.{◌≡◌, refl, sym, ap, ◌∙◌, subst}
 use mathlib.Core.Bool.{Bool, true, false, cond, ◌&&◌}
 use mathlib.Core.List.{List, [], ◌++◌}
@@ -13,8 +14,6 @@ use Rattle.integers.specs.Words.{onto}
 use Rattle.integers.specs.Counted.{all_below}
 use Rattle.integers.proofs.Buffers.{take-onto, length-onto, onto_none}
 use Rattle.plant.specs.declared.Interval.{Interval}
-use Rattle.plant.specs.declared.Delays.{Delays}
-use Rattle.plant.specs.declared.Delays.TheVariants.{Between, Never}
 use Rattle.plant.specs.Box.{box_by, ordered, Inside, cut, Face, absent, present, unless_empty, on_box}
 use Rattle.plant.specs.Steps.{low_after, high_after, box_after, face_after, set_masked, guarded, landed, switch_step}
 use Rattle.plant.proofs.Boxes.{length-box_by, length_cut, cut_right, FaceAll, unless_all, on_box_all}
@@ -87,11 +86,11 @@ module _ (n : ℕ) (inv rate part : List ℤ) (d : ℕ) (b : ℤ) where
     hi = high_after n inv rate part d b t
 
     -- all variables written, each ordered; left at a variable that is not ordered
-    pub after_all : {exit out : List ℤ} → all_below n (λ j. le_z (lo j) (hi j)) ≡ true → exit ≡ onto (box_by n lo hi) out → Handed n true exit out (face_after n inv rate part d b (Between t))
+    pub after_all : {exit out : List ℤ} → all_below n (λ j. le_z (lo j) (hi j)) ≡ true → exit ≡ onto (box_by n lo hi) out → Handed n true exit out (face_after n inv rate part d b (Some t))
     unfolding box_after
     after_all = ends_all n lo hi
 
-    pub after_left : {exit out : List ℤ} (i : ℕ) → i < n → le_z (lo i) (hi i) ≡ false → 2 * n ≤ length out → exit ≡ onto (box_by i lo hi) out → Handed n false exit out (face_after n inv rate part d b (Between t))
+    pub after_left : {exit out : List ℤ} (i : ℕ) → i < n → le_z (lo i) (hi i) ≡ false → 2 * n ≤ length out → exit ≡ onto (box_by i lo hi) out → Handed n false exit out (face_after n inv rate part d b (Some t))
     unfolding box_after
     after_left = ends_left n lo hi
 
@@ -121,9 +120,9 @@ in_unless : (n : ℕ) (inv b : List ℤ) → length b ≡ 2 * n → Inside n b i
 in_unless n inv b l i = unless_all n b (InInvariant n inv) (λ o. record { sized = l; is_ordered = o; inside = i })
 
 module _ (n : ℕ) (inv rate part : List ℤ) (d : ℕ) (b : ℤ) where
-  pub after_in : (t : Delays) → FaceAll (InInvariant n inv) (face_after n inv rate part d b t)
-  after_in Never = tt
-  after_in (Between t) = in_unless n inv (box_after n inv rate part d b t) (length_after n inv rate part d b t) (box_after_inside n inv rate part d b t)
+  pub after_in : (t : Option Interval) → FaceAll (InInvariant n inv) (face_after n inv rate part d b t)
+  after_in None = tt
+  after_in (Some t) = in_unless n inv (box_after n inv rate part d b t) (length_after n inv rate part d b t) (box_after_inside n inv rate part d b t)
 
 pub switch_in : (n mask : ℕ) (guard reset inv : List ℤ) (g : Face) → FaceAll (InInvariant n inv) (switch_step n mask guard reset inv g)
 unfolding switch_step landed

@@ -5,7 +5,6 @@
 ghost use Rattle.std.specs.Prelude.{◌≡◌, cond, ℕ, ◌≤ℤ◌};
 ghost use Rattle.integers.specs.Rounding.{max_z, min_z};
 ghost use Rattle.plant.specs.Box.{low, high, cut, present, unless_empty};
-ghost use Rattle.plant.specs.declared.Delays.TheVariants.{Between};
 ghost use Rattle.plant.specs.Steps.{low_at, high_at, low_bound, high_bound, cut_low, cut_high, low_after, high_after, face_after, switch_step};
 ghost use Rattle.delays.specs.Ranges.{Level, Rate, LevelAt, RateAt, Small, SmallInterval};
 ghost use Rattle.steps.specs.Ready.{CutReady, WallReady, SwitchReady};

@@ -1,4 +1,5 @@
 -- A box cut to the pieces of a face, and joined to them.
+use Rattle.std.specs.Prelude.{Option}
 use mathlib.Core.Path.{◌≡◌, refl, sym, ap, ap₂, ◌∙◌, subst}
 use mathlib.Core.Bool.{Bool, true, false, cond}
 use mathlib.Core.Logic.{⊎_elim}
@@ -160,7 +161,7 @@ module _ (n d : ℕ) (variable value : ℤ) (from pieces : List ℤ) (ok : Piece
 
     one_face : IsFace n pieces
     unfolding cat pieces_per_face
-    one_face = ap (λ (k : ℕ). face_words n (face_read n pieces k)) (omega arith) ∙ subst (λ (c : Cut). AreFaces n (pieces_per_face c) pieces) cut_is ok.are_pieces
+    one_face = ap (λ (k : ℕ). face_words n (face_read n pieces k)) (omega arith) ∙ subst (λ (c : Option Cut). AreFaces n (pieces_per_face c) pieces) cut_is ok.are_pieces
 
     pub one_joinable : Joinable n from pieces
     one_joinable = record { n_small = ok.n_small; box_there = omega (arith, ok.box_length); face_length = face_long n one_face }
@@ -186,7 +187,7 @@ module _ (n d : ℕ) (variable value : ℤ) (from pieces : List ℤ) (ok : Piece
 
       pub are_both : AreFaces n 2 pieces
       unfolding pieces_per_face
-      are_both = subst (λ (c : Cut). AreFaces n (pieces_per_face c) pieces) cut_at ok.are_pieces
+      are_both = subst (λ (c : Option Cut). AreFaces n (pieces_per_face c) pieces) cut_at ok.are_pieces
 
       pub two_joined : {exit : List ℤ} → exit ≡ joined_each n 2 pieces (cut_each n (cut_by v value) d (present from)) → exit ≡ joined_each n (pieces_per_face (cut_from variable value)) pieces (cut_each n (cut_from variable value) d (present from))
       unfolding pieces_per_face

@@ -1,5 +1,5 @@
 -- What the code on faces asks of the words that it is lent, and the words that it leaves.
-use Rattle.std.specs.Prelude.{◌≡◌, List, ◌⊎◌, ℕ, ◌*◌, ◌<◌, ◌≤◌, T, ℤ, negsuc, nat_abs, length}
+use Rattle.std.specs.Prelude.{◌≡◌, List, ◌⊎◌, ℕ, ◌*◌, ◌<◌, ◌≤◌, T, ℤ, negsuc, nat_abs, length, Option}
 use Rattle.std.specs.Int.Signed.{non_neg}
 use Rattle.integers.specs.Counted.{cat}
 use Rattle.plant.specs.Box.{Ordered, Face, on_box, face_words, join}
@@ -46,7 +46,7 @@ abbrev pub PiecesBy : (variable : ℤ) (k : ℕ) → Type 0
 PiecesBy variable k = (value : ℤ) → k ≡ pieces_per_face (cut_from variable value)
 
 -- what each piece k of a face of wall variable d gets of the face g, by its location's cut
-abbrev pub cut_each : ℕ → Cut → ℕ → Face → ℕ → Face
+abbrev pub cut_each : ℕ → Option Cut → ℕ → Face → ℕ → Face
 cut_each n c d g k = on_box g (cut_to_extent n (extent_by c d k))
 
 -- an ordered box, to be cut at a value of variable v

@@ -1,10 +1,10 @@
 -- The loop keeps a SharedSoFar: no cut so far is empty, and the shared is what the delays so far share. A variable whose cut is
 -- empty, or that has no delay, settles the answer, and the comparisons before the loop find most of these.
+use Rattle.std.specs.Prelude.{Some}
 use mathlib.Core.Path.{◌≡◌, sym, ◌∙◌}
 use Prim.Native.Nat.{◌<◌}
 use native.Mathlib.Omega.{arith}
 use Rattle.integers.proofs.Signed.{got64}
-use Rattle.plant.specs.declared.Delays.TheVariants.{Between}
 use Rattle.delays.specs.Ranges.{SmallInterval}
 use Rattle.delays.proofs.Touching.{delays_at, lowest_in, highest_in, found_small, shared_start, shared_more, shared_end, empty_cut, no_delay_lem}
 use Rattle.delays.proofs.touches.Goals as goal
@@ -44,8 +44,8 @@ both-shared-requires c =
     let l : i < a.n = omega arith in
     let low_is = got64 c.cut_low-lo.result c.cut_low-lo.type_inv ∙ c.cut_low-lo.ensures in
     let high_is = got64 c.cut_high-hi.result c.cut_high-hi.type_inv ∙ c.cut_high-hi.ensures in
-    let found : delays_at a.inv.now a.rate.now a.part.now a.forbidden.now i ≡ Between c.in-Between.t = sym (simp (low_is, high_is) at c.variable_delays.ensures) ∙ c.in-Between.is in
-    let small : SmallInterval c.in-Between.t = found_small (c.requires.0 i l) (c.requires.3 i l) (c.requires.1 i l) (c.requires.2 i l) found in
+    let found : delays_at a.inv.now a.rate.now a.part.now a.forbidden.now i ≡ Some c.in-Some.t = sym (simp (low_is, high_is) at c.variable_delays.ensures) ∙ c.in-Some.is in
+    let small : SmallInterval c.in-Some.t = found_small (c.requires.0 i l) (c.requires.3 i l) (c.requires.1 i l) (c.requires.2 i l) found in
     (c.loop-i.invariant.small, small)
 
 pub loop-i-preserved : goal.loop-i-preserved
@@ -55,8 +55,8 @@ loop-i-preserved c =
     let l : i < a.n = omega arith in
     let low_is = got64 c.cut_low-lo.result c.cut_low-lo.type_inv ∙ c.cut_low-lo.ensures in
     let high_is = got64 c.cut_high-hi.result c.cut_high-hi.type_inv ∙ c.cut_high-hi.ensures in
-    let found : delays_at a.inv.now a.rate.now a.part.now a.forbidden.now i ≡ Between c.in-Between.t = sym (simp (low_is, high_is) at c.variable_delays.ensures) ∙ c.in-Between.is in
-    let small : SmallInterval c.in-Between.t = found_small (c.requires.0 i l) (c.requires.3 i l) (c.requires.1 i l) (c.requires.2 i l) found in
+    let found : delays_at a.inv.now a.rate.now a.part.now a.forbidden.now i ≡ Some c.in-Some.t = sym (simp (low_is, high_is) at c.variable_delays.ensures) ∙ c.in-Some.is in
+    let small : SmallInterval c.in-Some.t = found_small (c.requires.0 i l) (c.requires.3 i l) (c.requires.1 i l) (c.requires.2 i l) found in
     rw c.both-shared.ensures
     (shared_more a.n a.inv.now a.rate.now a.part.now a.forbidden.now c.loop-i.invariant l
     (simp (low_is, high_is) at c.if-hi-lo.false) found small)

@@ -39,8 +39,8 @@ widen_after-requires c =
     let uncut_told = simp (to_z-of_z c.ranges.variable) at c.same.ensures in
     let there_told = simp (got32 (word a.pieces.now 0) c.same-arg-1.given) at c.same-2.ensures in
     simp (to_z-of_z c.ranges.b) (
-      after_ok a.n a.inv.now a.rate.now a.bounds.now a.end a.d a.b a.variable a.value a.pieces.now c.requires delays_are c.in-Between.is,
-      one_long a.n a.inv.now a.rate.now a.bounds.now a.end a.d a.b a.variable a.value a.pieces.now c.requires delays_are c.in-Between.is (sym uncut_told ∙ (both c.if-same.true).0),
+      after_ok a.n a.inv.now a.rate.now a.bounds.now a.end a.d a.b a.variable a.value a.pieces.now c.requires delays_are c.in-Some.is,
+      one_long a.n a.inv.now a.rate.now a.bounds.now a.end a.d a.b a.variable a.value a.pieces.now c.requires delays_are c.in-Some.is (sym uncut_told ∙ (both c.if-same.true).0),
       eq_z_eq (word a.pieces.now 0) (pos 1) (true_is (sym there_told ∙ (both c.if-same.true).1)),
     )
 
@@ -49,7 +49,7 @@ join_after-requires c =
     let a = c.args in
     let delays_are = simp (to_z-of_z c.ranges.b) at c.wall_delays.ensures in
     simp (to_z-of_z c.ranges.b, to_z-of_z c.ranges.variable, to_z-of_z c.ranges.value) (
-      after_ok a.n a.inv.now a.rate.now a.bounds.now a.end a.d a.b a.variable a.value a.pieces.now c.requires delays_are c.in-Between.is,
+      after_ok a.n a.inv.now a.rate.now a.bounds.now a.end a.d a.b a.variable a.value a.pieces.now c.requires delays_are c.in-Some.is,
       c.requires.words_of_cut,
       c.requires.are_pieces,
     )
@@ -60,10 +60,10 @@ returns-then-same c =
     let delays_are = simp (to_z-of_z c.ranges.b) at c.wall_delays.ensures in
     let uncut_told = simp (to_z-of_z c.ranges.variable) at c.same.ensures in
     let there_told = simp (got32 (word a.pieces.now 0) c.same-arg-1.given) at c.same-2.ensures in
-    wall_widened a.n a.inv.now a.rate.now a.bounds.now a.end a.d a.b a.variable a.value a.pieces.now c.requires delays_are c.in-Between.is (sym uncut_told ∙ (both c.if-same.true).0) (sym there_told ∙ (both c.if-same.true).1) (simp (to_z-of_z c.ranges.b) at c.widen_after.ensures)
+    wall_widened a.n a.inv.now a.rate.now a.bounds.now a.end a.d a.b a.variable a.value a.pieces.now c.requires delays_are c.in-Some.is (sym uncut_told ∙ (both c.if-same.true).0) (sym there_told ∙ (both c.if-same.true).1) (simp (to_z-of_z c.ranges.b) at c.widen_after.ensures)
 
 pub returns-else-same : goal.returns-else-same
 returns-else-same c =
     let a = c.args in
     let delays_are = simp (to_z-of_z c.ranges.b) at c.wall_delays.ensures in
-    wall_after a.n a.inv.now a.rate.now a.bounds.now a.end a.d a.b a.variable a.value a.pieces.now c.requires delays_are c.in-Between.is (simp (to_z-of_z c.ranges.b, to_z-of_z c.ranges.variable, to_z-of_z c.ranges.value) at c.join_after.ensures)
+    wall_after a.n a.inv.now a.rate.now a.bounds.now a.end a.d a.b a.variable a.value a.pieces.now c.requires delays_are c.in-Some.is (simp (to_z-of_z c.ranges.b, to_z-of_z c.ranges.variable, to_z-of_z c.ranges.value) at c.join_after.ensures)

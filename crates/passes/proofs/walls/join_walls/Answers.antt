@@ -1,5 +1,6 @@
 -- After f turns the pieces of the faces below f are joined with their steps, and the words behind them are the location's as they
 -- were.
+use Rattle.std.specs.Prelude.{Option}
 use mathlib.Core.Path.{◌≡◌, sym, ap, ap₂, ◌∙◌}
 use mathlib.Core.List.{List}
 use native.Mathlib.Omega.{arith}
@@ -38,7 +39,7 @@ ready u v h = rw (to_z-of_z u, to_z-of_z v) h
 module _ {n : ℕ} {inv rate bounds : List ℤ} {variable value : ℤ} {block : List ℤ} (r : WallsJoin n inv rate bounds variable value block) where
   -- the cut, and what the pieces are given
 
-  abbrev cut : Cut
+  abbrev cut : Option Cut
   cut = cut_from variable value
 
   abbrev given : ℕ → Face
