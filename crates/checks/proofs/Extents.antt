@@ -13,7 +13,8 @@ use Rattle.integers.specs.Words.{eq_z}
 use Rattle.integers.proofs.Signed.{no_true}
 use Rattle.integers.proofs.Tests.{is_true}
 use Rattle.integers.proofs.Counted.{eq_z_intro, split}
-use Rattle.plant.specs.Model.{n#, L#, invariant, cut_variable, cut_value, Cut, uncut, cut_by, cut_of, cut_from}
+use Rattle.plant.specs.declared.Cut.{Cut}
+use Rattle.plant.specs.Model.{n#, L#, invariant, cut_variable, cut_value, uncut, cut_by, cut_of, cut_from}
 use Rattle.plant.specs.Pieces.{whole_face, up_to_value, from_value, no_extent, extent_by, pieces_per_face, per_face, pieces}
 use Rattle.plant.proofs.Passed.{Passed, IsCut}
 use Rattle.plant.proofs.Pieces.{per_face_most}

@@ -32,7 +32,7 @@ record Read : Type 0 where
 abbrev with_cut : (m words : List ℤ) → List ℕ
 with_cut m words = model_file m ++ field 8 (words_bytes words)
 
-abbrev answered : List ℕ → Count
+abbrev answered : List ℕ → Result ℕ ℕ
 answered s = (read_model_call s (replicate 25 (pos 7))).count
 
 abbrev disordered : List ℤ

@@ -8,7 +8,8 @@ use native.Mathlib.Omega.{arith}
 use lib.IntN.{ℤ, negsuc, nat_abs}
 use Rattle.integers.specs.Words.{eq_z}
 use Rattle.integers.specs.Counted.{cat}
-use Rattle.plant.specs.Model.{n#, L#, E#, B#, edition, location_size, switch_size, forbidden_size, location_at, switch_at, forbidden_at, Cut, uncut, cut_by, cut_variable, cut_value, cut_from, cut_of}
+use Rattle.plant.specs.declared.Cut.{Cut}
+use Rattle.plant.specs.Model.{n#, L#, E#, B#, edition, location_size, switch_size, forbidden_size, location_at, switch_at, forbidden_at, uncut, cut_by, cut_variable, cut_value, cut_from, cut_of}
 use Rattle.files.specs.ModelFile.{first_tag, head_field_size, record_field, cut_field, model_file}
 use Rattle.files.specs.UncutModelFile.{UncutModelFile}
 

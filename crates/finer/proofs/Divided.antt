@@ -8,7 +8,8 @@ use Prim.Native.Nat.{ℕ, ◌*◌, ◌/◌, ◌%◌, ◌<◌, ◌≤◌}
 use native.Mathlib.Omega.{arith}
 use lib.IntN.{ℤ}
 use Rattle.plant.specs.Box.{Inside, Face, absent, present, FaceIn}
-use Rattle.plant.specs.Model.{n#, L#, E#, B#, invariant, rate, guard, reset, forbidden_box, Cut, uncut, cut_by, cut_at, cut_of, variable_of, side_of, wall, face_wall}
+use Rattle.plant.specs.declared.Cut.{Cut}
+use Rattle.plant.specs.Model.{n#, L#, E#, B#, invariant, rate, guard, reset, forbidden_box, uncut, cut_by, cut_at, cut_of, variable_of, side_of, wall, face_wall}
 use Rattle.plant.specs.Narrower.{SwitchWithin, BoxWithin}
 use Rattle.plant.specs.Pieces.{extent_by, cut_to_extent, pieces_per_face, per_face, pieces, piece_face, piece_index, piece_variable, piece_wall, piece_extent}
 use Rattle.plant.specs.Tables.{piece_of, to_piece}

@@ -12,7 +12,8 @@ use lib.IntN.{ℤ}
 use Rattle.integers.specs.Counted.{sum_below}
 use Rattle.integers.proofs.Tests.{by_test, true_is}
 use Rattle.integers.proofs.Counted.{Some, any_some, any_intro, sum_le}
-use Rattle.plant.specs.Model.{n#, L#, invariant, Cut, uncut, cut_by, cut_of}
+use Rattle.plant.specs.declared.Cut.{Cut}
+use Rattle.plant.specs.Model.{n#, L#, invariant, uncut, cut_by, cut_of}
 use Rattle.plant.specs.Pieces.{pieces_per_face, per_face, any_cut, pieces}
 use Rattle.plant.specs.Tables.{face_size, pieces_before, piece_count, table_size, piece_field_length, longest_table_file, location_ceiling, ceiling_of}
 use Rattle.plant.proofs.Pieces.{per_face_most, per_face_least}

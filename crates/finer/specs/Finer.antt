@@ -1,7 +1,8 @@
 -- Document 02, T-12, "Cut faces": when the second of two models is the first with further cuts, and a table of the first divided into
 -- the second's pieces.
 use Rattle.std.specs.Prelude.{◌≡◌, ◌⊎◌, List, ℕ, ◌<◌, ℤ, take, Option, Some, None}
-use Rattle.plant.specs.Model.{L#, Cut, uncut, cut_by, cut_at, cut_of}
+use Rattle.plant.specs.declared.Cut.{Cut}
+use Rattle.plant.specs.Model.{L#, uncut, cut_by, cut_at, cut_of}
 use Rattle.plant.specs.Pieces.{piece_face}
 use Rattle.plant.specs.Tables.{table_by, piece_of, to_piece}
 

@@ -1,4 +1,5 @@
 -- Decide's number and its byte buffer, from what the calls below it say.
+use Rattle.std.specs.Prelude.{Ok}
 use mathlib.Core.Path.{◌≡◌, refl, sym, ap, ◌∙◌}
 use mathlib.Core.List.{List}
 use Prim.Native.Nat.{ℕ, zero, suc, ◌≤◌}
@@ -35,7 +36,7 @@ module _ (m : List ℤ) (limit : ℕ) where
   length_answer = after_length m (passes_of a)
 
   -- with words lent for the table
-  module _ (table work : List ℤ) (fits : table_size m ≤ length table) {q : Answer} {t w : List ℤ} (e : ◌≡◌ {A = Analysed} (record { answer = q; table = t; work = w }) (answered m a table work)) where
+  module _ (table work : List ℤ) (fits : table_size m ≤ length table) {q : Answer} {t w : List ℤ} (e : ◌≡◌ {A = Analysed} (record { answer = Ok q; table = t; work = w }) (answered m a table work)) where
     same_reply : packed (answer_reply q) ≡ packed (answer_reply a)
     same_reply = ap (λ (x : Analysed). packed (reply_of x)) e
 

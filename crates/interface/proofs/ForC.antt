@@ -5,7 +5,7 @@ use mathlib.Core.List.{List, [], ◌∷◌}
 use Prim.Native.Nat.{ℕ}
 use lib.IntN.{ℤ}
 use Rattle.plant.specs.declared.Answer.{Answer}
-use Rattle.plant.specs.Calls.{Reply, answer_reply, Analysed, count_reply, ReadOutcome, WriteOutcome}
+use Rattle.plant.specs.Calls.{Reply, analysis_reply, Analysed, count_reply, ReadOutcome, WriteOutcome}
 use Rattle.orders.specs.declared.Desk.{Desk}
 use Rattle.orders.specs.Desks.{fresh_desk, Holds, Served, Call, desk_after, replies, answers_of, passes_of, DeskCounts}
 use Rattle.orders.proofs.Counts.{desk_counts}
@@ -22,18 +22,18 @@ pub is_quote : {q w b k code words bytes ceiling : ℕ} {r : QuoteReply} → q �
     → ◌≡◌ {A = QuoteReply} (record { code = code; words = words; bytes = bytes; ceiling = ceiling }) r → ◌≡◌ {A = QuoteReply} (record { code = q; words = w; bytes = b; ceiling = k }) r
 is_quote e f g i h = cc
 
-module _ {a : Answer} {r : Reply} {table work : List ℤ} where
+module _ {a : Result Answer ℕ} {r : Reply} {table work : List ℤ} where
   pub is_analysed :
-      {x : Analysed} → ◌≡◌ {A = Analysed} (record { answer = a; table = table; work = work }) x → r ≡ answer_reply a
+      {x : Analysed} → ◌≡◌ {A = Analysed} (record { answer = a; table = table; work = work }) x → r ≡ analysis_reply a
       → ◌≡◌ {A = AnalysedForC} (record { reply = r; table = table; work = work }) (analysed_for_c x)
   is_analysed {x = x} h e = subst (λ (y : Reply). ◌≡◌ {A = AnalysedForC} (record { reply = y; table = table; work = work }) (analysed_for_c x)) (sym e) (ap analysed_for_c h)
 
   pub is_served :
-      {d : Desk} {x : Served} → ◌≡◌ {A = Served} (record { desk = d; analysed = record { answer = a; table = table; work = work } }) x → r ≡ answer_reply a
+      {d : Desk} {x : Served} → ◌≡◌ {A = Served} (record { desk = d; analysed = record { answer = a; table = table; work = work } }) x → r ≡ analysis_reply a
       → ◌≡◌ {A = ServedForC} (record { desk = d; analysed = record { reply = r; table = table; work = work } }) (served_for_c x)
   is_served {d = d} {x = x} h e = subst (λ (y : Reply). ◌≡◌ {A = ServedForC} (record { desk = d; analysed = record { reply = y; table = table; work = work } }) (served_for_c x)) (sym e) (ap served_for_c h)
 
-module _ {k : Count} {r : Reply} where
+module _ {k : Result ℕ ℕ} {r : Reply} where
   pub is_read :
       {words : List ℤ} {o : ReadOutcome} → ◌≡◌ {A = ReadOutcome} (record { count = k; words = words }) o → r ≡ count_reply k
       → ◌≡◌ {A = ReadForC} (record { reply = r; words = words }) (read_for_c o)

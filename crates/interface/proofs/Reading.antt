@@ -54,12 +54,12 @@ both_yes (suc x) y u v next e = absurd (omega arith)
 pub refused_number : (k : ℕ) (words : List ℤ) (next : ReadOutcome) (v q : ℕ) → next.count ≡ Ok v → Err q ≡ (unless_refused k words next).count → (q ≡ k) × (k ≡ 0 → ⊥)
 unfolding unless_refused
 refused_number zero words next v q d e = absurd (let z : ◌≡◌ {A = ℕ} 0 1 = cc in omega arith)
-refused_number (suc k) words next v q d e = (ap (λ (c : Count). (count_reply c).code) e, λ z. omega arith)
+refused_number (suc k) words next v q d e = (ap (λ (c : Result ℕ ℕ). (count_reply c).code) e, λ z. omega arith)
 
 -- ---- a reader's answer, by its case
 
-pub when : {r c : Count} {x : List ℤ} {o : ReadOutcome} → r ≡ c → ◌≡◌ {A = ReadOutcome} (record { count = r; words = x }) o → ◌≡◌ {A = ReadOutcome} (record { count = c; words = x }) o
-when {x = x} {o = o} e h = subst (λ (c : Count). ◌≡◌ {A = ReadOutcome} (record { count = c; words = x }) o) e h
+pub when : {r c : (Result ℕ ℕ)} {x : List ℤ} {o : ReadOutcome} → r ≡ c → ◌≡◌ {A = ReadOutcome} (record { count = r; words = x }) o → ◌≡◌ {A = ReadOutcome} (record { count = c; words = x }) o
+when {x = x} {o = o} e h = subst (λ (c : Result ℕ ℕ). ◌≡◌ {A = ReadOutcome} (record { count = c; words = x }) o) e h
 
 -- ---- 5
 
@@ -82,7 +82,7 @@ had_room zero false words next n z = absurd (n refl)
 had_room (suc a) b words next n z = absurd (omega arith)
 
 -- a reader that does not give 5 had room
-pub other_roomy : (s : List ℕ) (held : List ℤ) {c : Count} {x : List ℤ} → ◌≡◌ {A = ReadOutcome} (record { count = c; words = x }) (read_model_call s held) → ((count_reply c).code ≡ 5 → ⊥) → Roomy s held
+pub other_roomy : (s : List ℕ) (held : List ℤ) {c : (Result ℕ ℕ)} {x : List ℤ} → ◌≡◌ {A = ReadOutcome} (record { count = c; words = x }) (read_model_call s held) → ((count_reply c).code ≡ 5 → ⊥) → Roomy s held
 unfolding read_model_call
 other_roomy s held e n z =
     let fits = leb (model_size (head_words s)) (length held) in
@@ -156,7 +156,7 @@ module _ (s : List ℕ) where
     roomy = other_roomy s held e (λ z. omega arith)
 
     pub read_yes : model_file_questions s ≡ 0
-    read_yes = (done (model_file_questions s) (zeroed held) (all held roomy) (omega (arith, questions_le)) (sym (ap (λ (o : ReadOutcome). (read_reply o).code) e ∙ ap (λ (c : Count). (count_reply c).code) (count_is held roomy)))).0
+    read_yes = (done (model_file_questions s) (zeroed held) (all held roomy) (omega (arith, questions_le)) (sym (ap (λ (o : ReadOutcome). (read_reply o).code) e ∙ ap (λ (c : Result ℕ ℕ). (count_reply c).code) (count_is held roomy)))).0
 
     read_all : ◌≡◌ {A = ReadOutcome} (record { count = Ok size; words = x }) (all held roomy)
     read_all = e ∙ reads held roomy read_yes

@@ -73,9 +73,9 @@ module _ (m : List ℤ) where
       is_answered : analyse_call m limit table work ≡ answered m (analysis m limit) table work
       is_answered = by_code m limit table work h
 
-      answer_words : length (answer_table m (analyse_call m limit table work).answer) ≡ (quoted m).words
+      answer_words : length (table_after m (reply_of (analyse_call m limit table work)).value) ≡ (quoted m).words
       unfolding answer_table
-      answer_words = ap (λ (a : Analysed). length (answer_table m a.answer)) is_answered ∙ after_length m (passes_of (analysis m limit)) ∙ sym (words_are m asks)
+      answer_words = ap (λ (a : Analysed). length (table_after m (reply_of a).value)) is_answered ∙ after_length m (passes_of (analysis m limit)) ∙ sym (words_are m asks)
 
       taken : (file : List ℕ) → (quoted m).bytes ≤ length file
           → let t = (analyse_call m limit table work).table in write_reply (write_table_call m t file) ≡ record { code = 100; value = length (table_file m t) }

@@ -1,5 +1,5 @@
 -- The desk call by cases: what the definition gives in each branch of the code, and that the counters hold what is added.
-use Rattle.std.specs.Prelude.{Err}
+use Rattle.std.specs.Prelude.{Ok, Err}
 use mathlib.Core.Path.{◌≡◌, refl, sym, ap, ap₂, ◌∙◌, subst}
 use mathlib.Core.Bool.{Bool, true, false, ◌&&◌}
 use mathlib.Core.List.{List}
@@ -69,7 +69,7 @@ module _ (d : Desk) (m : List ℤ) (limit : ℕ) (table work : List ℤ) where
     desk_full h = refused_with 22 (go refl yes (ap (λ (b : Bool). ask b 22) (sym h))) (λ e. omega arith)
 
     -- an answer a of the analysis, with k passes made
-    module _ (room : counters_ok d limit ≡ true) (a : Answer) (t w : List ℤ) (is : ◌≡◌ {A = Analysed} (record { answer = a; table = t; work = w }) (answered m (analysis m limit) table work)) (k : ℕ) (made : k ≡ passes_of a) where
+    module _ (room : counters_ok d limit ≡ true) (a : Answer) (t w : List ℤ) (is : ◌≡◌ {A = Analysed} (record { answer = Ok a; table = t; work = w }) (answered m (analysis m limit) table work)) (k : ℕ) (made : k ≡ passes_of a) where
       pub k_within : k ≤ limit
       k_within =
           let e : passes_of a ≡ passes_of (analysis m limit) = ap (λ (x : Analysed). (reply_of x).value) is in
@@ -79,9 +79,9 @@ module _ (d : Desk) (m : List ℤ) (limit : ℕ) (table work : List ℤ) where
       unfolding desk_questions
       all_yes = sym (then_intro yes (ask_intro (counters_ok d limit) 22 (subst T (sym room) tt)))
 
-      pub desk_answered : ◌≡◌ {A = Served} (record { desk = record { jobs = d.jobs + 1; passes = d.passes + k }; analysed = record { answer = a; table = t; work = w } }) (desk_call d m limit table work)
+      pub desk_answered : ◌≡◌ {A = Served} (record { desk = record { jobs = d.jobs + 1; passes = d.passes + k }; analysed = record { answer = Ok a; table = t; work = w } }) (desk_call d m limit table work)
       unfolding desk_call
       desk_answered =
-          ap (λ (x : ℕ). record { desk = record { jobs = d.jobs + 1; passes = d.passes + x }; analysed = record { answer = a; table = t; work = w } }) made
+          ap (λ (x : ℕ). record { desk = record { jobs = d.jobs + 1; passes = d.passes + x }; analysed = record { answer = Ok a; table = t; work = w } }) made
           ∙ ap (counted d) is
           ∙ ap (λ (x : ℕ). desk_by x d m limit table work) all_yes

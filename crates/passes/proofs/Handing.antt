@@ -15,7 +15,8 @@ use Rattle.integers.proofs.Tests.{true_is}
 use Rattle.integers.proofs.Counted.{eq_z_eq}
 use Rattle.integers.proofs.Buffers.{cat_ext}
 use Rattle.plant.specs.Box.{low, high, Ordered, box_at, hull, Face, absent, present, face_words, join}
-use Rattle.plant.specs.Model.{n#, Cut, uncut, cut_by, cut_from, variable_of}
+use Rattle.plant.specs.declared.Cut.{Cut}
+use Rattle.plant.specs.Model.{n#, uncut, cut_by, cut_from, variable_of}
 use Rattle.plant.specs.Pieces.{pieces_per_face}
 use Rattle.plant.specs.declared.Interval.{Interval}
 use Rattle.plant.specs.Delays.{delays_to, both_delays, or_never}

@@ -16,7 +16,8 @@ use Rattle.integers.specs.Counted.{cat}
 use Rattle.integers.proofs.Counted.{sum_part}
 use Rattle.integers.proofs.Buffers.{length_cat_sum, cat_ext}
 use Rattle.plant.specs.Box.{Face, absent, on_box, face_words, join, joins}
-use Rattle.plant.specs.Model.{n#, L#, E#, source, target, wall_variable, target_side, Cut, uncut, cut_by, cut_of, variable_of}
+use Rattle.plant.specs.declared.Cut.{Cut}
+use Rattle.plant.specs.Model.{n#, L#, E#, source, target, wall_variable, target_side, uncut, cut_by, cut_of, variable_of}
 use Rattle.plant.specs.Pieces.{Extent, extent_by, cut_to_extent, pieces_per_face, per_face, pieces, piece_number, piece_face}
 use Rattle.plant.specs.Steps.{switch_step}
 use Rattle.plant.specs.Tables.{face_size, piece_count, table_size, piece_at, table_by, piece_of, part_of, source_piece, target_face, switch_step_at, to_piece, switch_onto, walls_joined, switches_joined, new_piece, pass}

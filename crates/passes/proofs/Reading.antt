@@ -16,7 +16,8 @@ use Rattle.integers.proofs.Counted.{sum_back, sum_part, sum_same}
 use Rattle.integers.proofs.Buffers.{cat_parts, cat_ext}
 use Rattle.integers.proofs.Rows.{sum_upto}
 use Rattle.plant.specs.Box.{Face, face_words, join, joins}
-use Rattle.plant.specs.Model.{n#, L#, E#, invariant, rate, source, target, wall_variable, reset_mask, guard, reset, variable_of, side_of, face_wall, cut_variable, cut_value, Cut, uncut, cut_by, cut_from, cut_of}
+use Rattle.plant.specs.declared.Cut.{Cut}
+use Rattle.plant.specs.Model.{n#, L#, E#, invariant, rate, source, target, wall_variable, reset_mask, guard, reset, variable_of, side_of, face_wall, cut_variable, cut_value, uncut, cut_by, cut_from, cut_of}
 use Rattle.plant.specs.Pieces.{pieces_per_face, per_face, pieces, piece_face, piece_index, piece_variable, piece_extent}
 use Rattle.plant.specs.Steps.{switch_step}
 use Rattle.plant.specs.Tables.{face_size, pieces_before, piece_count, table_size, piece_at, table_by, face_read, piece_of, start_part, part_of, to_piece, wall_step_at, wall_from, walls_joined, switch_step_at, source_face, source_piece, target_face}

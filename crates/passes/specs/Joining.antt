@@ -3,7 +3,8 @@
 use Rattle.std.specs.Prelude.{◌≡◌, List, ℕ, ◌*◌, ◌/◌, ◌%◌, ◌<◌, ◌≤◌, ℤ, pos, ◌≤ℤ◌, length, Option}
 use Rattle.integers.specs.Words.{word}
 use Rattle.plant.specs.Box.{low, high, Ordered, box_at, Face, on_box, join}
-use Rattle.plant.specs.Model.{n#, L#, E#, invariant, source, target, wall_variable, cut_variable, cut_value, Cut, cut_from, cut_of, variable_of}
+use Rattle.plant.specs.declared.Cut.{Cut}
+use Rattle.plant.specs.Model.{n#, L#, E#, invariant, source, target, wall_variable, cut_variable, cut_value, cut_from, cut_of, variable_of}
 use Rattle.plant.specs.Questions.{model_questions}
 use Rattle.plant.specs.Pieces.{pieces_per_face, per_face, pieces}
 use Rattle.plant.specs.Steps.{wall_step}

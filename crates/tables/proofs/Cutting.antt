@@ -19,7 +19,8 @@ use Rattle.integers.specs.Counted.{cat}
 use Rattle.integers.proofs.Tests.{true_is}
 use Rattle.integers.proofs.Counted.{eq_z_eq, eq_z_intro}
 use Rattle.plant.specs.Box.{low, high, Face, absent, present, face_words, join}
-use Rattle.plant.specs.Model.{Cut, uncut, cut_by, cut_from}
+use Rattle.plant.specs.declared.Cut.{Cut}
+use Rattle.plant.specs.Model.{uncut, cut_by, cut_from}
 use Rattle.plant.specs.Pieces.{Extent, up_to_value, from_value, box_up_to, box_from, extent_by, cut_to_extent, pieces_per_face}
 use Rattle.plant.specs.Tables.{face_size, face_read}
 use Rattle.plant.proofs.Boxes.{length_face}

@@ -3,7 +3,8 @@ use Rattle.std.specs.Prelude.{◌≡◌, List, ◌⊎◌, ℕ, ◌*◌, ◌<◌,
 use Rattle.std.specs.Int.Signed.{non_neg}
 use Rattle.integers.specs.Counted.{cat}
 use Rattle.plant.specs.Box.{Ordered, Face, on_box, face_words, join}
-use Rattle.plant.specs.Model.{Cut, cut_from}
+use Rattle.plant.specs.declared.Cut.{Cut}
+use Rattle.plant.specs.Model.{cut_from}
 use Rattle.plant.specs.Pieces.{extent_by, cut_to_extent, pieces_per_face}
 use Rattle.plant.specs.Tables.{face_size, face_read}
 

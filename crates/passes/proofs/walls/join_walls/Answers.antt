@@ -16,7 +16,8 @@ use Rattle.integers.specs.Counted.{cat}
 use Rattle.integers.proofs.Signed.{got64}
 use Rattle.integers.proofs.Counted.{sum_same}
 use Rattle.plant.specs.Box.{Ordered, Face, present}
-use Rattle.plant.specs.Model.{Cut, cut_from}
+use Rattle.plant.specs.declared.Cut.{Cut}
+use Rattle.plant.specs.Model.{cut_from}
 use Rattle.plant.specs.Pieces.{pieces_per_face}
 use Rattle.plant.specs.Steps.{wall_step}
 use Rattle.plant.specs.Tables.{face_size}
