@@ -10,7 +10,7 @@ ghost use Rattle.plant.specs.Steps as Steps;
 ghost use Rattle.delays.specs.Ranges.{Level, Rate, LevelAt, RateAt, Levels, Rates, InInvariant, Small, SmallEnd, SmallInterval};
 ghost use Rattle.delays.specs.Windows.{WithinAt, up_to, WindowEnd};
 
-use plant::{Delays, End, Fraction, Interval};
+use plant::{End, Fraction, Interval};
 
 // The delay over the distance between two levels at a rate.
 fn delay(x: i64, y: i64, v: i64) -> Fraction
@@ -66,14 +66,14 @@ fn latest(p: i64, q: i64, a: i64, c: i64, lo: i64, hi: i64) -> End
 }
 
 // The delays from the part p..q with the rate a..c into the range lo..hi.
-pub fn delays_into(p: i64, q: i64, a: i64, c: i64, lo: i64, hi: i64) -> Delays
+pub fn delays_into(p: i64, q: i64, a: i64, c: i64, lo: i64, hi: i64) -> Option<Interval>
     requires { Level p × Level q × Rate a × Rate c × Level lo × Level hi }
     ensures { result ≡ delays_into p q a c lo hi }
 {
     if no_delay(p, q, a, c, lo, hi) {
-        Delays::Never
+        None
     } else {
-        Delays::Between(Interval {
+        Some(Interval {
             earliest: earliest(p, q, a, c, lo, hi),
             latest: latest(p, q, a, c, lo, hi),
         })
@@ -81,7 +81,7 @@ pub fn delays_into(p: i64, q: i64, a: i64, c: i64, lo: i64, hi: i64) -> Delays
 }
 
 // The delays at which variable i of a part can be in the range lo..hi.
-pub fn variable_delays(rate: &[i32], part: &[i32], i: usize, lo: i64, hi: i64) -> Delays
+pub fn variable_delays(rate: &[i32], part: &[i32], i: usize, lo: i64, hi: i64) -> Option<Interval>
     requires { RateAt rate.now i × LevelAt part.now i × Level lo × Level hi }
     ensures { result ≡ delays_into (low part.now i) (high part.now i) (low rate.now i) (high rate.now i) lo hi }
 {
@@ -164,12 +164,12 @@ fn has_delay(t: Interval) -> bool
 }
 
 // The delays from a part to the wall value b of variable d that are in a window from 0 to an end; none if no delay is.
-pub fn wall_delays(rate: &[i32], part: &[i32], d: usize, b: i64, end: End) -> Delays
+pub fn wall_delays(rate: &[i32], part: &[i32], d: usize, b: i64, end: End) -> Option<Interval>
     requires { RateAt rate.now d × LevelAt part.now d × Level b × SmallEnd end }
-    ensures { result ≡ or_never (both_delays (delays_to (low part.now d) (high part.now d) (low rate.now d) (high rate.now d) b) (Between (up_to end))) }
+    ensures { result ≡ or_never (both_delays (delays_to (low part.now d) (high part.now d) (low rate.now d) (high rate.now d) b) (Some (up_to end))) }
 {
-    let Delays::Between(t) = variable_delays(rate, part, d, b, b) else {
-        return Delays::Never;
+    let Some(t) = variable_delays(rate, part, d, b, b) else {
+        return None;
     };
     let e = t.earliest;
     let l = t.latest;
@@ -178,9 +178,9 @@ pub fn wall_delays(rate: &[i32], part: &[i32], d: usize, b: i64, end: End) -> De
         latest: sooner(l, end),
     };
     if has_delay(cut) {
-        Delays::Between(cut)
+        Some(cut)
     } else {
-        Delays::Never
+        None
     }
 }
 
@@ -279,7 +279,7 @@ pub fn touches(n: usize, inv: &[i32], rate: &[i32], part: &[i32], forbidden: &[i
         if hi < lo {
             return false;
         }
-        let Delays::Between(t) = variable_delays(rate, part, i, lo, hi) else {
+        let Some(t) = variable_delays(rate, part, i, lo, hi) else {
             return false;
         };
         shared = both(shared, t);

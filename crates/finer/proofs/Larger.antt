@@ -1,5 +1,6 @@
 -- A cut adds pieces: the ceiling, the words of a table and the number in 39 are at least those of the model without it.
 use Rattle.std.specs.Prelude.{Option, None}
+use Rattle.std.specs.declared.option.Option.TheVariants as option
 use mathlib.Core.Path.{◌≡◌, sym, ap, subst}
 use mathlib.Core.Logic.{◌⊎◌, inl, inr, ⊎_elim}
 use mathlib.Core.List.{List}
@@ -24,7 +25,7 @@ use Rattle.finer.proofs.Divided.{same_n, same_L, same_invariant}
 ceiling_more : (n : ℕ) (inv : List ℤ) (c : Option Cut) → location_ceiling n inv uncut ≤ location_ceiling n inv c
 unfolding location_ceiling
 ceiling_more n inv None = omega arith
-ceiling_more n inv (Some cut) = omega arith
+ceiling_more n inv (option.Some cut) = omega arith
 
 ceiling_kept : (n : ℕ) (inv : List ℤ) (c c' : Option Cut) → (c' ≡ uncut) ⊎ (c ≡ c') → location_ceiling n inv c' ≤ location_ceiling n inv c
 ceiling_kept n inv c c' (inl e) = subst (λ (x : Option Cut). location_ceiling n inv x ≤ location_ceiling n inv c) (sym e) (ceiling_more n inv c)

@@ -13,7 +13,7 @@ ghost use Rattle.passes.specs.Checked.{Checked};
 ghost use Rattle.passes.specs.Joining.{Located, pieces_with, AfterJoin, WallJoin, WallsJoin, PartJoin, StartJoin, walls_from, location_by};
 
 use super::parts;
-use plant::{Delays, End, Interval};
+use plant::{End, Interval};
 
 // Joins to a present face, bound by bound, the box after the delays t to the value b of variable d.
 fn widen_after(
@@ -58,7 +58,7 @@ fn join_after(
     pieces: &mut [i32],
 )
     requires { AfterJoin n inv.now rate.now bounds.now b t × CutVariable n variable × AreFaces n (pieces_per_face (cut_from variable value)) pieces.old }
-    ensures { pieces.new ≡ joined_each n (pieces_per_face (cut_from variable value)) pieces.old (cut_each n (cut_from variable value) d (face_after n inv.now rate.now bounds.now d b (Between t))) }
+    ensures { pieces.new ≡ joined_each n (pieces_per_face (cut_from variable value)) pieces.old (cut_each n (cut_from variable value) d (face_after n inv.now rate.now bounds.now d b (Some t))) }
 {
     let mut after = [0i32; 12];
     let size = 2 * n;
@@ -89,7 +89,7 @@ fn join_wall(
     requires { WallJoin n inv.now rate.now bounds.now end d b variable value pieces.old }
     ensures { pieces.new ≡ joined_each n (pieces_per_face (cut_from variable value)) pieces.old (cut_each n (cut_from variable value) d (wall_step n inv.now rate.now bounds.now d b)) }
 {
-    let Delays::Between(t) = delays::wall_delays(rate, bounds, d, b, end) else {
+    let Some(t) = delays::wall_delays(rate, bounds, d, b, end) else {
         return;
     };
     if integers::same(variable, -1) & integers::same(pieces[0], 1) {

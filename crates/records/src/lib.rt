@@ -11,6 +11,8 @@ ghost use Rattle.plant.specs.Model as M;
 ghost use Rattle.plant.specs.Questions as Q;
 ghost use Rattle.plant.proofs.Whole.{Head, Whole, Numbered, Placed};
 
+use plant::Cut;
+
 // ---- the head: how many variables, locations, switches and forbidden boxes the model has, and its edition
 
 pub fn variables(model: &[i32]) -> usize
@@ -259,6 +261,21 @@ pub fn cut_value(model: &[i32], l: usize) -> i32
     ensures { result ≡ M.cut_value model.now l }
 {
     model[cut_at(model, l) + 1]
+}
+
+// None where the variable is -1.
+pub fn cut(model: &[i32], l: usize) -> Option<Cut>
+    requires { Whole model.now × (l < M.L# model.now) }
+    ensures { result ≡ M.cut_of model.now l }
+{
+    let variable = cut_variable(model, l);
+    if variable == -1 {
+        return None;
+    }
+    Some(Cut {
+        variable: variable.unsigned_abs() as usize,
+        value: cut_value(model, l),
+    })
 }
 
 // The wall (d, s) of an invariant.

@@ -171,7 +171,7 @@ pub fn box_after(
     out: &mut [i32],
 ) -> bool
     requires { WallReady n inv.now rate.now part.now b out.old × SmallInterval t }
-    ensures { Handed n result out.new out.old (face_after n inv.now rate.now part.now d b (Between t)) }
+    ensures { Handed n result out.new out.old (face_after n inv.now rate.now part.now d b (Some t)) }
 {
     let mut i = 0;
     while i < n {
