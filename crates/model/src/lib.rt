@@ -5,29 +5,23 @@ ghost use Rattle.std.specs.Prelude.{◌≡◌, ◌&&◌, ◌+◌, ◌*◌, ◌�
 ghost use Rattle.std.specs.Int.Signed.{le_z};
 ghost use Rattle.integers.specs.Counted.{all_below};
 ghost use Rattle.plant.specs.Ask as S;
-ghost use Rattle.plant.specs.Ask.{◌then◌};
 ghost use Rattle.plant.specs.Model as M;
+ghost use Rattle.plant.specs.Refusals.{number, asked};
 ghost use Rattle.plant.specs.Questions as Q;
 ghost use Rattle.plant.proofs.Whole.{Head, Whole, Numbered, Placed};
+
+use plant::Refusal;
 
 // Levels lie in -1,000,000..1,000,000, rates in -1,000..1,000.
 const LEVEL_LIMIT: u32 = 1000000;
 
 const RATE_LIMIT: u32 = 1000;
 
-// ---- answers: 0 for yes, else the number of the refusal
-
-pub fn ask(yes: bool, k: u32) -> u32
-    ensures { result ≡ S.ask yes k }
+// A question, and the refusal if its answer is not yes.
+pub fn ask(yes: bool, refusal: Refusal) -> Result<(), Refusal>
+    ensures { asked result ≡ S.ask yes (number refusal) }
 {
-    if yes { 0 } else { k }
-}
-
-// The first answer that is not yes.
-pub fn or_else(a: u32, b: u32) -> u32
-    ensures { result ≡ (a then b) }
-{
-    if a == 0 { b } else { a }
+    if yes { Ok(()) } else { Err(refusal) }
 }
 
 // ---- boxes
@@ -45,12 +39,10 @@ pub fn box_ok(b: &[i32], n: usize, most: u32) -> bool
     ensures { result ≡ Q.box_ok n most b.now }
 {
     let mut ok = true;
-    let mut i: usize = 0;
-    while i < n {
+    for i in 0..n {
         let lo = integers::word(b, 2 * i);
         let hi = integers::word(b, 2 * i + 1);
-        ok = ok & range_ok(lo, hi, 0 - most as i64, most as i64);
-        i = i + 1;
+        ok &= range_ok(lo, hi, 0 - most as i64, most as i64);
     }
     ok
 }
@@ -61,14 +53,12 @@ pub fn inside_ok(b: &[i32], c: &[i32], n: usize) -> bool
     ensures { result ≡ Q.inside_ok n b.now c.now }
 {
     let mut ok = true;
-    let mut i: usize = 0;
-    while i < n {
+    for i in 0..n {
         let lo = integers::word(b, 2 * i);
         let hi = integers::word(b, 2 * i + 1);
         let least = integers::word(c, 2 * i);
         let most = integers::word(c, 2 * i + 1);
-        ok = ok & range_ok(lo, hi, least, most);
-        i = i + 1;
+        ok &= range_ok(lo, hi, least, most);
     }
     ok
 }
@@ -79,10 +69,8 @@ pub fn zeros_ok(s: &[i32], k: usize) -> bool
     ensures { result ≡ Q.zeros_ok k s.now }
 {
     let mut ok = true;
-    let mut i: usize = 0;
-    while i < k {
-        ok = ok & integers::same(s[i], 0);
-        i = i + 1;
+    for i in 0..k {
+        ok &= s[i] == 0;
     }
     ok
 }
@@ -97,19 +85,24 @@ fn start_ok(model: &[i32], l: usize) -> bool
     let n = records::variables(model);
     let flag = records::start_flag(model, l);
     let start = records::start_box(model, l);
-    let empty = integers::same(flag, 0) & zeros_ok(start, 2 * n);
-    empty | (integers::same(flag, 1) & box_ok(start, n, LEVEL_LIMIT))
+    let empty = (flag == 0) & zeros_ok(start, 2 * n);
+    empty | ((flag == 1) & box_ok(start, n, LEVEL_LIMIT))
 }
 
-fn location_questions(model: &[i32], l: usize) -> u32
+fn location_questions(model: &[i32], l: usize) -> Result<(), Refusal>
     requires { Whole model.now × (l < M.L# model.now) }
-    ensures { result ≡ Q.location_questions model.now l }
+    ensures { asked result ≡ Q.location_questions model.now l }
 {
     let n = records::variables(model);
-    let q11 = ask(box_ok(records::invariant(model, l), n, LEVEL_LIMIT), 11);
-    let q12 = ask(box_ok(records::rate(model, l), n, RATE_LIMIT), 12);
-    let q13 = ask(start_ok(model, l), 13);
-    or_else(q11, or_else(q12, q13))
+    ask(
+        box_ok(records::invariant(model, l), n, LEVEL_LIMIT),
+        Refusal::Invariant,
+    )?;
+    ask(
+        box_ok(records::rate(model, l), n, RATE_LIMIT),
+        Refusal::Rates,
+    )?;
+    ask(start_ok(model, l), Refusal::Start)
 }
 
 // ---- the questions of a switch
@@ -155,7 +148,7 @@ fn single_at(model: &[i32], e: usize, i: usize) -> bool
     ensures { result ≡ Q.single_at model.now e i }
 {
     let b = records::reset(model, e);
-    let single = integers::same(b[2 * i], b[2 * i + 1]);
+    let single = (b[2 * i] == b[2 * i + 1]);
     !records::masked(records::reset_mask(model, e), i) | single
 }
 
@@ -166,10 +159,8 @@ fn all_single(model: &[i32], e: usize) -> bool
 {
     let n = records::variables(model);
     let mut ok = true;
-    let mut i: usize = 0;
-    while i < n {
-        ok = ok & single_at(model, e, i);
-        i = i + 1;
+    for i in 0..n {
+        ok &= single_at(model, e, i);
     }
     ok
 }
@@ -194,7 +185,7 @@ fn guard_ok(model: &[i32], e: usize) -> bool
     let d = records::wall_variable(model, e);
     let b = records::guard(model, e);
     let w = records::source_wall(model, e);
-    integers::same(b[2 * d], w) & integers::same(b[2 * d + 1], w)
+    (b[2 * d] == w) & (b[2 * d + 1] == w)
 }
 
 // The level of d after the switch: its reset value, or the source wall if d is unmasked.
@@ -218,26 +209,23 @@ fn lands_ok(model: &[i32], e: usize) -> bool
     integers::same(records::target_wall(model, e), level_after(model, e))
 }
 
-fn switch_questions(model: &[i32], e: usize) -> u32
+fn switch_questions(model: &[i32], e: usize) -> Result<(), Refusal>
     requires { Whole model.now × (e < M.E# model.now) }
-    ensures { result ≡ Q.switch_questions model.now e }
+    ensures { asked result ≡ Q.switch_questions model.now e }
 {
-    if !places_ok(model, e) {
-        return 14;
-    }
-    let q15 = ask(boxes_ok(model, e), 15);
-    let q16 = ask(single_ok(model, e), 16);
-    let q17 = ask(guard_ok(model, e), 17);
-    let q18 = ask(lands_ok(model, e), 18);
-    or_else(q15, or_else(q16, or_else(q17, q18)))
+    ask(places_ok(model, e), Refusal::Places)?;
+    ask(boxes_ok(model, e), Refusal::SwitchBoxes)?;
+    ask(single_ok(model, e), Refusal::MaskedResets)?;
+    ask(guard_ok(model, e), Refusal::Guard)?;
+    ask(lands_ok(model, e), Refusal::Landing)
 }
 
 // ---- the question of a forbidden box
 
 // Location exists, box ordered, in range?
-fn forbidden_question(model: &[i32], b: usize) -> u32
+fn forbidden_question(model: &[i32], b: usize) -> Result<(), Refusal>
     requires { Whole model.now × (b < M.B# model.now) }
-    ensures { result ≡ Q.forbidden_question model.now b }
+    ensures { asked result ≡ Q.forbidden_question model.now b }
 {
     let n = records::variables(model);
     let exists = below_ok(
@@ -247,7 +235,7 @@ fn forbidden_question(model: &[i32], b: usize) -> u32
     );
     ask(
         exists & box_ok(records::forbidden_box(model, b), n, LEVEL_LIMIT),
-        19,
+        Refusal::Forbidden,
     )
 }
 
@@ -275,136 +263,106 @@ fn cut_inside(model: &[i32], l: usize) -> bool
 }
 
 // -1 and 0, or such a variable and value?
-fn cut_question(model: &[i32], l: usize) -> u32
+fn cut_question(model: &[i32], l: usize) -> Result<(), Refusal>
     requires { Whole model.now × (l < M.L# model.now) }
-    ensures { result ≡ Q.cut_question model.now l }
+    ensures { asked result ≡ Q.cut_question model.now l }
 {
     let no_variable = integers::same(records::cut_variable(model, l), -1);
     let no_value = integers::same(records::cut_value(model, l), 0);
-    ask((no_variable & no_value) | cut_inside(model, l), 46)
+    ask(
+        (no_variable & no_value) | cut_inside(model, l),
+        Refusal::CutPlace,
+    )
 }
 
 // ---- the questions of a model
 
 // n, L, E and B allowed?
-pub fn ranges_questions(model: &[i32]) -> u32
+pub fn ranges_questions(model: &[i32]) -> Result<(), Refusal>
     requires { M.head_size ≤ length model.now }
-    ensures { result ≡ Q.ranges_questions model.now }
+    ensures { asked result ≡ Q.ranges_questions model.now }
 {
     let n = integers::word(model, 0);
     let locations = integers::word(model, 1);
     let switches = integers::word(model, 2);
     let boxes = integers::word(model, 3);
-    let q2 = ask(integers::within(n, 1, 6), 2);
-    let q3 = ask(integers::within(locations, 1, 64), 3);
-    let q4 = ask(
+    ask(integers::within(n, 1, 6), Refusal::Variables)?;
+    ask(integers::within(locations, 1, 64), Refusal::Locations)?;
+    ask(
         integers::within(switches, 0, 128) & integers::within(boxes, 0, 64),
-        4,
-    );
-    or_else(q2, or_else(q3, q4))
+        Refusal::SwitchesAndBoxes,
+    )
 }
 
 // The edition 1 or 2?
-fn edition_question(model: &[i32]) -> u32
+fn edition_question(model: &[i32]) -> Result<(), Refusal>
     requires { Head model.now }
-    ensures { result ≡ Q.edition_question model.now }
+    ensures { asked result ≡ Q.edition_question model.now }
 {
-    ask(integers::within(records::edition(model) as i64, 1, 2), 43)
+    ask(
+        integers::within(records::edition(model) as i64, 1, 2),
+        Refusal::Edition,
+    )
 }
 
-fn locations_questions(model: &[i32]) -> u32
+fn locations_questions(model: &[i32]) -> Result<(), Refusal>
     requires { Whole model.now }
-    ensures { result ≡ S.first (M.L# model.now) (Q.location_questions model.now) }
+    ensures { asked result ≡ S.first (M.L# model.now) (Q.location_questions model.now) }
 {
-    let count = records::locations(model);
-    let mut l: usize = 0;
-    while l < count {
-        let r = location_questions(model, l);
-        if r != 0 {
-            return r;
-        }
-        l = l + 1;
+    for l in 0..records::locations(model) {
+        location_questions(model, l)?;
     }
-    0
+    Ok(())
 }
 
-fn switches_questions(model: &[i32]) -> u32
+fn switches_questions(model: &[i32]) -> Result<(), Refusal>
     requires { Whole model.now }
-    ensures { result ≡ S.first (M.E# model.now) (Q.switch_questions model.now) }
+    ensures { asked result ≡ S.first (M.E# model.now) (Q.switch_questions model.now) }
 {
-    let count = records::switches(model);
-    let mut e: usize = 0;
-    while e < count {
-        let r = switch_questions(model, e);
-        if r != 0 {
-            return r;
-        }
-        e = e + 1;
+    for e in 0..records::switches(model) {
+        switch_questions(model, e)?;
     }
-    0
+    Ok(())
 }
 
-fn forbidden_questions(model: &[i32]) -> u32
+fn forbidden_questions(model: &[i32]) -> Result<(), Refusal>
     requires { Whole model.now }
-    ensures { result ≡ S.first (M.B# model.now) (Q.forbidden_question model.now) }
+    ensures { asked result ≡ S.first (M.B# model.now) (Q.forbidden_question model.now) }
 {
-    let count = records::forbidden_boxes(model);
-    let mut b: usize = 0;
-    while b < count {
-        let r = forbidden_question(model, b);
-        if r != 0 {
-            return r;
-        }
-        b = b + 1;
+    for b in 0..records::forbidden_boxes(model) {
+        forbidden_question(model, b)?;
     }
-    0
+    Ok(())
 }
 
-fn cuts_questions(model: &[i32]) -> u32
+fn cuts_questions(model: &[i32]) -> Result<(), Refusal>
     requires { Whole model.now }
-    ensures { result ≡ S.first (M.L# model.now) (Q.cut_question model.now) }
+    ensures { asked result ≡ S.first (M.L# model.now) (Q.cut_question model.now) }
 {
-    let count = records::locations(model);
-    let mut l: usize = 0;
-    while l < count {
-        let r = cut_question(model, l);
-        if r != 0 {
-            return r;
-        }
-        l = l + 1;
+    for l in 0..records::locations(model) {
+        cut_question(model, l)?;
     }
-    0
+    Ok(())
 }
 
 // The questions of each record in turn, 11 to 19, then of each cut, 46.
-pub fn records_questions(model: &[i32]) -> u32
+pub fn records_questions(model: &[i32]) -> Result<(), Refusal>
     requires { Whole model.now }
-    ensures { result ≡ Q.records_questions model.now }
+    ensures { asked result ≡ Q.records_questions model.now }
 {
-    let location = locations_questions(model);
-    let switch = switches_questions(model);
-    let forbidden = forbidden_questions(model);
-    let cut = cuts_questions(model);
-    or_else(location, or_else(switch, or_else(forbidden, cut)))
+    locations_questions(model)?;
+    switches_questions(model)?;
+    forbidden_questions(model)?;
+    cuts_questions(model)
 }
 
-// The questions of a model's words, 2 to 5, 43, 11 to 19 and 46: 0 if all are yes, else the number of the first that is not.
-pub fn questions(model: &[i32]) -> u32
-    ensures { result ≡ Q.model_questions model.now }
+// The questions of a model's words, 2 to 5, 43, 11 to 19 and 46: the refusal of the first that is not yes.
+pub fn questions(model: &[i32]) -> Result<(), Refusal>
+    ensures { asked result ≡ Q.model_questions model.now }
 {
-    if model.len() < records::HEAD_SIZE {
-        return 5;
-    }
-    let q = ranges_questions(model);
-    if q != 0 {
-        return q;
-    }
-    let edition = edition_question(model);
-    if edition != 0 {
-        return edition;
-    }
-    if model.len() < records::size(model) {
-        return 5;
-    }
+    ask(records::HEAD_SIZE <= model.len(), Refusal::Words)?;
+    ranges_questions(model)?;
+    edition_question(model)?;
+    ask(records::size(model) <= model.len(), Refusal::Words)?;
     records_questions(model)
 }
