@@ -148,7 +148,7 @@ fn single_at(model: &[i32], e: usize, i: usize) -> bool
     ensures { result ≡ Q.single_at model.now e i }
 {
     let b = records::reset(model, e);
-    let single = (b[2 * i] == b[2 * i + 1]);
+    let single = b[2 * i] == b[2 * i + 1];
     !records::masked(records::reset_mask(model, e), i) | single
 }
 
