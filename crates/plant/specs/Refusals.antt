@@ -1,5 +1,5 @@
 -- Document 01, "The questions, in order", and document 02: the number of each refusal, and what a call answers, by numbers.
-use Rattle.std.specs.Prelude.{ℕ, Result, Ok, Err}
+use Rattle.std.specs.Prelude.{◌≡◌, ℕ, ◌<◌, Result, Ok, Err}
 use Rattle.plant.specs.declared.Refusal.{Refusal}
 use Rattle.plant.specs.declared.Refusal.TheVariants.{FirstField, Variables, Locations, SwitchesAndBoxes, Words, FieldTag, FieldLength, ModelEnd, Invariant, Rates, Start, Places, SwitchBoxes, MaskedResets, Guard, Landing, Forbidden, TableWords, WorkWords, Counters, Table, Unchanged, Touching, CountField, PieceField, PieceOrder, TableEnd, TableBytes, ModelBytes, Edition, CutPlace}
 
@@ -35,6 +35,12 @@ number TableBytes = 39
 number ModelBytes = 40
 number Edition = 43
 number CutPlace = 46
+
+-- a number has one meaning: no two refusals have the same, and none has 0 or an answer's, which are 100 and more
+pub record OneMeaning : Type 0 where
+  pub number_once : (r s : Refusal) → number r ≡ number s → r ≡ s
+  pub not_0 : (r : Refusal) → 0 < number r
+  pub below_answers : (r : Refusal) → number r < 100
 
 -- questions that are all yes, or the refusal of the first that is not: 0, or its number
 abbrev pub asked : Result Unit Refusal → ℕ

@@ -2,6 +2,7 @@
 use Rattle.plant.proofs.Demands as demands
 use Rattle.plant.proofs.Meaning as means
 use Rattle.plant.proofs.Cases as cases
+use Rattle.plant.proofs.Refusing as refusing
 use Rattle.files.proofs.ModelRoundTrip as exact
 use Rattle.files.proofs.ModelBack as models
 use Rattle.files.proofs.UncutModelFile as uncut-models
@@ -31,6 +32,7 @@ promises = record {
   desk_counts = counts.desk_counts;
   desk_counts_for_c = for-c.desk_counts_for_c;
   third_demand = demands.third_demand;
+  one_meaning = refusing.one_meaning;
   host_demand = host.host_demand;
   words_behind = behind.words_behind;
   desk_answers = desk.desk_answers;

@@ -4,6 +4,7 @@
 use Rattle.std.specs.Prelude.{List, ℕ, ℤ}
 use Rattle.plant.specs.Demands.{FirstDemand, SecondDemand, ThirdDemand}
 use Rattle.plant.specs.Meaning.{Meaning}
+use Rattle.plant.specs.Refusals.{OneMeaning}
 use Rattle.plant.specs.Cases.{Starred, Further}
 use Rattle.files.specs.ModelFilesExact.{ModelFilesExact}
 use Rattle.files.specs.ModelBack.{ModelBack}
@@ -50,6 +51,8 @@ pub record Promises : Type 0 where
   -- table for that model. An answer under a pass limit of at least the model's ceiling is never unfinished: it is safe exactly when some
   -- list of words is accepted as a table for that model, and otherwise unknown"
   pub third_demand : (m : List ℤ) → ThirdDemand m
+  -- "The service's programmers call from C and rely on every refusal number having one meaning"
+  pub one_meaning : OneMeaning
   -- "The host's C program hands over bytes and a limit" (document 01): the demands of bytes, for decide and check
   pub host_demand : HostDemand
   -- ---- document 01
