@@ -3,7 +3,7 @@
 use mathlib.Core.Path.{◌≡◌, refl, ap₂}
 use mathlib.Core.Bool.{Bool, ◌&&◌}
 use mathlib.Core.List.{List, [], ◌∷◌}
-use lib.IntN.{ℤ, pos, negsuc}
+use lib.IntN.{ℤ}
 use lib.Signed.{lt_z}
 use Rattle.std.specs.Int.{int_max, int_min}
 use Rattle.std.specs.Cmp.Lexicographic.{pointwise}

@@ -1,13 +1,14 @@
--- The lists are the same exactly if the first i words agree, which the flag says, and what is left of them is the same.
+-- The lists are the same exactly if the words so far agree, which the flag says, and what is left of them is the same.
 use mathlib.Core.Path.{◌≡◌}
 use mathlib.Core.Bool.{◌&&◌}
-use Prim.Native.Nat.{◌-◌, ◌≤◌}
-use lib.ListN.{length, drop}
+use lib.ListN.{length}
+use Rattle.std.specs.Iterator.Adapters.{zip_first, zip_second}
+use Rattle.std.specs.Slice.Iter.{iter_rest}
 use Rattle.integers.specs.Words.{equal}
 use Rattle.integers.proofs.equal.Given as goal
 
-abbrev pub invariant-loop-i : goal.invariant-loop-i
-invariant-loop-i l = (l.i ≤ length l.a) × (equal l.a l.b ≡ l.ok && equal (drop l.i l.a) (drop l.i l.b))
-
-abbrev pub decreases-loop-i : goal.decreases-loop-i
-decreases-loop-i l = length l.a - l.i
+abbrev pub invariant-loop-x : goal.invariant-loop-x
+invariant-loop-x l =
+    let a = iter_rest (zip_first l.x-iterator) in
+    let b = iter_rest (zip_second l.x-iterator) in
+    (length a ≡ length b) × (equal l.a l.b ≡ l.ok && equal a b)
