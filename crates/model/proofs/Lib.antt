@@ -1,4 +1,3 @@
 pub mod Turns
-pub mod Switch
-pub mod Cut
 pub mod Lengths
+pub mod Asked

@@ -4,6 +4,7 @@
 ghost use Rattle.std.specs.Prelude.{◌≡◌, ◌&&◌, ◌+◌, ◌*◌, ◌≤◌, ◌<◌, length, nat_abs};
 ghost use Rattle.std.specs.Int.Signed.{le_z};
 ghost use Rattle.integers.specs.Counted.{all_below};
+ghost use Rattle.integers.specs.Words as W;
 ghost use Rattle.plant.specs.Ask as S;
 ghost use Rattle.plant.specs.Model as M;
 ghost use Rattle.plant.specs.Refusals.{number, asked};
@@ -34,6 +35,7 @@ fn range_ok(lo: i64, hi: i64, least: i64, most: i64) -> bool
 }
 
 // Ordered, and in -most..most.
+#[tactic(auto, using(crate::proofs::Turns::all_none, crate::proofs::Turns::all_more), unfolding(plant::specs::Questions::box_ok, plant::specs::Box::low, plant::specs::Box::high))]
 pub fn box_ok(b: &[i32], n: usize, most: u32) -> bool
     requires { 2 * n ≤ length b.now }
     ensures { result ≡ Q.box_ok n most b.now }
@@ -48,6 +50,7 @@ pub fn box_ok(b: &[i32], n: usize, most: u32) -> bool
 }
 
 // Ordered, and inside the box c.
+#[tactic(auto, using(crate::proofs::Turns::all_none, crate::proofs::Turns::all_more), unfolding(plant::specs::Questions::inside_ok, plant::specs::Box::low, plant::specs::Box::high))]
 pub fn inside_ok(b: &[i32], c: &[i32], n: usize) -> bool
     requires { (2 * n ≤ length b.now) × (2 * n ≤ length c.now) }
     ensures { result ≡ Q.inside_ok n b.now c.now }
@@ -64,6 +67,7 @@ pub fn inside_ok(b: &[i32], c: &[i32], n: usize) -> bool
 }
 
 // The first k words are zeros.
+#[tactic(auto, using(crate::proofs::Turns::all_none, crate::proofs::Turns::all_more), unfolding(plant::specs::Questions::zeros_ok))]
 pub fn zeros_ok(s: &[i32], k: usize) -> bool
     requires { k ≤ length s.now }
     ensures { result ≡ Q.zeros_ok k s.now }
@@ -78,6 +82,7 @@ pub fn zeros_ok(s: &[i32], k: usize) -> bool
 // ---- the questions of a location
 
 // Start flag 0 and box zeros, or start flag 1 and box ordered, in range: it may stick out of the invariant.
+#[tactic(auto, using(crate::proofs::Lengths::places), unfolding(plant::specs::Questions::start_ok))]
 fn start_ok(model: &[i32], l: usize) -> bool
     requires { Whole model.now × (l < M.L# model.now) }
     ensures { result ≡ Q.start_ok model.now l }
@@ -89,6 +94,7 @@ fn start_ok(model: &[i32], l: usize) -> bool
     empty | ((flag == 1) & box_ok(start, n, LEVEL_LIMIT))
 }
 
+#[tactic(auto, using(plant::proofs::Refusing::refused_first, plant::proofs::Refusing::passed_first, crate::proofs::Lengths::places), unfolding(plant::specs::Questions::location_questions))]
 fn location_questions(model: &[i32], l: usize) -> Result<(), Refusal>
     requires { Whole model.now × (l < M.L# model.now) }
     ensures { asked result ≡ Q.location_questions model.now l }
@@ -107,15 +113,24 @@ fn location_questions(model: &[i32], l: usize) -> Result<(), Refusal>
 
 // ---- the questions of a switch
 
+// A word from lo to hi.
+fn word_within(s: &[i32], at: usize, lo: i64, hi: i64) -> bool
+    requires { at < length s.now }
+    ensures { result ≡ W.within lo hi (W.word s.now at) }
+{
+    integers::within(integers::word(s, at), lo, hi)
+}
+
 // A word that is a number below k.
 fn below_ok(s: &[i32], at: usize, k: usize) -> bool
     requires { (at < length s.now) × (1 ≤ k) × (k ≤ 1000) }
     ensures { result ≡ Q.below_ok s.now at k }
 {
-    integers::within(integers::word(s, at), 0, (k - 1) as i64)
+    word_within(s, at, 0, (k - 1) as i64)
 }
 
 // Locations, d and sides exist, mask 0 to 2^n - 1.
+#[tactic(auto, using(crate::proofs::Lengths::places, plant::proofs::Passing::masks_small), unfolding(plant::specs::Questions::places_ok))]
 fn places_ok(model: &[i32], e: usize) -> bool
     requires { Whole model.now × (e < M.E# model.now) }
     ensures { result ≡ Q.places_ok model.now e }
@@ -133,6 +148,7 @@ fn places_ok(model: &[i32], e: usize) -> bool
 }
 
 // Guard and reset box ordered, in range.
+#[tactic(auto, using(crate::proofs::Lengths::places), unfolding(plant::specs::Questions::boxes_ok))]
 fn boxes_ok(model: &[i32], e: usize) -> bool
     requires { Whole model.now × (e < M.E# model.now) }
     ensures { result ≡ Q.boxes_ok model.now e }
@@ -143,6 +159,7 @@ fn boxes_ok(model: &[i32], e: usize) -> bool
 }
 
 // The reset range of variable i single, if it is masked.
+#[tactic(auto, using(crate::proofs::Lengths::places), unfolding(plant::specs::Questions::single_at, plant::specs::Box::low, plant::specs::Box::high))]
 fn single_at(model: &[i32], e: usize, i: usize) -> bool
     requires { Numbered model.now e × (i < M.n# model.now) }
     ensures { result ≡ Q.single_at model.now e i }
@@ -153,6 +170,7 @@ fn single_at(model: &[i32], e: usize, i: usize) -> bool
 }
 
 // All masked reset ranges single.
+#[tactic(auto, using(crate::proofs::Turns::all_none, crate::proofs::Turns::all_more))]
 fn all_single(model: &[i32], e: usize) -> bool
     requires { Numbered model.now e }
     ensures { result ≡ all_below (M.n# model.now) (Q.single_at model.now e) }
@@ -166,11 +184,12 @@ fn all_single(model: &[i32], e: usize) -> bool
 }
 
 // Masked reset ranges single; edition 2 looks at d alone.
+#[tactic(auto, unfolding(plant::specs::Questions::single_ok))]
 fn single_ok(model: &[i32], e: usize) -> bool
     requires { Placed model.now e }
     ensures { result ≡ Q.single_ok model.now e }
 {
-    if integers::same(records::edition(model), 2) {
+    if records::edition(model) == 2 {
         single_at(model, e, records::wall_variable(model, e))
     } else {
         all_single(model, e)
@@ -178,6 +197,7 @@ fn single_ok(model: &[i32], e: usize) -> bool
 }
 
 // Guard of d equal to the source wall.
+#[tactic(auto, using(crate::proofs::Lengths::places), unfolding(plant::specs::Questions::guard_ok, plant::specs::Box::low, plant::specs::Box::high))]
 fn guard_ok(model: &[i32], e: usize) -> bool
     requires { Placed model.now e }
     ensures { result ≡ Q.guard_ok model.now e }
@@ -189,6 +209,7 @@ fn guard_ok(model: &[i32], e: usize) -> bool
 }
 
 // The level of d after the switch: its reset value, or the source wall if d is unmasked.
+#[tactic(auto, using(crate::proofs::Lengths::places), unfolding(plant::specs::Questions::level_after, plant::specs::Box::low, plant::specs::Box::high))]
 fn level_after(model: &[i32], e: usize) -> i32
     requires { Placed model.now e }
     ensures { result ≡ Q.level_after model.now e }
@@ -202,13 +223,15 @@ fn level_after(model: &[i32], e: usize) -> i32
 }
 
 // Target wall equal to it.
+#[tactic(auto, unfolding(plant::specs::Questions::lands_ok))]
 fn lands_ok(model: &[i32], e: usize) -> bool
     requires { Placed model.now e }
     ensures { result ≡ Q.lands_ok model.now e }
 {
-    integers::same(records::target_wall(model, e), level_after(model, e))
+    records::target_wall(model, e) == level_after(model, e)
 }
 
+#[tactic(auto, using(plant::proofs::Refusing::refused_first, plant::proofs::Refusing::passed_first), unfolding(plant::specs::Questions::switch_questions))]
 fn switch_questions(model: &[i32], e: usize) -> Result<(), Refusal>
     requires { Whole model.now × (e < M.E# model.now) }
     ensures { asked result ≡ Q.switch_questions model.now e }
@@ -223,6 +246,7 @@ fn switch_questions(model: &[i32], e: usize) -> Result<(), Refusal>
 // ---- the question of a forbidden box
 
 // Location exists, box ordered, in range?
+#[tactic(auto, using(crate::proofs::Lengths::places), unfolding(plant::specs::Questions::forbidden_question))]
 fn forbidden_question(model: &[i32], b: usize) -> Result<(), Refusal>
     requires { Whole model.now × (b < M.B# model.now) }
     ensures { asked result ≡ Q.forbidden_question model.now b }
@@ -242,6 +266,7 @@ fn forbidden_question(model: &[i32], b: usize) -> Result<(), Refusal>
 // ---- the question of a cut
 
 // Strictly between the low and the high of variable i of a box.
+#[tactic(auto, unfolding(plant::specs::Questions::strictly_inside, plant::specs::Box::low, plant::specs::Box::high))]
 fn strictly_inside(b: &[i32], i: usize, x: i32) -> bool
     requires { 2 * i + 1 < length b.now }
     ensures { result ≡ Q.strictly_inside b.now i x }
@@ -250,6 +275,7 @@ fn strictly_inside(b: &[i32], i: usize, x: i32) -> bool
 }
 
 // One of the variables, and a value strictly inside the invariant.
+#[tactic(auto, using(crate::proofs::Lengths::places, crate::proofs::Asked::variable_asked))]
 fn cut_inside(model: &[i32], l: usize) -> bool
     requires { Whole model.now × (l < M.L# model.now) }
     ensures { result ≡ (Q.below_ok model.now (M.cut_at model.now l) (M.n# model.now) && Q.strictly_inside (M.invariant model.now l) (nat_abs (M.cut_variable model.now l)) (M.cut_value model.now l)) }
@@ -257,18 +283,19 @@ fn cut_inside(model: &[i32], l: usize) -> bool
     if !below_ok(model, records::cut_at(model, l), records::variables(model)) {
         return false;
     }
-    let variable = integers::natural(records::cut_variable(model, l));
+    let variable = records::cut_variable(model, l).unsigned_abs() as usize;
     let value = records::cut_value(model, l);
     strictly_inside(records::invariant(model, l), variable, value)
 }
 
 // -1 and 0, or such a variable and value?
+#[tactic(auto, unfolding(plant::specs::Questions::cut_question, plant::specs::Questions::cut_ok))]
 fn cut_question(model: &[i32], l: usize) -> Result<(), Refusal>
     requires { Whole model.now × (l < M.L# model.now) }
     ensures { asked result ≡ Q.cut_question model.now l }
 {
-    let no_variable = integers::same(records::cut_variable(model, l), -1);
-    let no_value = integers::same(records::cut_value(model, l), 0);
+    let no_variable = records::cut_variable(model, l) == -1;
+    let no_value = records::cut_value(model, l) == 0;
     ask(
         (no_variable & no_value) | cut_inside(model, l),
         Refusal::CutPlace,
@@ -278,23 +305,20 @@ fn cut_question(model: &[i32], l: usize) -> Result<(), Refusal>
 // ---- the questions of a model
 
 // n, L, E and B allowed?
+#[tactic(auto, using(plant::proofs::Refusing::refused_first, plant::proofs::Refusing::passed_first), unfolding(plant::specs::Questions::ranges_questions))]
 pub fn ranges_questions(model: &[i32]) -> Result<(), Refusal>
     requires { M.head_size ≤ length model.now }
     ensures { asked result ≡ Q.ranges_questions model.now }
 {
-    let n = integers::word(model, 0);
-    let locations = integers::word(model, 1);
-    let switches = integers::word(model, 2);
-    let boxes = integers::word(model, 3);
-    ask(integers::within(n, 1, 6), Refusal::Variables)?;
-    ask(integers::within(locations, 1, 64), Refusal::Locations)?;
-    ask(
-        integers::within(switches, 0, 128) & integers::within(boxes, 0, 64),
-        Refusal::SwitchesAndBoxes,
-    )
+    ask(word_within(model, 0, 1, 6), Refusal::Variables)?;
+    ask(word_within(model, 1, 1, 64), Refusal::Locations)?;
+    let switches_ok = word_within(model, 2, 0, 128);
+    let boxes_ok = word_within(model, 3, 0, 64);
+    ask(switches_ok & boxes_ok, Refusal::SwitchesAndBoxes)
 }
 
 // The edition 1 or 2?
+#[tactic(auto, unfolding(plant::specs::Questions::edition_question))]
 fn edition_question(model: &[i32]) -> Result<(), Refusal>
     requires { Head model.now }
     ensures { asked result ≡ Q.edition_question model.now }
@@ -305,6 +329,7 @@ fn edition_question(model: &[i32]) -> Result<(), Refusal>
     )
 }
 
+#[tactic(auto, using(plant::proofs::Refusing::refused_at, plant::proofs::Refusing::passed_more, plant::proofs::Asks::first_none))]
 fn locations_questions(model: &[i32]) -> Result<(), Refusal>
     requires { Whole model.now }
     ensures { asked result ≡ S.first (M.L# model.now) (Q.location_questions model.now) }
@@ -315,6 +340,7 @@ fn locations_questions(model: &[i32]) -> Result<(), Refusal>
     Ok(())
 }
 
+#[tactic(auto, using(plant::proofs::Refusing::refused_at, plant::proofs::Refusing::passed_more, plant::proofs::Asks::first_none))]
 fn switches_questions(model: &[i32]) -> Result<(), Refusal>
     requires { Whole model.now }
     ensures { asked result ≡ S.first (M.E# model.now) (Q.switch_questions model.now) }
@@ -325,6 +351,7 @@ fn switches_questions(model: &[i32]) -> Result<(), Refusal>
     Ok(())
 }
 
+#[tactic(auto, using(plant::proofs::Refusing::refused_at, plant::proofs::Refusing::passed_more, plant::proofs::Asks::first_none))]
 fn forbidden_questions(model: &[i32]) -> Result<(), Refusal>
     requires { Whole model.now }
     ensures { asked result ≡ S.first (M.B# model.now) (Q.forbidden_question model.now) }
@@ -335,6 +362,7 @@ fn forbidden_questions(model: &[i32]) -> Result<(), Refusal>
     Ok(())
 }
 
+#[tactic(auto, using(plant::proofs::Refusing::refused_at, plant::proofs::Refusing::passed_more, plant::proofs::Asks::first_none))]
 fn cuts_questions(model: &[i32]) -> Result<(), Refusal>
     requires { Whole model.now }
     ensures { asked result ≡ S.first (M.L# model.now) (Q.cut_question model.now) }
@@ -346,6 +374,7 @@ fn cuts_questions(model: &[i32]) -> Result<(), Refusal>
 }
 
 // The questions of each record in turn, 11 to 19, then of each cut, 46.
+#[tactic(auto, using(plant::proofs::Refusing::refused_first, plant::proofs::Refusing::passed_first), unfolding(plant::specs::Questions::records_questions))]
 pub fn records_questions(model: &[i32]) -> Result<(), Refusal>
     requires { Whole model.now }
     ensures { asked result ≡ Q.records_questions model.now }
@@ -357,6 +386,7 @@ pub fn records_questions(model: &[i32]) -> Result<(), Refusal>
 }
 
 // The questions of a model's words, 2 to 5, 43, 11 to 19 and 46: the refusal of the first that is not yes.
+#[tactic(auto, using(plant::proofs::Refusing::refused_first, plant::proofs::Refusing::passed_first), unfolding(plant::specs::Questions::model_questions))]
 pub fn questions(model: &[i32]) -> Result<(), Refusal>
     ensures { asked result ≡ Q.model_questions model.now }
 {

@@ -1,11 +1,7 @@
 -- The flag is the test of the variables passed: the invariant is the definition itself, at i.
 use mathlib.Core.Path.{◌≡◌}
-use Prim.Native.Nat.{◌≤◌, ◌-◌}
 use Rattle.plant.specs.Questions.{box_ok}
 use Rattle.model.proofs.box_ok.Given as goal
 
 abbrev pub invariant-loop-i : goal.invariant-loop-i
-invariant-loop-i l = (l.i ≤ l.n) × (l.ok ≡ box_ok l.i l.most l.b)
-
-abbrev pub decreases-loop-i : goal.decreases-loop-i
-decreases-loop-i l = l.n - l.i
+invariant-loop-i l = l.ok ≡ box_ok l.i l.most l.b
