@@ -2,32 +2,27 @@
 use Rattle.std.specs.Prelude.{Option}
 use mathlib.Core.Path.{◌≡◌, refl, sym, ap, ap₂, ◌∙◌, subst}
 use mathlib.Core.Bool.{Bool, true, false, cond}
-use mathlib.Core.Logic.{⊎_elim}
 use mathlib.Core.List.{List, [], ◌++◌, append-nil}
 use Prim.Native.Nat.{ℕ, ◌+◌, ◌*◌, ◌-◌, ◌<◌, ◌≤◌}
 use native.Mathlib.Omega.{arith}
-use lib.Dec.{T}
-use lib.IntN.{ℤ, negsuc, nat_abs}
-use lib.Signed.{le_z, non_neg}
+use lib.IntN.{ℤ}
+use lib.Signed.{le_z}
 use lib.ListN.{length, take, drop, set, length-set, length-append, drop_of_length-le}
 use lib.Seq.{take_at, drop_at, take_all, set-append_left}
 use borrow.Author.Tests.{eq-eqb, ne_eqb}
 use borrow.Rule.Slice.PartMut.{put_mid}
 use Rattle.integers.specs.Rounding.{max_z, min_z}
-use Rattle.integers.specs.Words.{word, eq_z}
+use Rattle.integers.specs.Words.{word}
 use Rattle.integers.specs.Counted.{cat}
-use Rattle.integers.proofs.Tests.{true_is}
-use Rattle.integers.proofs.Counted.{eq_z_eq, eq_z_intro}
 use Rattle.plant.specs.Box.{low, high, Face, absent, present, face_words, join}
 use Rattle.plant.specs.declared.Cut.{Cut}
-use Rattle.plant.specs.Model.{uncut, cut_by, cut_from}
+use Rattle.plant.specs.Model.{uncut, cut_by}
 use Rattle.plant.specs.Pieces.{Extent, up_to_value, from_value, box_up_to, box_from, extent_by, cut_to_extent, pieces_per_face}
 use Rattle.plant.specs.Tables.{face_size, face_read}
 use Rattle.plant.proofs.Boxes.{length_face}
 use Rattle.plant.proofs.PieceCases.{extent_own_first, extent_own_second, extent_first, extent_second, cut_to_whole, cut_to_none}
-use Rattle.plant.proofs.PieceCases as C
 use Rattle.plant.proofs.PieceWords.{up_to_set, from-set, up_to_left, from-left}
-use Rattle.tables.specs.Room.{Joinable, IsFace, joined_with, face_in, AreFaces, joined_each, cut_each, Cuttable, PiecesJoinable}
+use Rattle.tables.specs.Room.{Joinable, IsFace, joined_with, face_in, AreFaces, joined_each, cut_each, Cuttable, CutBelow, PiecesJoinable}
 use Rattle.tables.proofs.Faces.{is_face, face_long, joined_words, nothing_joined}
 
 -- ---- a box with another word at a place, in a copy of it
@@ -154,42 +149,29 @@ module _ (n d v : ℕ) (x : ℤ) (from pieces : List ℤ) (are : AreFaces n 2 pi
 
 -- ---- to the pieces of a face in a location with a cut, or with none
 
-module _ (n d : ℕ) (variable value : ℤ) (from pieces : List ℤ) (ok : PiecesJoinable n variable value from pieces) where
+module _ (n d : ℕ) {cut : Option Cut} (from pieces : List ℤ) (ok : PiecesJoinable n cut from pieces) where
   -- with none
-  module _ (none : eq_z variable (negsuc 0) ≡ true) where
-    cut_is : cut_from variable value ≡ uncut
-    cut_is = C.from_none variable value (eq_z_eq variable (negsuc 0) (true_is none))
-
+  module _ (none : cut ≡ uncut) where
     one_face : IsFace n pieces
     unfolding cat pieces_per_face
-    one_face = ap (λ (k : ℕ). face_words n (face_read n pieces k)) (omega arith) ∙ subst (λ (c : Option Cut). AreFaces n (pieces_per_face c) pieces) cut_is ok.are_pieces
+    one_face = ap (λ (k : ℕ). face_words n (face_read n pieces k)) (omega arith) ∙ subst (λ (c : Option Cut). AreFaces n (pieces_per_face c) pieces) none ok.are_pieces
 
     pub one_joinable : Joinable n from pieces
     one_joinable = record { n_small = ok.n_small; box_there = omega (arith, ok.box_length); face_length = face_long n one_face }
 
-    pub one_joined : {exit : List ℤ} → exit ≡ joined_with n pieces (present from) → exit ≡ joined_each n (pieces_per_face (cut_from variable value)) pieces (cut_each n (cut_from variable value) d (present from))
+    pub one_joined : {exit : List ℤ} → exit ≡ joined_with n pieces (present from) → exit ≡ joined_each n (pieces_per_face cut) pieces (cut_each n cut d (present from))
     unfolding cat pieces_per_face extent_by cut_to_extent
-    one_joined e = e ∙ rw cut_is (ap (λ (k : ℕ). face_words n (join n (face_read n pieces k) (present from))) (omega arith))
+    one_joined e = e ∙ rw none (ap (λ (k : ℕ). face_words n (join n (face_read n pieces k) (present from))) (omega arith))
 
   -- with one
-  module _ (some : eq_z variable (negsuc 0) ≡ false) where
-    is_variable : T (non_neg variable) × (nat_abs variable < n)
-    is_variable = ⊎_elim (λ e. absurd (subst T some (eq_z_intro e))) (λ h. h) ok.words_of_cut
+  module _ {v : ℕ} {x : ℤ} (some : cut ≡ cut_by v x) where
+    pub both_cuttable : Cuttable n v from
+    both_cuttable = record { n_small = ok.n_small; box_length = ok.box_length; box_ordered = ok.box_ordered; variable = subst (CutBelow n) some ok.cut_below }
 
-    pub not_negative : T (non_neg variable)
-    not_negative = is_variable.0
+    pub are_both : AreFaces n 2 pieces
+    unfolding pieces_per_face
+    are_both = subst (λ (c : Option Cut). AreFaces n (pieces_per_face c) pieces) some ok.are_pieces
 
-    cut_at : cut_from variable value ≡ cut_by (nat_abs variable) value
-    cut_at = C.from_some variable value not_negative
-
-    module _ {v : ℕ} (v_is : v ≡ nat_abs variable) where
-      pub both_cuttable : Cuttable n v from
-      both_cuttable = record { n_small = ok.n_small; box_length = ok.box_length; box_ordered = ok.box_ordered; variable = omega (arith, v_is, is_variable.1) }
-
-      pub are_both : AreFaces n 2 pieces
-      unfolding pieces_per_face
-      are_both = subst (λ (c : Option Cut). AreFaces n (pieces_per_face c) pieces) cut_at ok.are_pieces
-
-      pub two_joined : {exit : List ℤ} → exit ≡ joined_each n 2 pieces (cut_each n (cut_by v value) d (present from)) → exit ≡ joined_each n (pieces_per_face (cut_from variable value)) pieces (cut_each n (cut_from variable value) d (present from))
-      unfolding pieces_per_face
-      two_joined e = e ∙ rw (cut_at, v_is) refl
+    pub two_joined : {exit : List ℤ} → exit ≡ joined_each n 2 pieces (cut_each n (cut_by v x) d (present from)) → exit ≡ joined_each n (pieces_per_face cut) pieces (cut_each n cut d (present from))
+    unfolding pieces_per_face
+    two_joined e = e ∙ rw some refl
