@@ -11,7 +11,9 @@ use lib.ListN.{length, take, drop, set, length-set, length-append, drop_of_lengt
 use lib.Seq.{take_at, drop_at, take_all, set-append_left}
 use borrow.Author.Tests.{eq-eqb, ne_eqb}
 use borrow.Rule.Slice.PartMut.{put_mid}
+use Rattle.std.specs.Int.{int_max, int_min}
 use Rattle.integers.specs.Rounding.{max_z, min_z}
+use Rattle.integers.proofs.Library.{max_is, min_is}
 use Rattle.integers.specs.Words.{word}
 use Rattle.integers.specs.Counted.{cat}
 use Rattle.plant.specs.Box.{low, high, Face, absent, present, face_words, join}
@@ -31,20 +33,12 @@ pub one_changed : (n at : ℕ) (z : ℤ) (from copy rest : List ℤ) → copy �
 one_changed n at z from copy rest e l u =
     rw e (ap (take (2 * n)) (set-append_left from rest at z (omega arith)) ∙ take_at (set from at z) rest (2 * n) (length-set from at z ∙ l))
 
--- in it there is room for the box, to be joined
-module _ (n at : ℕ) (z : ℤ) (from copy rest : List ℤ) (e : copy ≡ from) (l : length from ≡ 2 * n) where
-  pub copy_long : 2 * n ≤ length (set (copy ++ rest) at z)
-  copy_long = omega (arith, length-set (copy ++ rest) at z, length-append copy rest, ap length e)
-
-  pub changed_long : at < 2 * n → 2 * n ≡ length (take (2 * n) (set (copy ++ rest) at z))
-  changed_long u = sym (ap length (one_changed n at z from copy rest e l u) ∙ length-set from at z ∙ l)
-
-  pub changed_joinable : at < 2 * n → (piece : List ℤ) → Joinable n from piece → Joinable n (take (2 * n) (set (copy ++ rest) at z)) piece
-  changed_joinable u piece j = record { n_small = j.n_small; box_there = omega (arith, changed_long u); face_length = j.face_length }
-
 -- ---- what a box has up to a value of variable v, and from it: a word, after a test
 
 module _ (n v : ℕ) (x : ℤ) (from : List ℤ) (ok : Cuttable n v from) where
+  pub part_joinable : (piece : List ℤ) → IsFace n piece → Joinable n from piece
+  part_joinable piece f = record { n_small = ok.n_small; box_there = omega (arith, ok.box_length); face_length = face_long n f }
+
   up_to_is : le_z (word from (2 * v)) x ≡ true → cut_to_extent n (up_to_value v x) from ≡ present (set from (2 * v + 1) (min_z (word from (2 * v + 1)) x))
   unfolding low high
   up_to_is e =
@@ -68,14 +62,14 @@ module _ (n v : ℕ) (x : ℤ) (from : List ℤ) (ok : Cuttable n v from) where
   from_empty e = from-left n v x from ok.variable ok.box_ordered ∙ ap (λ (t : Bool). cond t (present (box_from n v x from)) absent) e
 
   module _ (piece : List ℤ) where
-    pub up_to_joined : le_z (word from (2 * v)) x ≡ true → {z : ℤ} → z ≡ min_z (word from (2 * v + 1)) x → {exit : List ℤ} → exit ≡ joined_with n piece (present (set from (2 * v + 1) z)) → exit ≡ joined_with n piece (cut_to_extent n (up_to_value v x) from)
-    up_to_joined e h k = k ∙ ap (λ (z : ℤ). joined_with n piece (present (set from (2 * v + 1) z))) h ∙ ap (joined_with n piece) (sym (up_to_is e))
+    pub up_to_joined : le_z (word from (2 * v)) x ≡ true → {z : ℤ} → z ≡ int_min (word from (2 * v + 1)) x → {exit : List ℤ} → exit ≡ joined_with n piece (present (set from (2 * v + 1) z)) → exit ≡ joined_with n piece (cut_to_extent n (up_to_value v x) from)
+    up_to_joined e h k = k ∙ ap (λ (z : ℤ). joined_with n piece (present (set from (2 * v + 1) z))) (h ∙ min_is _ x) ∙ ap (joined_with n piece) (sym (up_to_is e))
 
     pub up_to_none : le_z (word from (2 * v)) x ≡ false → IsFace n piece → piece ≡ joined_with n piece (cut_to_extent n (up_to_value v x) from)
     up_to_none e f = nothing_joined n (cut_to_extent n (up_to_value v x) from) f (up_to_empty e)
 
-    pub from_joined : le_z x (word from (2 * v + 1)) ≡ true → {z : ℤ} → z ≡ max_z (word from (2 * v)) x → {exit : List ℤ} → exit ≡ joined_with n piece (present (set from (2 * v) z)) → exit ≡ joined_with n piece (cut_to_extent n (from_value v x) from)
-    from_joined e h k = k ∙ ap (λ (z : ℤ). joined_with n piece (present (set from (2 * v) z))) h ∙ ap (joined_with n piece) (sym (from_is e))
+    pub from_joined : le_z x (word from (2 * v + 1)) ≡ true → {z : ℤ} → z ≡ int_max (word from (2 * v)) x → {exit : List ℤ} → exit ≡ joined_with n piece (present (set from (2 * v) z)) → exit ≡ joined_with n piece (cut_to_extent n (from_value v x) from)
+    from_joined e h k = k ∙ ap (λ (z : ℤ). joined_with n piece (present (set from (2 * v) z))) (h ∙ max_is _ x) ∙ ap (joined_with n piece) (sym (from_is e))
 
     pub from_none : le_z x (word from (2 * v + 1)) ≡ false → IsFace n piece → piece ≡ joined_with n piece (cut_to_extent n (from_value v x) from)
     from_none e f = nothing_joined n (cut_to_extent n (from_value v x) from) f (from_empty e)
