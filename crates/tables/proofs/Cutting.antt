@@ -74,7 +74,7 @@ module _ (n v : ℕ) (x : ℤ) (from : List ℤ) (ok : Cuttable n v from) where
     pub from_none : le_z x (word from (2 * v + 1)) ≡ false → IsFace n piece → piece ≡ joined_with n piece (cut_to_extent n (from_value v x) from)
     from_none e f = nothing_joined n (cut_to_extent n (from_value v x) from) f (from_empty e)
 
--- ---- two pieces, the first of k words
+-- ---- two pieces, each of k words
 
 module _ (n : ℕ) (pieces : List ℤ) (are : AreFaces n 2 pieces) {k : ℕ} (k-is : k ≡ face_size n) where
   abbrev piece : ℕ → List ℤ
@@ -87,59 +87,42 @@ module _ (n : ℕ) (pieces : List ℤ) (are : AreFaces n 2 pieces) {k : ℕ} (k-
   pub two_long : length pieces ≡ 2 * k
   two_long = omega (arith, ap length two, length-append (piece 0) (piece 1), length_face n (face_in n pieces 0), length_face n (face_in n pieces 1))
 
-  first_words : take k pieces ≡ piece 0
-  first_words = ap (take k) (sym two) ∙ take_at (piece 0) (piece 1) k (length_face n (face_in n pieces 0) ∙ sym k-is)
+  module _ {first second : List ℤ} (front : first ≡ take k pieces) (back : second ≡ drop k pieces) where
+    first_words : first ≡ piece 0
+    first_words = front ∙ ap (take k) (sym two) ∙ take_at (piece 0) (piece 1) k (length_face n (face_in n pieces 0) ∙ sym k-is)
 
-  second_words : drop k pieces ≡ piece 1
-  second_words = ap (drop k) (sym two) ∙ drop_at (piece 0) (piece 1) k (length_face n (face_in n pieces 0) ∙ sym k-is)
+    second_words : second ≡ piece 1
+    second_words = back ∙ ap (drop k) (sym two) ∙ drop_at (piece 0) (piece 1) k (length_face n (face_in n pieces 0) ∙ sym k-is)
 
-  pub first_is_face : IsFace n (take k pieces)
-  first_is_face = is_face n (face_in n pieces 0) first_words
+    pub first_is_face : IsFace n first
+    first_is_face = is_face n (face_in n pieces 0) first_words
 
-  pub second_is_face : IsFace n (drop k pieces)
-  second_is_face = is_face n (face_in n pieces 1) second_words
+    pub second_is_face : IsFace n second
+    second_is_face = is_face n (face_in n pieces 1) second_words
 
-  -- each joined with its own
-  pub both_joined : (h : ℕ → Face) {a b : List ℤ} → a ≡ joined_with n (take k pieces) (h 0) → b ≡ joined_with n (drop k pieces) (h 1) → a ++ b ≡ joined_each n 2 pieces h
-  unfolding cat
-  both_joined h e f = ap₂ (λ (a b : List ℤ). a ++ b) (e ∙ joined_words n (face_in n pieces 0) (h 0) first_words) (f ∙ joined_words n (face_in n pieces 1) (h 1) second_words)
+    -- each joined with its own
+    both_joined : (h : ℕ → Face) {a b : List ℤ} → a ≡ joined_with n first (h 0) → b ≡ joined_with n second (h 1) → a ++ b ≡ joined_each n 2 pieces h
+    unfolding cat
+    both_joined h e f = ap₂ (λ (a b : List ℤ). a ++ b) (e ∙ joined_words n (face_in n pieces 0) (h 0) first_words) (f ∙ joined_words n (face_in n pieces 1) (h 1) second_words)
 
-  -- the second behind the first that was joined
-  module _ (a : List ℤ) (long : length a ≡ k) where
-    pub behind_long : 2 * k ≤ length (a ++ drop k pieces)
-    behind_long = omega (arith, length-append a (drop k pieces), long, ap length second_words, length_face n (face_in n pieces 1), k-is)
+    -- a box is joined to them as pieces of a face of wall variable d, cut at the value x of variable v
+    module _ (d v : ℕ) (x : ℤ) (from : List ℤ) where
+      abbrev each : ℕ → Face
+      each = cut_each n (cut_by v x) d (present from)
 
-    pub behind_first : take (2 * k - k) (drop k (a ++ drop k pieces)) ≡ drop k pieces
-    behind_first = ap (take (2 * k - k)) (drop_at a (drop k pieces) k long) ∙ take_all (2 * k - k) (drop k pieces) (omega (arith, ap length second_words, length_face n (face_in n pieces 1)))
+      -- on the walls of v
+      pub own_joined : v ≡ d → {a : List ℤ} → a ≡ joined_with n first (present from) → a ++ second ≡ joined_each n 2 pieces each
+      own_joined u e =
+          both_joined each
+          (e ∙ ap (joined_with n first) (sym (ap (λ (s : Extent). cut_to_extent n s from) (extent_own_first v x d (eq-eqb v d u)) ∙ cut_to_whole n from)))
+          (nothing_joined n (each 1) second_is_face (ap (λ (s : Extent). cut_to_extent n s from) (extent_own_second v x d (eq-eqb v d u)) ∙ cut_to_none n from))
 
-    pub behind_put : (b : List ℤ) → put_mid k (2 * k - k) (a ++ drop k pieces) b ≡ a ++ b
-    behind_put b =
-        ap₂ (λ (x y : List ℤ). x ++ (b ++ y)) (take_at a (drop k pieces) k long)
-        (ap (drop (2 * k - k)) (drop_at a (drop k pieces) k long) ∙ none)
-        ∙ ap (λ (y : List ℤ). a ++ y) (append-nil b)
-      where
-        none : drop (2 * k - k) (drop k pieces) ≡ []
-        none = drop_of_length-le (drop k pieces) {i = 2 * k - k} (omega (arith, ap length second_words, length_face n (face_in n pieces 1)))
-
--- ---- a box joined to the two pieces of a face of wall variable d, cut at the value x of variable v
-
-module _ (n d v : ℕ) (x : ℤ) (from pieces : List ℤ) (are : AreFaces n 2 pieces) {k : ℕ} (k-is : k ≡ face_size n) where
-  abbrev each : ℕ → Face
-  each = cut_each n (cut_by v x) d (present from)
-
-  -- on the walls of v
-  pub own_joined : v ≡ d → (a : List ℤ) → a ≡ joined_with n (take k pieces) (present from) → a ++ drop k pieces ≡ joined_each n 2 pieces each
-  own_joined u a e =
-      both_joined n pieces are k-is each
-      (e ∙ ap (joined_with n (take k pieces)) (sym (ap (λ (s : Extent). cut_to_extent n s from) (extent_own_first v x d (eq-eqb v d u)) ∙ cut_to_whole n from)))
-      (nothing_joined n (each 1) (second_is_face n pieces are k-is) (ap (λ (s : Extent). cut_to_extent n s from) (extent_own_second v x d (eq-eqb v d u)) ∙ cut_to_none n from))
-
-  -- on any other
-  pub other_joined : (v ≡ d → ⊥) → (a b : List ℤ) → a ≡ joined_with n (take k pieces) (cut_to_extent n (up_to_value v x) from) → b ≡ joined_with n (drop k pieces) (cut_to_extent n (from_value v x) from) → a ++ b ≡ joined_each n 2 pieces each
-  other_joined u a b e f =
-      both_joined n pieces are k-is each
-      (e ∙ ap (λ (s : Extent). joined_with n (take k pieces) (cut_to_extent n s from)) (sym (extent_first v x d (ne_eqb v d u))))
-      (f ∙ ap (λ (s : Extent). joined_with n (drop k pieces) (cut_to_extent n s from)) (sym (extent_second v x d (ne_eqb v d u))))
+      -- on any other
+      pub other_joined : (v ≡ d → ⊥) → {a b : List ℤ} → a ≡ joined_with n first (cut_to_extent n (up_to_value v x) from) → b ≡ joined_with n second (cut_to_extent n (from_value v x) from) → a ++ b ≡ joined_each n 2 pieces each
+      other_joined u e f =
+          both_joined each
+          (e ∙ ap (λ (s : Extent). joined_with n first (cut_to_extent n s from)) (sym (extent_first v x d (ne_eqb v d u))))
+          (f ∙ ap (λ (s : Extent). joined_with n second (cut_to_extent n s from)) (sym (extent_second v x d (ne_eqb v d u))))
 
 -- ---- to the pieces of a face in a location with a cut, or with none
 

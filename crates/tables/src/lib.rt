@@ -210,13 +210,12 @@ fn join_both(n: usize, d: usize, cut: Cut, from: &[i32], pieces: &mut [i32])
     requires { Cuttable n cut.variable from.now × AreFaces n 2 pieces.old }
     ensures { pieces.new ≡ joined_each n 2 pieces.old (cut_each n (Some cut) d (present from.now)) }
 {
-    let size = face_size(n);
-    let end = 2 * size;
+    let (first, second) = pieces.split_at_mut(face_size(n));
     if cut.variable == d {
-        join(n, from, &mut pieces[..size]);
+        join(n, from, first);
     } else {
-        join_up_to(n, cut, from, &mut pieces[..size]);
-        join_from(n, cut, from, &mut pieces[size..end]);
+        join_up_to(n, cut, from, first);
+        join_from(n, cut, from, second);
     }
 }
 
