@@ -2,15 +2,14 @@
 use Rattle.std.specs.Prelude.{Option}
 use mathlib.Core.Path.{◌≡◌, refl, sym, ap, ap₂, ◌∙◌, subst}
 use mathlib.Core.Bool.{Bool, true, false, cond}
-use mathlib.Core.List.{List, [], ◌++◌, append-nil}
-use Prim.Native.Nat.{ℕ, ◌+◌, ◌*◌, ◌-◌, ◌<◌, ◌≤◌}
+use mathlib.Core.List.{List, ◌++◌}
+use Prim.Native.Nat.{ℕ, ◌+◌, ◌*◌, ◌<◌}
 use native.Mathlib.Omega.{arith}
 use lib.IntN.{ℤ}
 use lib.Signed.{le_z}
-use lib.ListN.{length, take, drop, set, length-set, length-append, drop_of_length-le}
-use lib.Seq.{take_at, drop_at, take_all, set-append_left}
+use lib.ListN.{length, take, drop, set, length-set, length-append}
+use lib.Seq.{take_at, drop_at, set-append_left}
 use borrow.Author.Tests.{eq-eqb, ne_eqb}
-use borrow.Rule.Slice.PartMut.{put_mid}
 use Rattle.std.specs.Int.{int_max, int_min}
 use Rattle.integers.specs.Rounding.{max_z, min_z}
 use Rattle.integers.proofs.Library.{max_is, min_is}

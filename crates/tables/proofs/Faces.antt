@@ -5,20 +5,17 @@ use mathlib.Core.Bool.{true, false, cond}
 use mathlib.Core.List.{List, [], ◌∷◌, ◌++◌, append-nil}
 use Prim.Native.Nat.{ℕ, ◌+◌, ◌*◌, ◌-◌, ◌<◌, ◌≤◌}
 use native.Mathlib.Nat.{mul-le-mul}
-use native.Mathlib.Numerals.{add-one}
 use native.Mathlib.Omega.{arith}
 use lib.IntN.{ℤ, pos}
-use lib.Signed.{mag, lt_z}
 use lib.ListN.{length, drop, take, set, get_or-replicate, drop_of_length-le}
 use borrow.Rule.Slice.PartMut.{put_mid}
 use Rattle.std.specs.Int.{int_max, int_min}
 use Rattle.integers.proofs.Library.{max_is, min_is}
-use lib.Seq.{get_or-set_other, get_or-append-add, get_or-drop, take-suc, take_all, length-take-le, lt-length-set, get_or-set_same}
+use lib.Seq.{get_or-set_other, get_or-append-add, get_or-drop, take_all}
 use Rattle.integers.specs.Words.{word, eq_z, onto}
 use Rattle.integers.specs.Counted.{cat}
 use Rattle.integers.specs.Rounding.{max_z, min_z}
-use Rattle.integers.proofs.Signed.{cond_case}
-use Rattle.integers.proofs.Buffers.{onto-set, onto_two, onto_all, cat_more}
+use Rattle.integers.proofs.Buffers.{onto_two, onto_all, cat_more}
 use Rattle.plant.specs.Box.{low, high, box_by, box_at, hull, Face, absent, present, face_words, join}
 use Rattle.plant.specs.Tables.{words_per_location, face_size, table_size, face_read}
 use Rattle.plant.proofs.Boxes.{low-box_by, high-box_by, length-box_by, box_ext, low-box_at, high-box_at, length-box_at, box_ends, length_face, length-hull}

@@ -11,7 +11,7 @@ use lib.Seq.{get_or-set_same, get_or-set_other}
 use Rattle.integers.specs.Counted.{sum_below}
 use Rattle.integers.proofs.Counted.{split, sum_times, sum_ext, sum_le, sum_same}
 use Rattle.plant.specs.Model.{n#, L#}
-use Rattle.plant.specs.Pieces.{pieces_per_face, per_face, pieces}
+use Rattle.plant.specs.Pieces.{per_face, pieces}
 use Rattle.plant.specs.Tables.{words_per_location, face_size, pieces_before, piece_count, table_size}
 use Rattle.plant.proofs.Pieces.{per_face_most}
 use Rattle.plant.proofs.PieceCases.{before_none}

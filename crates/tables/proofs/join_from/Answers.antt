@@ -1,5 +1,5 @@
 -- The low of v becomes the larger of itself and the value; where the high of v is below the value nothing is left.
-use Rattle.std.proofs.Common.{◌≡◌, arith, rules}
+use Rattle.std.proofs.Common.{arith, rules}
 use Rattle.integers.proofs.Signed.{got32}
 use Rattle.tables.proofs.Cutting.{part_joinable, from_joined, from_none}
 use Rattle.tables.proofs.join_from.Goals as goal

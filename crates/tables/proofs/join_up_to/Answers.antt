@@ -1,5 +1,5 @@
 -- The high of v becomes the smaller of itself and the value; where the low of v is above the value nothing is left.
-use Rattle.std.proofs.Common.{◌≡◌, arith, rules}
+use Rattle.std.proofs.Common.{arith, rules}
 use Rattle.integers.proofs.Signed.{got32}
 use Rattle.tables.proofs.Cutting.{part_joinable, up_to_joined, up_to_none}
 use Rattle.tables.proofs.join_up_to.Goals as goal
