@@ -7,6 +7,7 @@ use Prim.Native.Nat.{ℕ, ◌+◌, ◌*◌, ◌-◌, ◌<◌, ◌≤◌}
 use native.Mathlib.Nat.{mul-le-mul}
 use native.Mathlib.Omega.{arith}
 use lib.IntN.{ℤ, pos}
+use lib.Signed.{mag, lt_z}
 use lib.ListN.{length, drop, take, set, get_or-replicate, drop_of_length-le}
 use borrow.Rule.Slice.PartMut.{put_mid}
 use Rattle.std.specs.Int.{int_max, int_min}
@@ -15,6 +16,7 @@ use lib.Seq.{get_or-set_other, get_or-append-add, get_or-drop, take_all}
 use Rattle.integers.specs.Words.{word, eq_z, onto}
 use Rattle.integers.specs.Counted.{cat}
 use Rattle.integers.specs.Rounding.{max_z, min_z}
+use Rattle.integers.proofs.Signed.{cond_case}
 use Rattle.integers.proofs.Buffers.{onto_two, onto_all, cat_more}
 use Rattle.plant.specs.Box.{low, high, box_by, box_at, hull, Face, absent, present, face_words, join}
 use Rattle.plant.specs.Tables.{words_per_location, face_size, table_size, face_read}
@@ -61,6 +63,15 @@ placed n from (x ∷ xs) box e h k =
 
 -- ---- a present face is widened
 
+-- the smaller and the larger of two words are words
+pub min_small : (x y : ℤ) → mag x < 2147483648 → mag y < 2147483648 → mag (min_z x y) < 2147483648
+unfolding min_z
+min_small x y p q = cond_case (lt_z x y) x y (λ z. mag z < 2147483648) (λ _. p) (λ _. q)
+
+pub max_small : (x y : ℤ) → mag x < 2147483648 → mag y < 2147483648 → mag (max_z x y) < 2147483648
+unfolding max_z
+max_small x y p q = cond_case (lt_z x y) y x (λ z. mag z < 2147483648) (λ _. q) (λ _. p)
+
 pub widen_start : (a b d : List ℤ) → 0 < length d → word d 0 ≡ pos 1 → d ≡ onto (pos 1 ∷ hull 0 a b) d
 unfolding hull box_by cat
 widen_start a b d h e = flagged d h e
@@ -79,16 +90,21 @@ module _ (n : ℕ) (b d face : List ℤ) (i : ℕ) (l : i < n) (e : face ≡ ont
   old_high : word face (2 * i + 2) ≡ high (box_at n d 1) i
   old_high = ap (λ (s : List ℤ). word s (2 * i + 2)) e ∙ word-onto (pos 1 ∷ hull i (box_at n d 1) b) d (2 * i + 2) (omega (arith, filled)) ∙ ap (word d) (omega arith) ∙ sym (high-box_at n d 1 i l)
 
-  pub widen_turn : (x y : ℤ) → x ≡ int_min (word face (2 * i + 1)) (word b (2 * i)) → y ≡ int_max (word (set face (2 * i + 1) x) (2 * i + 2)) (word b (2 * i + 1)) → set (set face (2 * i + 1) x) (2 * i + 2) y ≡ onto (pos 1 ∷ hull (i + 1) (box_at n d 1) b) d
+  pub widen_turn : (x y : ℤ) → x ≡ min_z (word face (2 * i + 1)) (word b (2 * i)) → y ≡ max_z (word face (2 * i + 2)) (word b (2 * i + 1)) → set (set face (2 * i + 1) x) (2 * i + 2) y ≡ onto (pos 1 ∷ hull (i + 1) (box_at n d 1) b) d
   unfolding low high
   widen_turn x y p q =
       ap (λ (s : List ℤ). set (set s (2 * i + 1) x) (2 * i + 2) y) e
       ∙ ap (λ (k : ℕ). set (set (onto (pos 1 ∷ hull i (box_at n d 1) b) d) (2 * i + 1) x) k y) (omega arith)
       ∙ onto_two (pos 1 ∷ hull i (box_at n d 1) b) d (2 * i + 1) x y filled (omega arith)
       ∙ ap₂ (λ (u v : ℤ). onto (pos 1 ∷ (hull i (box_at n d 1) b ++ (u ∷ v ∷ []))) d)
-      (p ∙ min_is _ _ ∙ ap (λ (z : ℤ). min_z z (word b (2 * i))) old_low)
-      (q ∙ max_is _ _ ∙ ap (λ (z : ℤ). max_z z (word b (2 * i + 1))) (get_or-set_other face (2 * i + 1) (2 * i + 2) x (pos 0) (λ w. omega arith) ∙ old_high))
+      (p ∙ ap (λ (z : ℤ). min_z z (word b (2 * i))) old_low) (q ∙ ap (λ (z : ℤ). max_z z (word b (2 * i + 1))) old_high)
       ∙ ap (λ (s : List ℤ). onto (pos 1 ∷ s) d) (sym (hull_more i (box_at n d 1) b))
+
+  -- by the library's methods, the high read once the low is written
+  pub widen_words : (x y : ℤ) → x ≡ int_min (word face (2 * i + 1)) (word b (2 * i)) → y ≡ int_max (word (set face (2 * i + 1) x) (2 * i + 2)) (word b (2 * i + 1)) → set (set face (2 * i + 1) x) (2 * i + 2) y ≡ onto (pos 1 ∷ hull (i + 1) (box_at n d 1) b) d
+  widen_words x y p q =
+      widen_turn x y (p ∙ min_is _ _)
+      (q ∙ max_is _ _ ∙ ap (λ (z : ℤ). max_z z (word b (2 * i + 1))) (get_or-set_other face (2 * i + 1) (2 * i + 2) x (pos 0) (λ w. omega arith)))
 
 pub widen_end : (n : ℕ) (a b d face : List ℤ) → face ≡ onto (pos 1 ∷ hull n a b) d → length d ≡ 1 + 2 * n → face ≡ face_words n (present (hull n a b))
 unfolding face_words

@@ -2,7 +2,7 @@
 use Rattle.std.proofs.Common.{◌≡◌, arith, rules}
 use Rattle.integers.proofs.Signed.{got32}
 use Rattle.plant.specs.Box.{box_at}
-use Rattle.tables.proofs.Faces.{widen_start, widen_turn, widen_end}
+use Rattle.tables.proofs.Faces.{widen_start, widen_words, widen_end}
 use Rattle.tables.proofs.widen.Goals as goal
 
 pub loop-i-init : goal.loop-i-init
@@ -13,7 +13,7 @@ loop-i-preserved c =
     let a = c.args in
     let l = c.loop-i in
     rw (got32 c.min.result c.min.type_inv, got32 c.max.result c.max.type_inv)
-    (widen_turn a.n a.from.now a.face.now l.face l.i (omega arith) l.invariant (omega arith) c.min.result c.max.result (search rules) (search rules))
+    (widen_words a.n a.from.now a.face.now l.face l.i (omega arith) l.invariant (omega arith) c.min.result c.max.result (search rules) (search rules))
 
 pub returns : goal.returns
 returns c =
