@@ -2,32 +2,28 @@
 use Rattle.std.specs.Prelude.{Option}
 use mathlib.Core.Path.{◌≡◌, refl, sym, ap, ap₂, ◌∙◌, subst}
 use mathlib.Core.Bool.{Bool, true, false, cond}
-use mathlib.Core.Logic.{⊎_elim}
-use mathlib.Core.List.{List, [], ◌++◌, append-nil}
-use Prim.Native.Nat.{ℕ, ◌+◌, ◌*◌, ◌-◌, ◌<◌, ◌≤◌}
+use mathlib.Core.List.{List, ◌++◌}
+use Prim.Native.Nat.{ℕ, ◌+◌, ◌*◌, ◌<◌}
 use native.Mathlib.Omega.{arith}
-use lib.Dec.{T}
-use lib.IntN.{ℤ, negsuc, nat_abs}
-use lib.Signed.{le_z, non_neg}
-use lib.ListN.{length, take, drop, set, length-set, length-append, drop_of_length-le}
-use lib.Seq.{take_at, drop_at, take_all, set-append_left}
+use lib.IntN.{ℤ}
+use lib.Signed.{le_z}
+use lib.ListN.{length, take, drop, set, length-set, length-append}
+use lib.Seq.{take_at, drop_at, set-append_left}
 use borrow.Author.Tests.{eq-eqb, ne_eqb}
-use borrow.Rule.Slice.PartMut.{put_mid}
+use Rattle.std.specs.Int.{int_max, int_min}
 use Rattle.integers.specs.Rounding.{max_z, min_z}
-use Rattle.integers.specs.Words.{word, eq_z}
+use Rattle.integers.proofs.Library.{max_is, min_is}
+use Rattle.integers.specs.Words.{word}
 use Rattle.integers.specs.Counted.{cat}
-use Rattle.integers.proofs.Tests.{true_is}
-use Rattle.integers.proofs.Counted.{eq_z_eq, eq_z_intro}
 use Rattle.plant.specs.Box.{low, high, Face, absent, present, face_words, join}
 use Rattle.plant.specs.declared.Cut.{Cut}
-use Rattle.plant.specs.Model.{uncut, cut_by, cut_from}
+use Rattle.plant.specs.Model.{uncut, cut_by}
 use Rattle.plant.specs.Pieces.{Extent, up_to_value, from_value, box_up_to, box_from, extent_by, cut_to_extent, pieces_per_face}
 use Rattle.plant.specs.Tables.{face_size, face_read}
 use Rattle.plant.proofs.Boxes.{length_face}
 use Rattle.plant.proofs.PieceCases.{extent_own_first, extent_own_second, extent_first, extent_second, cut_to_whole, cut_to_none}
-use Rattle.plant.proofs.PieceCases as C
 use Rattle.plant.proofs.PieceWords.{up_to_set, from-set, up_to_left, from-left}
-use Rattle.tables.specs.Room.{Joinable, IsFace, joined_with, face_in, AreFaces, joined_each, cut_each, Cuttable, PiecesJoinable}
+use Rattle.tables.specs.Room.{Joinable, IsFace, joined_with, face_in, AreFaces, joined_each, cut_each, Cuttable, CutBelow, PiecesJoinable}
 use Rattle.tables.proofs.Faces.{is_face, face_long, joined_words, nothing_joined}
 
 -- ---- a box with another word at a place, in a copy of it
@@ -36,20 +32,12 @@ pub one_changed : (n at : ℕ) (z : ℤ) (from copy rest : List ℤ) → copy �
 one_changed n at z from copy rest e l u =
     rw e (ap (take (2 * n)) (set-append_left from rest at z (omega arith)) ∙ take_at (set from at z) rest (2 * n) (length-set from at z ∙ l))
 
--- in it there is room for the box, to be joined
-module _ (n at : ℕ) (z : ℤ) (from copy rest : List ℤ) (e : copy ≡ from) (l : length from ≡ 2 * n) where
-  pub copy_long : 2 * n ≤ length (set (copy ++ rest) at z)
-  copy_long = omega (arith, length-set (copy ++ rest) at z, length-append copy rest, ap length e)
-
-  pub changed_long : at < 2 * n → 2 * n ≡ length (take (2 * n) (set (copy ++ rest) at z))
-  changed_long u = sym (ap length (one_changed n at z from copy rest e l u) ∙ length-set from at z ∙ l)
-
-  pub changed_joinable : at < 2 * n → (piece : List ℤ) → Joinable n from piece → Joinable n (take (2 * n) (set (copy ++ rest) at z)) piece
-  changed_joinable u piece j = record { n_small = j.n_small; box_there = omega (arith, changed_long u); face_length = j.face_length }
-
 -- ---- what a box has up to a value of variable v, and from it: a word, after a test
 
 module _ (n v : ℕ) (x : ℤ) (from : List ℤ) (ok : Cuttable n v from) where
+  pub part_joinable : (piece : List ℤ) → IsFace n piece → Joinable n from piece
+  part_joinable piece f = record { n_small = ok.n_small; box_there = omega (arith, ok.box_length); face_length = face_long n f }
+
   up_to_is : le_z (word from (2 * v)) x ≡ true → cut_to_extent n (up_to_value v x) from ≡ present (set from (2 * v + 1) (min_z (word from (2 * v + 1)) x))
   unfolding low high
   up_to_is e =
@@ -73,19 +61,19 @@ module _ (n v : ℕ) (x : ℤ) (from : List ℤ) (ok : Cuttable n v from) where
   from_empty e = from-left n v x from ok.variable ok.box_ordered ∙ ap (λ (t : Bool). cond t (present (box_from n v x from)) absent) e
 
   module _ (piece : List ℤ) where
-    pub up_to_joined : le_z (word from (2 * v)) x ≡ true → {z : ℤ} → z ≡ min_z (word from (2 * v + 1)) x → {exit : List ℤ} → exit ≡ joined_with n piece (present (set from (2 * v + 1) z)) → exit ≡ joined_with n piece (cut_to_extent n (up_to_value v x) from)
-    up_to_joined e h k = k ∙ ap (λ (z : ℤ). joined_with n piece (present (set from (2 * v + 1) z))) h ∙ ap (joined_with n piece) (sym (up_to_is e))
+    pub up_to_joined : le_z (word from (2 * v)) x ≡ true → {z : ℤ} → z ≡ int_min (word from (2 * v + 1)) x → {exit : List ℤ} → exit ≡ joined_with n piece (present (set from (2 * v + 1) z)) → exit ≡ joined_with n piece (cut_to_extent n (up_to_value v x) from)
+    up_to_joined e h k = k ∙ ap (λ (z : ℤ). joined_with n piece (present (set from (2 * v + 1) z))) (h ∙ min_is _ x) ∙ ap (joined_with n piece) (sym (up_to_is e))
 
     pub up_to_none : le_z (word from (2 * v)) x ≡ false → IsFace n piece → piece ≡ joined_with n piece (cut_to_extent n (up_to_value v x) from)
     up_to_none e f = nothing_joined n (cut_to_extent n (up_to_value v x) from) f (up_to_empty e)
 
-    pub from_joined : le_z x (word from (2 * v + 1)) ≡ true → {z : ℤ} → z ≡ max_z (word from (2 * v)) x → {exit : List ℤ} → exit ≡ joined_with n piece (present (set from (2 * v) z)) → exit ≡ joined_with n piece (cut_to_extent n (from_value v x) from)
-    from_joined e h k = k ∙ ap (λ (z : ℤ). joined_with n piece (present (set from (2 * v) z))) h ∙ ap (joined_with n piece) (sym (from_is e))
+    pub from_joined : le_z x (word from (2 * v + 1)) ≡ true → {z : ℤ} → z ≡ int_max (word from (2 * v)) x → {exit : List ℤ} → exit ≡ joined_with n piece (present (set from (2 * v) z)) → exit ≡ joined_with n piece (cut_to_extent n (from_value v x) from)
+    from_joined e h k = k ∙ ap (λ (z : ℤ). joined_with n piece (present (set from (2 * v) z))) (h ∙ max_is _ x) ∙ ap (joined_with n piece) (sym (from_is e))
 
     pub from_none : le_z x (word from (2 * v + 1)) ≡ false → IsFace n piece → piece ≡ joined_with n piece (cut_to_extent n (from_value v x) from)
     from_none e f = nothing_joined n (cut_to_extent n (from_value v x) from) f (from_empty e)
 
--- ---- two pieces, the first of k words
+-- ---- two pieces, each of k words
 
 module _ (n : ℕ) (pieces : List ℤ) (are : AreFaces n 2 pieces) {k : ℕ} (k-is : k ≡ face_size n) where
   abbrev piece : ℕ → List ℤ
@@ -98,98 +86,68 @@ module _ (n : ℕ) (pieces : List ℤ) (are : AreFaces n 2 pieces) {k : ℕ} (k-
   pub two_long : length pieces ≡ 2 * k
   two_long = omega (arith, ap length two, length-append (piece 0) (piece 1), length_face n (face_in n pieces 0), length_face n (face_in n pieces 1))
 
-  first_words : take k pieces ≡ piece 0
-  first_words = ap (take k) (sym two) ∙ take_at (piece 0) (piece 1) k (length_face n (face_in n pieces 0) ∙ sym k-is)
+  module _ {first second : List ℤ} (front : first ≡ take k pieces) (back : second ≡ drop k pieces) where
+    first_words : first ≡ piece 0
+    first_words = front ∙ ap (take k) (sym two) ∙ take_at (piece 0) (piece 1) k (length_face n (face_in n pieces 0) ∙ sym k-is)
 
-  second_words : drop k pieces ≡ piece 1
-  second_words = ap (drop k) (sym two) ∙ drop_at (piece 0) (piece 1) k (length_face n (face_in n pieces 0) ∙ sym k-is)
+    second_words : second ≡ piece 1
+    second_words = back ∙ ap (drop k) (sym two) ∙ drop_at (piece 0) (piece 1) k (length_face n (face_in n pieces 0) ∙ sym k-is)
 
-  pub first_is_face : IsFace n (take k pieces)
-  first_is_face = is_face n (face_in n pieces 0) first_words
+    pub first_is_face : IsFace n first
+    first_is_face = is_face n (face_in n pieces 0) first_words
 
-  pub second_is_face : IsFace n (drop k pieces)
-  second_is_face = is_face n (face_in n pieces 1) second_words
+    pub second_is_face : IsFace n second
+    second_is_face = is_face n (face_in n pieces 1) second_words
 
-  -- each joined with its own
-  pub both_joined : (h : ℕ → Face) {a b : List ℤ} → a ≡ joined_with n (take k pieces) (h 0) → b ≡ joined_with n (drop k pieces) (h 1) → a ++ b ≡ joined_each n 2 pieces h
-  unfolding cat
-  both_joined h e f = ap₂ (λ (a b : List ℤ). a ++ b) (e ∙ joined_words n (face_in n pieces 0) (h 0) first_words) (f ∙ joined_words n (face_in n pieces 1) (h 1) second_words)
+    -- each joined with its own
+    both_joined : (h : ℕ → Face) {a b : List ℤ} → a ≡ joined_with n first (h 0) → b ≡ joined_with n second (h 1) → a ++ b ≡ joined_each n 2 pieces h
+    unfolding cat
+    both_joined h e f = ap₂ (λ (a b : List ℤ). a ++ b) (e ∙ joined_words n (face_in n pieces 0) (h 0) first_words) (f ∙ joined_words n (face_in n pieces 1) (h 1) second_words)
 
-  -- the second behind the first that was joined
-  module _ (a : List ℤ) (long : length a ≡ k) where
-    pub behind_long : 2 * k ≤ length (a ++ drop k pieces)
-    behind_long = omega (arith, length-append a (drop k pieces), long, ap length second_words, length_face n (face_in n pieces 1), k-is)
+    -- a box is joined to them as pieces of a face of wall variable d, cut at the value x of variable v
+    module _ (d v : ℕ) (x : ℤ) (from : List ℤ) where
+      abbrev each : ℕ → Face
+      each = cut_each n (cut_by v x) d (present from)
 
-    pub behind_first : take (2 * k - k) (drop k (a ++ drop k pieces)) ≡ drop k pieces
-    behind_first = ap (take (2 * k - k)) (drop_at a (drop k pieces) k long) ∙ take_all (2 * k - k) (drop k pieces) (omega (arith, ap length second_words, length_face n (face_in n pieces 1)))
+      -- on the walls of v
+      pub own_joined : v ≡ d → {a : List ℤ} → a ≡ joined_with n first (present from) → a ++ second ≡ joined_each n 2 pieces each
+      own_joined u e =
+          both_joined each
+          (e ∙ ap (joined_with n first) (sym (ap (λ (s : Extent). cut_to_extent n s from) (extent_own_first v x d (eq-eqb v d u)) ∙ cut_to_whole n from)))
+          (nothing_joined n (each 1) second_is_face (ap (λ (s : Extent). cut_to_extent n s from) (extent_own_second v x d (eq-eqb v d u)) ∙ cut_to_none n from))
 
-    pub behind_put : (b : List ℤ) → put_mid k (2 * k - k) (a ++ drop k pieces) b ≡ a ++ b
-    behind_put b =
-        ap₂ (λ (x y : List ℤ). x ++ (b ++ y)) (take_at a (drop k pieces) k long)
-        (ap (drop (2 * k - k)) (drop_at a (drop k pieces) k long) ∙ none)
-        ∙ ap (λ (y : List ℤ). a ++ y) (append-nil b)
-      where
-        none : drop (2 * k - k) (drop k pieces) ≡ []
-        none = drop_of_length-le (drop k pieces) {i = 2 * k - k} (omega (arith, ap length second_words, length_face n (face_in n pieces 1)))
-
--- ---- a box joined to the two pieces of a face of wall variable d, cut at the value x of variable v
-
-module _ (n d v : ℕ) (x : ℤ) (from pieces : List ℤ) (are : AreFaces n 2 pieces) {k : ℕ} (k-is : k ≡ face_size n) where
-  abbrev each : ℕ → Face
-  each = cut_each n (cut_by v x) d (present from)
-
-  -- on the walls of v
-  pub own_joined : v ≡ d → (a : List ℤ) → a ≡ joined_with n (take k pieces) (present from) → a ++ drop k pieces ≡ joined_each n 2 pieces each
-  own_joined u a e =
-      both_joined n pieces are k-is each
-      (e ∙ ap (joined_with n (take k pieces)) (sym (ap (λ (s : Extent). cut_to_extent n s from) (extent_own_first v x d (eq-eqb v d u)) ∙ cut_to_whole n from)))
-      (nothing_joined n (each 1) (second_is_face n pieces are k-is) (ap (λ (s : Extent). cut_to_extent n s from) (extent_own_second v x d (eq-eqb v d u)) ∙ cut_to_none n from))
-
-  -- on any other
-  pub other_joined : (v ≡ d → ⊥) → (a b : List ℤ) → a ≡ joined_with n (take k pieces) (cut_to_extent n (up_to_value v x) from) → b ≡ joined_with n (drop k pieces) (cut_to_extent n (from_value v x) from) → a ++ b ≡ joined_each n 2 pieces each
-  other_joined u a b e f =
-      both_joined n pieces are k-is each
-      (e ∙ ap (λ (s : Extent). joined_with n (take k pieces) (cut_to_extent n s from)) (sym (extent_first v x d (ne_eqb v d u))))
-      (f ∙ ap (λ (s : Extent). joined_with n (drop k pieces) (cut_to_extent n s from)) (sym (extent_second v x d (ne_eqb v d u))))
+      -- on any other
+      pub other_joined : (v ≡ d → ⊥) → {a b : List ℤ} → a ≡ joined_with n first (cut_to_extent n (up_to_value v x) from) → b ≡ joined_with n second (cut_to_extent n (from_value v x) from) → a ++ b ≡ joined_each n 2 pieces each
+      other_joined u e f =
+          both_joined each
+          (e ∙ ap (λ (s : Extent). joined_with n first (cut_to_extent n s from)) (sym (extent_first v x d (ne_eqb v d u))))
+          (f ∙ ap (λ (s : Extent). joined_with n second (cut_to_extent n s from)) (sym (extent_second v x d (ne_eqb v d u))))
 
 -- ---- to the pieces of a face in a location with a cut, or with none
 
-module _ (n d : ℕ) (variable value : ℤ) (from pieces : List ℤ) (ok : PiecesJoinable n variable value from pieces) where
+module _ (n d : ℕ) {cut : Option Cut} (from pieces : List ℤ) (ok : PiecesJoinable n cut from pieces) where
   -- with none
-  module _ (none : eq_z variable (negsuc 0) ≡ true) where
-    cut_is : cut_from variable value ≡ uncut
-    cut_is = C.from_none variable value (eq_z_eq variable (negsuc 0) (true_is none))
-
+  module _ (none : cut ≡ uncut) where
     one_face : IsFace n pieces
     unfolding cat pieces_per_face
-    one_face = ap (λ (k : ℕ). face_words n (face_read n pieces k)) (omega arith) ∙ subst (λ (c : Option Cut). AreFaces n (pieces_per_face c) pieces) cut_is ok.are_pieces
+    one_face = ap (λ (k : ℕ). face_words n (face_read n pieces k)) (omega arith) ∙ subst (λ (c : Option Cut). AreFaces n (pieces_per_face c) pieces) none ok.are_pieces
 
     pub one_joinable : Joinable n from pieces
     one_joinable = record { n_small = ok.n_small; box_there = omega (arith, ok.box_length); face_length = face_long n one_face }
 
-    pub one_joined : {exit : List ℤ} → exit ≡ joined_with n pieces (present from) → exit ≡ joined_each n (pieces_per_face (cut_from variable value)) pieces (cut_each n (cut_from variable value) d (present from))
+    pub one_joined : {exit : List ℤ} → exit ≡ joined_with n pieces (present from) → exit ≡ joined_each n (pieces_per_face cut) pieces (cut_each n cut d (present from))
     unfolding cat pieces_per_face extent_by cut_to_extent
-    one_joined e = e ∙ rw cut_is (ap (λ (k : ℕ). face_words n (join n (face_read n pieces k) (present from))) (omega arith))
+    one_joined e = e ∙ rw none (ap (λ (k : ℕ). face_words n (join n (face_read n pieces k) (present from))) (omega arith))
 
   -- with one
-  module _ (some : eq_z variable (negsuc 0) ≡ false) where
-    is_variable : T (non_neg variable) × (nat_abs variable < n)
-    is_variable = ⊎_elim (λ e. absurd (subst T some (eq_z_intro e))) (λ h. h) ok.words_of_cut
+  module _ {v : ℕ} {x : ℤ} (some : cut ≡ cut_by v x) where
+    pub both_cuttable : Cuttable n v from
+    both_cuttable = record { n_small = ok.n_small; box_length = ok.box_length; box_ordered = ok.box_ordered; variable = subst (CutBelow n) some ok.cut_below }
 
-    pub not_negative : T (non_neg variable)
-    not_negative = is_variable.0
+    pub are_both : AreFaces n 2 pieces
+    unfolding pieces_per_face
+    are_both = subst (λ (c : Option Cut). AreFaces n (pieces_per_face c) pieces) some ok.are_pieces
 
-    cut_at : cut_from variable value ≡ cut_by (nat_abs variable) value
-    cut_at = C.from_some variable value not_negative
-
-    module _ {v : ℕ} (v_is : v ≡ nat_abs variable) where
-      pub both_cuttable : Cuttable n v from
-      both_cuttable = record { n_small = ok.n_small; box_length = ok.box_length; box_ordered = ok.box_ordered; variable = omega (arith, v_is, is_variable.1) }
-
-      pub are_both : AreFaces n 2 pieces
-      unfolding pieces_per_face
-      are_both = subst (λ (c : Option Cut). AreFaces n (pieces_per_face c) pieces) cut_at ok.are_pieces
-
-      pub two_joined : {exit : List ℤ} → exit ≡ joined_each n 2 pieces (cut_each n (cut_by v value) d (present from)) → exit ≡ joined_each n (pieces_per_face (cut_from variable value)) pieces (cut_each n (cut_from variable value) d (present from))
-      unfolding pieces_per_face
-      two_joined e = e ∙ rw (cut_at, v_is) refl
+    pub two_joined : {exit : List ℤ} → exit ≡ joined_each n 2 pieces (cut_each n (cut_by v x) d (present from)) → exit ≡ joined_each n (pieces_per_face cut) pieces (cut_each n cut d (present from))
+    unfolding pieces_per_face
+    two_joined e = e ∙ rw some refl

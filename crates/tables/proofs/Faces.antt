@@ -2,20 +2,22 @@
 -- read back from give the face again, so that joins follow each other on the same words.
 use mathlib.Core.Path.{◌≡◌, refl, sym, ap, ap₂, ◌∙◌}
 use mathlib.Core.Bool.{true, false, cond}
-use mathlib.Core.List.{List, [], ◌∷◌, ◌++◌}
+use mathlib.Core.List.{List, [], ◌∷◌, ◌++◌, append-nil}
 use Prim.Native.Nat.{ℕ, ◌+◌, ◌*◌, ◌-◌, ◌<◌, ◌≤◌}
 use native.Mathlib.Nat.{mul-le-mul}
-use native.Mathlib.Numerals.{add-one}
 use native.Mathlib.Omega.{arith}
 use lib.IntN.{ℤ, pos}
 use lib.Signed.{mag, lt_z}
-use lib.ListN.{length, drop, take, set, get_or-replicate}
-use lib.Seq.{get_or-append-add, get_or-drop, take-suc, take_all, length-take-le, lt-length-set, get_or-set_same}
+use lib.ListN.{length, drop, take, set, get_or-replicate, drop_of_length-le}
+use borrow.Rule.Slice.PartMut.{put_mid}
+use Rattle.std.specs.Int.{int_max, int_min}
+use Rattle.integers.proofs.Library.{max_is, min_is}
+use lib.Seq.{get_or-set_other, get_or-append-add, get_or-drop, take_all}
 use Rattle.integers.specs.Words.{word, eq_z, onto}
 use Rattle.integers.specs.Counted.{cat}
 use Rattle.integers.specs.Rounding.{max_z, min_z}
 use Rattle.integers.proofs.Signed.{cond_case}
-use Rattle.integers.proofs.Buffers.{onto-set, onto_two, onto_all, cat_more}
+use Rattle.integers.proofs.Buffers.{onto_two, onto_all, cat_more}
 use Rattle.plant.specs.Box.{low, high, box_by, box_at, hull, Face, absent, present, face_words, join}
 use Rattle.plant.specs.Tables.{words_per_location, face_size, table_size, face_read}
 use Rattle.plant.proofs.Boxes.{low-box_by, high-box_by, length-box_by, box_ext, low-box_at, high-box_at, length-box_at, box_ends, length_face, length-hull}
@@ -52,19 +54,12 @@ flagged (x ∷ xs) h e = ap (λ (z : ℤ). z ∷ xs) e
 
 -- ---- an absent face becomes the box
 
-pub place_start : (from d : List ℤ) → 0 < length d → set d 0 (pos 1) ≡ onto (pos 1 ∷ take 0 from) (set d 0 (pos 1))
-place_start from d h = flagged (set d 0 (pos 1)) (lt-length-set d 0 (pos 1) h) (get_or-set_same d 0 (pos 1) (pos 0) h)
-
-pub place_turn : (from d face : List ℤ) (i : ℕ) → face ≡ onto (pos 1 ∷ take i from) d → i < length from → i + 1 < length d → set face (i + 1) (word from i) ≡ onto (pos 1 ∷ take (i + 1) from) d
-place_turn from d face i e l h =
-    rw e (onto-set (pos 1 ∷ take i from) d (i + 1) (word from i) (omega (arith, length-take-le i from (omega arith))) h
-    ∙ ap (λ (s : List ℤ). onto (pos 1 ∷ s) d) (rw add-one (sym (take-suc from i (pos 0) l))))
-
-pub place_end : (n : ℕ) (from d face : List ℤ) → face ≡ onto (pos 1 ∷ take (2 * n) from) d → 2 * n ≤ length from → length d ≡ 1 + 2 * n → face ≡ face_words n (present from)
+pub placed : (n : ℕ) (from d box : List ℤ) → box ≡ take (2 * n) from → 2 * n ≤ length from → 0 < length d → put_mid 1 (length (set d 0 (pos 1)) - 1) (set d 0 (pos 1)) box ≡ face_words n (present from)
 unfolding face_words
-place_end n from d face e h k =
-    e ∙ onto_all (pos 1 ∷ take (2 * n) from) d (omega (arith, length-take-le (2 * n) from h))
-    ∙ ap (λ (s : List ℤ). pos 1 ∷ s) (sym (box_front n from h))
+placed n from [] box e h k = absurd (omega arith)
+placed n from (x ∷ xs) box e h k =
+    rw (e, box_front n from h)
+    (ap (λ (r : List ℤ). pos 1 ∷ (take (2 * n) from ++ r)) (drop_of_length-le xs {i = length {A = ℤ} (x ∷ xs) - 1} (omega arith)) ∙ ap (λ (r : List ℤ). pos 1 ∷ r) (append-nil (take (2 * n) from)))
 
 -- ---- a present face is widened
 
@@ -104,6 +99,12 @@ module _ (n : ℕ) (b d face : List ℤ) (i : ℕ) (l : i < n) (e : face ≡ ont
       ∙ ap₂ (λ (u v : ℤ). onto (pos 1 ∷ (hull i (box_at n d 1) b ++ (u ∷ v ∷ []))) d)
       (p ∙ ap (λ (z : ℤ). min_z z (word b (2 * i))) old_low) (q ∙ ap (λ (z : ℤ). max_z z (word b (2 * i + 1))) old_high)
       ∙ ap (λ (s : List ℤ). onto (pos 1 ∷ s) d) (sym (hull_more i (box_at n d 1) b))
+
+  -- by the library's methods, the high read once the low is written
+  pub widen_words : (x y : ℤ) → x ≡ int_min (word face (2 * i + 1)) (word b (2 * i)) → y ≡ int_max (word (set face (2 * i + 1) x) (2 * i + 2)) (word b (2 * i + 1)) → set (set face (2 * i + 1) x) (2 * i + 2) y ≡ onto (pos 1 ∷ hull (i + 1) (box_at n d 1) b) d
+  widen_words x y p q =
+      widen_turn x y (p ∙ min_is _ _)
+      (q ∙ max_is _ _ ∙ ap (λ (z : ℤ). max_z z (word b (2 * i + 1))) (get_or-set_other face (2 * i + 1) (2 * i + 2) x (pos 0) (λ w. omega arith)))
 
 pub widen_end : (n : ℕ) (a b d face : List ℤ) → face ≡ onto (pos 1 ∷ hull n a b) d → length d ≡ 1 + 2 * n → face ≡ face_words n (present (hull n a b))
 unfolding face_words

@@ -1,36 +1,23 @@
 -- How many pieces stand before a location, and the sizes that follow.
 use mathlib.Core.Path.{◌≡◌, refl, sym, ap, ap₂, ◌∙◌}
-use mathlib.Core.Bool.{true, false}
 use mathlib.Core.Logic.{⊎_elim}
 use mathlib.Core.List.{List}
 use Prim.Native.Nat.{ℕ, ◌+◌, ◌*◌, ◌<◌, ◌≤◌}
 use native.Mathlib.Numerals.{add-one}
 use native.Mathlib.Omega.{arith}
-use lib.IntN.{ℤ, negsuc}
+use lib.IntN.{ℤ}
 use lib.ListN.{length, get_or, set, length-set}
 use lib.Seq.{get_or-set_same, get_or-set_other}
-use Rattle.integers.specs.Words.{eq_z}
 use Rattle.integers.specs.Counted.{sum_below}
 use Rattle.integers.proofs.Counted.{split, sum_times, sum_ext, sum_le, sum_same}
-use Rattle.plant.specs.Model.{n#, L#, cut_from}
-use Rattle.plant.specs.Pieces.{pieces_per_face, per_face, pieces}
+use Rattle.plant.specs.Model.{n#, L#}
+use Rattle.plant.specs.Pieces.{per_face, pieces}
 use Rattle.plant.specs.Tables.{words_per_location, face_size, pieces_before, piece_count, table_size}
 use Rattle.plant.proofs.Pieces.{per_face_most}
 use Rattle.plant.proofs.PieceCases.{before_none}
 use Rattle.plant.proofs.Tables.{pieces-most}
 use Rattle.plant.proofs.Whole.{Head}
 use Rattle.tables.specs.Places.{Places}
-use Rattle.tables.specs.Room.{PiecesBy}
-
--- ---- pieces of a face, by the first word of a cut
-
-pub by_none : (variable : ℤ) → eq_z variable (negsuc 0) ≡ true → PiecesBy variable 1
-unfolding cut_from pieces_per_face
-by_none variable e value = rw e
-
-pub by_some : (variable : ℤ) → eq_z variable (negsuc 0) ≡ false → PiecesBy variable 2
-unfolding cut_from pieces_per_face
-by_some variable e value = rw e
 
 -- ---- sums over the locations
 

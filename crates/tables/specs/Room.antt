@@ -1,10 +1,8 @@
 -- What the code on faces asks of the words that it is lent, and the words that it leaves.
-use Rattle.std.specs.Prelude.{◌≡◌, List, ◌⊎◌, ℕ, ◌*◌, ◌<◌, ◌≤◌, T, ℤ, negsuc, nat_abs, length, Option}
-use Rattle.std.specs.Int.Signed.{non_neg}
+use Rattle.std.specs.Prelude.{◌≡◌, List, ℕ, ◌*◌, ◌<◌, ◌≤◌, ℤ, length, Option, Some, None}
 use Rattle.integers.specs.Counted.{cat}
 use Rattle.plant.specs.Box.{Ordered, Face, on_box, face_words, join}
 use Rattle.plant.specs.declared.Cut.{Cut}
-use Rattle.plant.specs.Model.{cut_from}
 use Rattle.plant.specs.Pieces.{extent_by, cut_to_extent, pieces_per_face}
 use Rattle.plant.specs.Tables.{face_size, face_read}
 
@@ -42,10 +40,6 @@ joined_each n k words h = faces_by n k (λ q. join n (face_in n words q) (h q))
 
 -- ---- a box cut to the pieces of a face
 
--- how many pieces a face has by the first word of its location's cut, whatever the second
-abbrev pub PiecesBy : (variable : ℤ) (k : ℕ) → Type 0
-PiecesBy variable k = (value : ℤ) → k ≡ pieces_per_face (cut_from variable value)
-
 -- what each piece k of a face of wall variable d gets of the face g, by its location's cut
 abbrev pub cut_each : ℕ → Option Cut → ℕ → Face → ℕ → Face
 cut_each n c d g k = on_box g (cut_to_extent n (extent_by c d k))
@@ -57,14 +51,15 @@ pub record Cuttable (n v : ℕ) (from : List ℤ) : Type 0 where
   pub box_ordered : Ordered n from
   pub variable : v < n
 
--- the first word of a cut: -1, or one of n variables
-abbrev pub CutVariable : ℕ → ℤ → Type 0
-CutVariable n z = (z ≡ negsuc 0) ⊎ (T (non_neg z) × (nat_abs z < n))
+-- a cut, where there is one, is at a value of one of n variables
+abbrev pub CutBelow : ℕ → Option Cut → Type 0
+CutBelow n None = Unit {0}
+CutBelow n (Some cut) = cut.variable < n
 
 -- an ordered box, and the pieces of a face in a location with this cut
-pub record PiecesJoinable (n : ℕ) (variable value : ℤ) (from pieces : List ℤ) : Type 0 where
+pub record PiecesJoinable (n : ℕ) (cut : Option Cut) (from pieces : List ℤ) : Type 0 where
   pub n_small : n ≤ 6
   pub box_length : length from ≡ 2 * n
   pub box_ordered : Ordered n from
-  pub words_of_cut : CutVariable n variable
-  pub are_pieces : AreFaces n (pieces_per_face (cut_from variable value)) pieces
+  pub cut_below : CutBelow n cut
+  pub are_pieces : AreFaces n (pieces_per_face cut) pieces

@@ -2,18 +2,20 @@
 // functions serve the crates above and are no calls of outsiders: what they are lent has passed its questions.
 #![tactic(auto)]
 
-ghost use Rattle.std.specs.Prelude.{◌≡◌, ◌+◌, ◌*◌, ◌<◌, ◌≤◌, pos, length, take, drop, set};
+ghost use Rattle.std.specs.Prelude.{◌≡◌, ◌+◌, ◌*◌, ◌<◌, ◌≤◌, pos, length, take, drop, set, Some};
 ghost use Rattle.integers.specs.Words.{word};
 ghost use Rattle.integers.specs.Counted.{sum_below};
 ghost use Rattle.plant.specs.Box as B;
 ghost use Rattle.plant.specs.Box.{hull, box_at, present, face_words};
-ghost use Rattle.plant.specs.Model.{L#, cut_by};
+ghost use Rattle.plant.specs.Model.{L#};
 ghost use Rattle.plant.specs.Pieces as P;
 ghost use Rattle.plant.specs.Pieces.{up_to_value, from_value, cut_to_extent, per_face};
 ghost use Rattle.plant.specs.Tables.{words_per_location, face_size, piece_count, table_size, face_read};
 ghost use Rattle.plant.proofs.Whole.{Whole};
 ghost use Rattle.tables.specs.Places.{Places};
-ghost use Rattle.tables.specs.Room.{Joinable, IsFace, joined_with, AreFaces, joined_each, PiecesBy, cut_each, Cuttable};
+ghost use Rattle.tables.specs.Room.{Joinable, IsFace, joined_with, AreFaces, joined_each, cut_each, Cuttable, PiecesJoinable};
+
+use plant::Cut;
 
 // How many words are held for tables: room for a very small table (uncut: eight locations of two variables, one of six), for a small
 // one (64 of two, eight of six), and for the largest (64 locations of six, all cut).
@@ -42,11 +44,14 @@ fn words_per_location(n: usize) -> usize
 
 // ---- the pieces of a location (document 02, T-12)
 
-// How many pieces a face has, by the first word of its location's cut: one where it is uncut, else two.
-pub fn pieces_by(variable: i32) -> usize
-    ensures { PiecesBy variable result }
+// How many pieces a face has, by its location's cut.
+pub fn pieces_per_face(cut: Option<Cut>) -> usize
+    ensures { result ≡ P.pieces_per_face cut }
 {
-    if integers::same(variable, -1) { 1 } else { 2 }
+    match cut {
+        None => 1,
+        Some(_) => 2,
+    }
 }
 
 // How many pieces each face of location l has.
@@ -54,7 +59,7 @@ pub fn per_face(model: &[i32], l: usize) -> usize
     requires { Whole model.now × (l < L# model.now) }
     ensures { result ≡ per_face model.now l }
 {
-    pieces_by(records::cut_variable(model, l))
+    pieces_per_face(records::cut(model, l))
 }
 
 // How many pieces location l has: 2n, or 4n where it is cut.
@@ -70,14 +75,11 @@ pub fn places(model: &[i32], places: &mut [usize; 65])
     requires { Whole model.now × (length places.old ≡ 65) }
     ensures { Places model.now places.new }
 {
-    let locations = records::locations(model);
-    let mut before: usize = 0;
-    let mut l: usize = 0;
+    let mut before = 0;
     places[0] = 0;
-    while l < locations {
-        before = before + pieces(model, l);
-        l = l + 1;
-        places[l] = before;
+    for l in 0..records::locations(model) {
+        before += pieces(model, l);
+        places[l + 1] = before;
     }
 }
 
@@ -86,12 +88,9 @@ fn layers(model: &[i32]) -> usize
     requires { Whole model.now }
     ensures { result ≡ sum_below (L# model.now) (per_face model.now) }
 {
-    let locations = records::locations(model);
-    let mut count: usize = 0;
-    let mut l: usize = 0;
-    while l < locations {
-        count = count + per_face(model, l);
-        l = l + 1;
+    let mut count = 0;
+    for l in 0..records::locations(model) {
+        count += per_face(model, l);
     }
     count
 }
@@ -136,14 +135,8 @@ fn place(n: usize, from: &[i32], face: &mut [i32])
     requires { Joinable n from.now face.old }
     ensures { face.new ≡ face_words n (present from.now) }
 {
-    let end = 2 * n;
     face[0] = 1;
-    let mut i: usize = 0;
-    while i < end {
-        let j = i + 1;
-        face[j] = from[i];
-        i = j;
-    }
+    face[1..].copy_from_slice(&from[..2 * n]);
 }
 
 // A present face is widened to the smallest box holding both.
@@ -151,16 +144,12 @@ fn widen(n: usize, from: &[i32], face: &mut [i32])
     requires { Joinable n from.now face.old × (word face.old 0 ≡ pos 1) }
     ensures { face.new ≡ face_words n (present (hull n (box_at n face.old 1) from.now)) }
 {
-    let mut i: usize = 0;
-    while i < n {
+    for i in 0..n {
         let k = 2 * i;
         let l = k + 1;
         let h = k + 2;
-        let low = integers::smaller(face[l] as i64, from[k] as i64);
-        let high = integers::larger(face[h] as i64, from[l] as i64);
-        face[l] = low as i32;
-        face[h] = high as i32;
-        i = i + 1;
+        face[l] = face[l].min(from[k]);
+        face[h] = face[h].max(from[l]);
     }
 }
 
@@ -169,7 +158,7 @@ pub fn join(n: usize, from: &[i32], face: &mut [i32])
     requires { Joinable n from.now face.old }
     ensures { face.new ≡ face_words n (B.join n (face_read n face.old 0) (present from.now)) }
 {
-    if integers::same(face[0], 1) {
+    if face[0] == 1 {
         widen(n, from, face);
     } else {
         place(n, from, face);
@@ -185,49 +174,58 @@ fn join_with(n: usize, at: usize, z: i32, from: &[i32], piece: &mut [i32])
 {
     let mut part = [0i32; 12];
     let end = 2 * n;
-    integers::copy(from, &mut part[..end]);
+    part[..end].copy_from_slice(from);
     part[at] = z;
     join(n, &part[..end], piece);
 }
 
-// Joins to a piece what a box has up to the value x of variable v.
-fn join_up_to(n: usize, v: usize, x: i32, from: &[i32], piece: &mut [i32])
-    requires { Cuttable n v from.now × IsFace n piece.old }
-    ensures { piece.new ≡ joined_with n piece.old (cut_to_extent n (up_to_value v x) from.now) }
+// Joins to a piece what a box has up to the value of a cut. Its twin, join_from, differs in the test, in the end that changes and in
+// what it becomes, so one function with the side as a value would branch three times.
+fn join_up_to(n: usize, cut: Cut, from: &[i32], piece: &mut [i32])
+    requires { Cuttable n cut.variable from.now × IsFace n piece.old }
+    ensures { piece.new ≡ joined_with n piece.old (cut_to_extent n (up_to_value cut.variable cut.value) from.now) }
 {
-    let low = 2 * v;
+    let low = 2 * cut.variable;
     let high = low + 1;
-    if from[low] <= x {
-        let end = integers::smaller(from[high] as i64, x as i64);
-        join_with(n, high, end as i32, from, piece);
+    if from[low] <= cut.value {
+        join_with(n, high, from[high].min(cut.value), from, piece);
     }
 }
 
-// Joins to a piece what a box has from the value x of variable v.
-fn join_from(n: usize, v: usize, x: i32, from: &[i32], piece: &mut [i32])
-    requires { Cuttable n v from.now × IsFace n piece.old }
-    ensures { piece.new ≡ joined_with n piece.old (cut_to_extent n (from_value v x) from.now) }
+// Joins to a piece what a box has from the value of a cut.
+fn join_from(n: usize, cut: Cut, from: &[i32], piece: &mut [i32])
+    requires { Cuttable n cut.variable from.now × IsFace n piece.old }
+    ensures { piece.new ≡ joined_with n piece.old (cut_to_extent n (from_value cut.variable cut.value) from.now) }
 {
-    let low = 2 * v;
+    let low = 2 * cut.variable;
     let high = low + 1;
-    if x <= from[high] {
-        let end = integers::larger(from[low] as i64, x as i64);
-        join_with(n, low, end as i32, from, piece);
+    if cut.value <= from[high] {
+        join_with(n, low, from[low].max(cut.value), from, piece);
     }
 }
 
-// Joins a box to the two pieces of a face of wall variable d, cut at the value x of variable v. On the walls of v the first piece
-// is the whole face, and the second is absent.
-pub fn join_both(n: usize, d: usize, v: usize, x: i32, from: &[i32], pieces: &mut [i32])
-    requires { Cuttable n v from.now × AreFaces n 2 pieces.old }
-    ensures { pieces.new ≡ joined_each n 2 pieces.old (cut_each n (cut_by v x) d (present from.now)) }
+// Joins a box to the two pieces of a face of wall variable d in a cut location. On the walls of the cut's variable the first piece is
+// the whole face, and the second is absent.
+fn join_both(n: usize, d: usize, cut: Cut, from: &[i32], pieces: &mut [i32])
+    requires { Cuttable n cut.variable from.now × AreFaces n 2 pieces.old }
+    ensures { pieces.new ≡ joined_each n 2 pieces.old (cut_each n (Some cut) d (present from.now)) }
 {
-    let size = face_size(n);
-    let end = 2 * size;
-    if v == d {
-        join(n, from, &mut pieces[..size]);
+    let (first, second) = pieces.split_at_mut(face_size(n));
+    if cut.variable == d {
+        join(n, from, first);
     } else {
-        join_up_to(n, v, x, from, &mut pieces[..size]);
-        join_from(n, v, x, from, &mut pieces[size..end]);
+        join_up_to(n, cut, from, first);
+        join_from(n, cut, from, second);
+    }
+}
+
+// Joins a box to the pieces of a face of wall variable d, by its location's cut.
+pub fn join_pieces(n: usize, d: usize, cut: Option<Cut>, from: &[i32], pieces: &mut [i32])
+    requires { PiecesJoinable n cut from.now pieces.old }
+    ensures { pieces.new ≡ joined_each n (P.pieces_per_face cut) pieces.old (cut_each n cut d (present from.now)) }
+{
+    match cut {
+        None => join(n, from, pieces),
+        Some(cut) => join_both(n, d, cut, from, pieces),
     }
 }

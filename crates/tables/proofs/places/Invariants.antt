@@ -1,13 +1,8 @@
 -- After l turns the places of the locations up to l are written.
 use mathlib.Core.Path.{◌≡◌}
-use Prim.Native.Nat.{◌-◌, ◌≤◌}
-use Rattle.plant.specs.Model.{L#}
 use Rattle.plant.specs.Tables.{pieces_before}
 use Rattle.tables.proofs.Sizes.{PlacesTo}
 use Rattle.tables.proofs.places.Given as goal
 
 abbrev pub invariant-loop-l : goal.invariant-loop-l
-invariant-loop-l l = (l.l ≤ L# l.model) × (l.before ≡ pieces_before l.model l.l) × PlacesTo l.model l.l l.places
-
-abbrev pub decreases-loop-l : goal.decreases-loop-l
-decreases-loop-l l = l.locations - l.l
+invariant-loop-l l = (l.before ≡ pieces_before l.model l.l) × PlacesTo l.model l.l l.places

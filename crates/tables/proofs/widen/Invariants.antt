@@ -1,15 +1,10 @@
 -- Filled from the front: in each turn the low and the high of one more variable.
 use mathlib.Core.Path.{◌≡◌}
 use mathlib.Core.List.{◌∷◌}
-use Prim.Native.Nat.{◌-◌, ◌≤◌}
 use lib.IntN.{pos}
-use lib.ListN.{length}
 use Rattle.integers.specs.Words.{onto}
 use Rattle.plant.specs.Box.{hull, box_at}
 use Rattle.tables.proofs.widen.Given as goal
 
 abbrev pub invariant-loop-i : goal.invariant-loop-i
-invariant-loop-i l = (l.i ≤ l.n) × (length l.face ≡ length l.initial.face) × (l.face ≡ onto (pos 1 ∷ hull l.i (box_at l.n l.initial.face 1) l.from) l.initial.face)
-
-abbrev pub decreases-loop-i : goal.decreases-loop-i
-decreases-loop-i l = l.n - l.i
+invariant-loop-i l = l.face ≡ onto (pos 1 ∷ hull l.i (box_at l.n l.initial.face 1) l.from) l.initial.face
