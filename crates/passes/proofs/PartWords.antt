@@ -1,6 +1,6 @@
 -- The words of a part give the part, and its box, if it is there, lies inside the invariant, that of a start part and that of a
 -- piece; so it is one of levels.
-use mathlib.Core.Path.{◌≡◌, sym, ap, ap₂, ◌∙◌, subst}
+use mathlib.Core.Path.{◌≡◌, refl, sym, ap, ap₂, ◌∙◌, subst}
 use mathlib.Core.Bool.{Bool, true, false, cond}
 use mathlib.Core.Logic.{⊎_elim}
 use mathlib.Core.List.{List}
@@ -13,7 +13,7 @@ use lib.ListN.{length, take, drop, length-drop}
 use lib.Seq.{length-take-le}
 use Rattle.integers.specs.Words.{word, eq_z}
 use Rattle.integers.proofs.Tests.{by_test, is_true}
-use Rattle.integers.proofs.Counted.{eq_z_intro, split}
+use Rattle.integers.proofs.Counted.{eq_z_eq, eq_z_intro, split}
 use Rattle.delays.specs.Ranges.{Levels, Rates, InInvariant}
 use Rattle.delays.proofs.Small.{in_levels}
 use Rattle.plant.specs.Box.{low, high, Ordered, box_at, cut, Face, absent, present, unless_empty}
@@ -26,11 +26,9 @@ use Rattle.plant.proofs.StartPart.{start_all}
 use Rattle.plant.proofs.Tables.{piece_inside, OkBox, ok_valid}
 use Rattle.plant.proofs.Positions.{length-invariant, length-rate, length-start_box}
 use Rattle.plant.proofs.Passing.{whole_passed}
-use Rattle.steps.specs.Handing.{Handed}
-use Rattle.steps.proofs.Faces.{nothing_handed}
 use Rattle.passes.specs.Parts.{IsPart}
 use Rattle.passes.specs.Joining.{PartOk}
-use Rattle.plant.proofs.FaceWords.{read_present, face_there}
+use Rattle.plant.proofs.FaceWords.{read_present, read_absent, face_there}
 
 -- ---- the boxes of a model's records
 
@@ -107,25 +105,35 @@ module _ (m : List ℤ) (ok : Passed m) (l : ℕ) (u : l < L# m) where
     pub part_levels : T (table_ok m t) → (p : ℕ) → p ≤ pieces m l → FaceAll (Levels (n# m)) (part_of m t l p)
     part_levels valid p v = all_map (InInvariant (n# m) (invariant m l)) (Levels (n# m)) (part_of m t l p) (λ b. in_levels {n = n# m} {inv = invariant m l} {b = b} (invariant_in m ok l u)) (part-within valid p v)
 
--- how code comes to the start part: by the start flag it is the cut, or there is none
-module _ (m : List ℤ) (l : ℕ) {flag : ℤ} (flag_is : flag ≡ start_flag m l) where
-  abbrev by_flag : Bool → Face
-  by_flag x = cond x (unless_empty (n# m) (cut (n# m) (start_box m l) (invariant m l))) absent
+-- ---- a flag is 1, or not
 
-  pub start_by : {x : Bool} → eq_z flag (pos 1) ≡ x → start_part m l ≡ by_flag x
+not_one : {z : ℤ} → (z ≡ pos 1 → ⊥) → eq_z z (pos 1) ≡ false
+not_one {z} h = no_test (eq_z z (pos 1)) (λ t. h (eq_z_eq z (pos 1) t))
+  where
+    no_test : (b : Bool) → (T b → ⊥) → b ≡ false
+    no_test true n = absurd (n tt)
+    no_test false n = refl
+
+module _ (n : ℕ) (part : List ℤ) where
+  pub part_there : word part 0 ≡ pos 1 → face_read n part 0 ≡ present (box_at n part 1)
+  part_there e = read_present n part (is_true (eq_z_intro e))
+
+  pub part_gone : (word part 0 ≡ pos 1 → ⊥) → face_read n part 0 ≡ absent
+  part_gone e = read_absent n part (not_one e)
+
+module _ (m : List ℤ) (l : ℕ) where
+  pub start_there : start_flag m l ≡ pos 1 → start_part m l ≡ unless_empty (n# m) (cut (n# m) (start_box m l) (invariant m l))
   unfolding start_part
-  start_by e = ap by_flag (ap (λ (z : ℤ). eq_z z (pos 1)) (sym flag_is) ∙ e)
+  start_there e = rw e refl
 
-  pub start_cut : {r : Bool} {exit out : List ℤ} → eq_z flag (pos 1) ≡ true → Handed (n# m) r exit out (unless_empty (n# m) (cut (n# m) (start_box m l) (invariant m l))) → Handed (n# m) r exit out (start_part m l)
-  start_cut {r} {exit} {out} e h = subst (Handed (n# m) r exit out) (sym (start_by e)) h
-
-  pub start_none : {out : List ℤ} → eq_z flag (pos 1) ≡ false → 2 * n# m ≤ length out → Handed (n# m) false out out (start_part m l)
-  start_none {out} e room = nothing_handed (n# m) out (start_part m l) room (start_by e)
+  pub start_gone : (start_flag m l ≡ pos 1 → ⊥) → start_part m l ≡ absent
+  unfolding start_part
+  start_gone e = rw (not_one e) refl
 
 -- words that give a part whose box has P
 pub is_part_ok : (n : ℕ) (P : List ℤ → Type 0) (words : List ℤ) (part : Face) → n ≤ 6 → IsPart n words part → FaceAll P part → PartOk n P words
 is_part_ok n P words part small p h = record {
   n_small = small;
   sized = p.sized;
-  has = λ e. subst (FaceAll P) (sym p.gives ∙ read_present n words (is_true (eq_z_intro e))) h;
+  has = λ e. subst (FaceAll P) (sym p.gives ∙ part_there n words e) h;
 }

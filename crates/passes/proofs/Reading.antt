@@ -17,17 +17,17 @@ use Rattle.integers.proofs.Buffers.{cat_parts, cat_ext}
 use Rattle.integers.proofs.Rows.{sum_upto}
 use Rattle.plant.specs.Box.{Face, face_words, join, joins}
 use Rattle.plant.specs.declared.Cut.{Cut}
-use Rattle.plant.specs.Model.{n#, L#, E#, invariant, rate, source, target, wall_variable, reset_mask, guard, reset, variable_of, side_of, face_wall, cut_variable, cut_value, uncut, cut_by, cut_from, cut_of}
+use Rattle.plant.specs.Model.{n#, L#, E#, invariant, rate, source, target, wall_variable, reset_mask, guard, reset, variable_of, side_of, face_wall, cut_of}
 use Rattle.plant.specs.Pieces.{pieces_per_face, per_face, pieces, piece_face, piece_index, piece_variable, piece_extent}
 use Rattle.plant.specs.Steps.{switch_step}
 use Rattle.plant.specs.Tables.{face_size, pieces_before, piece_count, table_size, piece_at, table_by, face_read, piece_of, start_part, part_of, to_piece, wall_step_at, wall_from, walls_joined, switch_step_at, source_face, source_piece, target_face}
-use Rattle.plant.proofs.Passed.{SwitchPassed, IsUncut, CutPassed, Passed, passed}
+use Rattle.plant.proofs.Passed.{SwitchPassed, CutInside, Passed, passed}
 use Rattle.plant.proofs.PieceCases.{cut_some, two_per_face, before_more}
 use Rattle.plant.proofs.Pieces.{number_below}
 use Rattle.plant.proofs.Tables.{location_words, words_before, piece_place, location_length, words_of}
 use Rattle.delays.specs.Ranges.{Levels, InInvariant}
 use Rattle.tables.specs.Places.{Places}
-use Rattle.tables.specs.Room.{AreFaces, joined_each, cut_each, CutVariable}
+use Rattle.tables.specs.Room.{AreFaces, joined_each, cut_each, CutBelow}
 use Rattle.tables.proofs.Faces.{table_most}
 use Rattle.tables.proofs.Sizes.{before_most}
 use Rattle.plant.proofs.Whole.{Whole, Placed}
@@ -36,7 +36,7 @@ use Rattle.records.proofs.Walls.{wall_at}
 use Rattle.plant.proofs.Passing.{whole_passed, switch_placed}
 use Rattle.passes.specs.Checked.{Checked}
 use Rattle.passes.specs.Parts.{IsPart}
-use Rattle.passes.specs.Joining.{PartOk, Located, LandsOn, NoCut, pieces_with, PartJoin, StartJoin, SwitchJoin, walls_from, location_by, landed_on}
+use Rattle.passes.specs.Joining.{PartOk, Located, NoCut, pieces_with, PartJoin, StartJoin, SwitchJoin, walls_from, location_by, landed_on}
 use Rattle.passes.proofs.PartWords.{levels_from, invariant_in, rate_in, piece_part, part-within, part_levels, is_part_ok}
 use Rattle.plant.proofs.FaceWords.{piece_words_lem}
 use Rattle.passes.proofs.Locations.{are_faces, each_joined}
@@ -47,16 +47,22 @@ unfolding face_wall
 wall-word m l f = sym (wall_at (invariant m l) (variable_of f) (side_of f) (omega arith)) ∙ ap (word (invariant m l)) (omega arith)
 
 -- what was read of location l: the number of variables, invariant, rate and cut
-pub record LocationRead (m : List ℤ) (l n : ℕ) (inv rates : List ℤ) (variable value : ℤ) : Type 0 where
+pub record LocationRead (m : List ℤ) (l n : ℕ) (inv rates : List ℤ) (cut : Option Cut) : Type 0 where
   pub n_is : n ≡ n# m
   pub inv_is : inv ≡ invariant m l
   pub rate_is : rates ≡ rate m l
-  pub variable_is : variable ≡ cut_variable m l
-  pub value_is : value ≡ cut_value m l
+  pub cut_is : cut ≡ cut_of m l
 
--- the words of the cut of a location that passed its questions, by its number of pieces
-uncut_words : (m : List ℤ) (l : ℕ) → CutPassed m l → per_face m l ≡ 1 → IsUncut m l
-uncut_words m l ok e = ⊎_elim (λ h. h) (λ h. absurd (omega (arith, e, two_per_face m l (cut_some m l h.not_negative)))) ok.words
+-- a cut by its number of pieces, and by its place inside the invariant
+
+none_of : (c : Option Cut) → pieces_per_face c ≡ 1 → c ≡ None
+unfolding pieces_per_face
+none_of None e = refl
+none_of (Some cut) e = absurd (omega arith)
+
+below_of : (n : ℕ) (inv : List ℤ) (c : Option Cut) → CutInside n inv c → CutBelow n c
+below_of n inv None h = tt
+below_of n inv (Some cut) h = h.0
 
 one_of : (n : ℕ) (c : Option Cut) → 1 ≤ n → 2 * n * pieces_per_face c ≡ 2 * n → pieces_per_face c ≡ 1
 unfolding pieces_per_face
@@ -78,16 +84,9 @@ no_cut m u e = record {
       one_of (n# m) (cut_of m l) u (omega arith);
 }
 
-module _ (m : List ℤ) (l : ℕ) {n count : ℕ} (k : Located m l n count) (e : count ≡ 2 * n) where
-  one_piece : per_face m l ≡ 1
-  unfolding pieces per_face
-  one_piece = one_of (n# m) (cut_of m l) (passed m k.passes).n_positive (sym k.count_is ∙ e ∙ ap (λ (x : ℕ). 2 * x) k.n_is)
-
-  pub uncut_variable : cut_variable m l ≡ negsuc 0
-  uncut_variable = (uncut_words m l ((passed m k.passes).of_cut l k.below) one_piece).no_variable
-
-  pub uncut_value : cut_value m l ≡ pos 0
-  uncut_value = (uncut_words m l ((passed m k.passes).of_cut l k.below) one_piece).no_value
+pub uncut_of : {m : List ℤ} {l n count : ℕ} → Located m l n count → count ≡ 2 * n → cut_of m l ≡ None
+unfolding pieces per_face
+uncut_of {m} {l} k e = none_of (cut_of m l) (one_of (n# m) (cut_of m l) (passed m k.passes).n_positive (sym k.count_is ∙ e ∙ ap (λ (x : ℕ). 2 * x) k.n_is))
 
 module _ (m t : List ℤ) (ok : Checked m t) where
   pub model_passed : Passed m
@@ -99,9 +98,8 @@ module _ (m t : List ℤ) (ok : Checked m t) where
   pub placed : (e : ℕ) → e < E# m → Placed m e
   placed e l = switch_placed m model_passed e l
 
-  -- the first word of a cut
-  pub words_of_cut : (l : ℕ) → l < L# m → CutVariable (n# m) (cut_variable m l)
-  words_of_cut l u = ⊎_elim (λ h. inl h.no_variable) (λ h. inr (h.not_negative, h.inside.0)) (model_passed.of_cut l u).words
+  cut_below : (l : ℕ) → l < L# m → CutBelow (n# m) (cut_of m l)
+  cut_below l u = below_of (n# m) (invariant m l) (cut_of m l) (model_passed.of_cut l u).inside
 
   -- ---- the parts of a location
 
@@ -148,24 +146,24 @@ module _ (m t : List ℤ) (ok : Checked m t) where
     pub joined_length : (p : ℕ) → length (joined_to p) ≡ location_words m l
     joined_length p = location_length m (λ l q. joins (n# m) p (wall_from m t l q) (piece_of m t l q)) l
 
-    module _ {n : ℕ} {inv rates : List ℤ} {variable value : ℤ} (r : LocationRead m l n inv rates variable value) where
+    module _ {n : ℕ} {inv rates : List ℤ} {cut : Option Cut} (r : LocationRead m l n inv rates cut) where
       -- part p, once its steps are joined
       module _ (p : ℕ) {block : List ℤ} (block-is : block ≡ joined_to p) (g : Face) (part_is : g ≡ part_of m t l p) where
         walls_are : (q : ℕ) → walls_from (n# m) (invariant m l) (rate m l) (cut_of m l) g q ≡ wall_from m t l q p
         unfolding wall_from to_piece wall_step_at piece_extent piece_variable piece_face piece_index per_face
         walls_are q = rw (← (wall-word m l (piece_face m l q)), part_is) refl
 
-        joined_next : {exit : List ℤ} → exit ≡ joined_each n (pieces_with n (cut_from variable value)) block (walls_from n inv rates (cut_from variable value) g) → exit ≡ joined_to (p + 1)
-        unfolding joins pieces per_face cut_of
+        joined_next : {exit : List ℤ} → exit ≡ joined_each n (pieces_with n cut) block (walls_from n inv rates cut g) → exit ≡ joined_to (p + 1)
+        unfolding joins pieces per_face
         joined_next k = rw (add-one p)
-            (k ∙ rw (r.n_is, r.inv_is, r.rate_is, r.variable_is, r.value_is) (each_joined (n# m) (pieces m l) (λ q. joins (n# m) p (wall_from m t l q) (piece_of m t l q)) block-is (walls_from (n# m) (invariant m l) (rate m l) (cut_of m l) g))
+            (k ∙ rw (r.n_is, r.inv_is, r.rate_is, r.cut_is) (each_joined (n# m) (pieces m l) (λ q. joins (n# m) p (wall_from m t l q) (piece_of m t l q)) block-is (walls_from (n# m) (invariant m l) (rate m l) (cut_of m l) g))
             ∙ cat_ext (pieces m l) _ _ (λ q v. ap (λ (x : Face). face_words (n# m) (join (n# m) (joins (n# m) p (wall_from m t l q) (piece_of m t l q)) x)) (walls_are q)))
 
       -- the start part, before all others
       module _ {block : List ℤ} (block-is : block ≡ location_by m l (piece_of m t l)) where
-        pub start_join : StartJoin m l n inv rates variable value block
-        unfolding pieces per_face cut_of
-        start_join = rw (r.n_is, r.inv_is, r.rate_is, r.variable_is, r.value_is) (record {
+        pub start_join : StartJoin m l n inv rates cut block
+        unfolding pieces per_face
+        start_join = rw (r.n_is, r.inv_is, r.rate_is, r.cut_is) (record {
           passes = ok.ready.passes;
           below = u;
           n_is = refl;
@@ -174,28 +172,28 @@ module _ (m t : List ℤ) (ok : Checked m t) where
           inv_in = invariant_in m model_passed l u;
           rate_in = rate_in m model_passed l u;
           rate_ordered = (model_passed.of_location l u).rate_ordered;
-          words_of_cut = words_of_cut l u;
+          cut_below = cut_below l u;
           are_pieces = are_faces (n# m) (pieces m l) (piece_of m t l) block-is;
         })
 
-        pub start_joined : {exit : List ℤ} → exit ≡ joined_each n (pieces_with n (cut_from variable value)) block (walls_from n inv rates (cut_from variable value) (start_part m l)) → exit ≡ joined_to 1
+        pub start_joined : {exit : List ℤ} → exit ≡ joined_each n (pieces_with n cut) block (walls_from n inv rates cut (start_part m l)) → exit ≡ joined_to 1
         unfolding part_of
         start_joined = joined_next 0 (joined_none block-is) (start_part m l) refl
 
       -- a part whose words code has
       module _ (p : ℕ) {part block : List ℤ} (part_is : IsPart (n# m) part (part_of m t l p)) (block-is : block ≡ joined_to p) where
-        pub part_join : p ≤ pieces m l → PartJoin n inv rates part variable value block
-        unfolding pieces per_face cut_of
-        part_join w = rw (r.n_is, r.inv_is, r.rate_is, r.variable_is, r.value_is) (record {
+        pub part_join : p ≤ pieces m l → PartJoin n inv rates part cut block
+        unfolding pieces per_face
+        part_join w = rw (r.n_is, r.inv_is, r.rate_is, r.cut_is) (record {
           inv_in = invariant_in m model_passed l u;
           rate_in = rate_in m model_passed l u;
           rate_ordered = (model_passed.of_location l u).rate_ordered;
           part_ok = part_inside l p u w part_is;
-          words_of_cut = words_of_cut l u;
+          cut_below = cut_below l u;
           are_pieces = are_faces (n# m) (pieces m l) (λ q. joins (n# m) p (wall_from m t l q) (piece_of m t l q)) block-is;
         })
 
-        pub joined_more : {exit : List ℤ} → exit ≡ joined_each n (pieces_with n (cut_from variable value)) block (walls_from n inv rates (cut_from variable value) (face_read n part 0)) → exit ≡ joined_to (p + 1)
+        pub joined_more : {exit : List ℤ} → exit ≡ joined_each n (pieces_with n cut) block (walls_from n inv rates cut (face_read n part 0)) → exit ≡ joined_to (p + 1)
         joined_more = joined_next p block-is (face_read n part 0) (rw r.n_is part_is.gives)
 
   -- ---- the step of switch e
@@ -212,31 +210,29 @@ module _ (m t : List ℤ) (ok : Checked m t) where
   target_face_lem e l = let p : Placed m e = placed e l in omega (arith, p.variable_is, p.target_side_is)
 
   -- in a model without a cut it lands on a face of one piece
-  pub lands_uncut : NoCut m → (e : ℕ) → e < E# m → LandsOn m e (negsuc 0) (pos 0)
-  lands_uncut none e u =
-      let p : Placed m e = placed e u in
-      let w : IsUncut m (target m e) = uncut_words m (target m e) (model_passed.of_cut (target m e) p.target_is) (none.one_each (target m e) p.target_is) in
-      record { variable_is = sym w.no_variable; value_is = sym w.no_value }
+  pub lands_uncut : NoCut m → (e : ℕ) → e < E# m → None ≡ cut_of m (target m e)
+  unfolding per_face
+  lands_uncut none e u = sym (none_of (cut_of m (target m e)) (none.one_each (target m e) (placed e u).target_is))
 
-  module _ (e k : ℕ) (u : e < E# m) (v : k < per_face m (source m e)) {n : ℕ} {gs rs inv from : List ℤ} {variable value : ℤ} (n_is : n ≡ n# m) (guard-is : gs ≡ guard m e) (reset-is : rs ≡ reset m e) (inv_is : inv ≡ invariant m (target m e))
-      (from_is : IsPart (n# m) from (part_of m t (source m e) (source_piece m e k + 1))) (variable_is : variable ≡ cut_variable m (target m e)) (value_is : value ≡ cut_value m (target m e)) where
-    pub switch_join : {words : List ℤ} → AreFaces (n# m) (per_face m (target m e)) words → SwitchJoin n gs rs inv from variable value words
-    unfolding per_face cut_of
+  module _ (e k : ℕ) (u : e < E# m) (v : k < per_face m (source m e)) {n : ℕ} {gs rs inv from : List ℤ} {cut : Option Cut} (n_is : n ≡ n# m) (guard-is : gs ≡ guard m e) (reset-is : rs ≡ reset m e) (inv_is : inv ≡ invariant m (target m e))
+      (from_is : IsPart (n# m) from (part_of m t (source m e) (source_piece m e k + 1))) (cut_is : cut ≡ cut_of m (target m e)) where
+    pub switch_join : {words : List ℤ} → AreFaces (n# m) (per_face m (target m e)) words → SwitchJoin n gs rs inv from cut words
+    unfolding per_face
     switch_join w =
         let p : Placed m e = placed e u in
         let s : SwitchPassed m e = model_passed.of_switch e u in
-        rw (n_is, guard-is, reset-is, inv_is, variable_is, value_is) (record {
+        rw (n_is, guard-is, reset-is, inv_is, cut_is) (record {
           guard_in = levels_from (n# m) (guard m e) (length-guard m whole e u) s.guard_levels;
           reset_in = levels_from (n# m) (reset m e) (length-reset m whole e u) s.reset_levels;
           inv_in = invariant_in m model_passed (target m e) p.target_is;
           from_ok = part_ok (source m e) (source_piece m e k + 1) p.source_is (omega (arith, source_below e k u v)) from_is;
-          words_of_cut = words_of_cut (target m e) p.target_is;
+          cut_below = cut_below (target m e) p.target_is;
           are_pieces = w;
         })
 
-    pub step_joined : {mask d : ℕ} → mask ≡ reset_mask m e → d ≡ wall_variable m e → (words : List ℤ) {exit : List ℤ} → exit ≡ joined_each n (pieces_per_face (cut_from variable value)) words (cut_each n (cut_from variable value) d (switch_step n mask gs rs inv (face_read n from 0))) → exit ≡ landed_on m t e k words
-    unfolding switch_step_at part_of per_face cut_of
-    step_joined mask_is d-is words h = h ∙ rw (n_is, mask_is, d-is, guard-is, reset-is, inv_is, variable_is, value_is, from_is.gives, add-one (source_piece m e k)) refl
+    pub step_joined : {mask d : ℕ} → mask ≡ reset_mask m e → d ≡ wall_variable m e → (words : List ℤ) {exit : List ℤ} → exit ≡ joined_each n (pieces_per_face cut) words (cut_each n cut d (switch_step n mask gs rs inv (face_read n from 0))) → exit ≡ landed_on m t e k words
+    unfolding switch_step_at part_of per_face
+    step_joined mask_is d-is words h = h ∙ rw (n_is, mask_is, d-is, guard-is, reset-is, inv_is, cut_is, from_is.gives, add-one (source_piece m e k)) refl
 
 -- ---- the locations, one after the other
 

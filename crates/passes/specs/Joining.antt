@@ -1,10 +1,9 @@
--- What the code that joins a step to the pieces of a face asks of the words that it is lent, and the words that it leaves. A
--- location's cut is given by its two words, variable and value.
+-- What the code that joins a step to the pieces of a face asks of the words that it is lent, and the words that it leaves.
 use Rattle.std.specs.Prelude.{◌≡◌, List, ℕ, ◌*◌, ◌/◌, ◌%◌, ◌<◌, ◌≤◌, ℤ, pos, ◌≤ℤ◌, length, Option}
 use Rattle.integers.specs.Words.{word}
 use Rattle.plant.specs.Box.{low, high, Ordered, box_at, Face, on_box, join}
 use Rattle.plant.specs.declared.Cut.{Cut}
-use Rattle.plant.specs.Model.{n#, L#, E#, invariant, source, target, wall_variable, cut_variable, cut_value, cut_from, cut_of, variable_of}
+use Rattle.plant.specs.Model.{n#, L#, E#, invariant, source, target, wall_variable, cut_of, variable_of}
 use Rattle.plant.specs.Questions.{model_questions}
 use Rattle.plant.specs.Pieces.{pieces_per_face, per_face, pieces}
 use Rattle.plant.specs.Steps.{wall_step}
@@ -13,7 +12,7 @@ use Rattle.plant.specs.declared.End.{End}
 use Rattle.plant.specs.declared.Interval.{Interval}
 use Rattle.delays.specs.Ranges.{Level, Levels, Rates, InInvariant, SmallInterval}
 use Rattle.delays.specs.Windows.{WindowEnd}
-use Rattle.tables.specs.Room.{faces_by, AreFaces, joined_each, cut_each, CutVariable}
+use Rattle.tables.specs.Room.{faces_by, AreFaces, joined_each, cut_each, CutBelow}
 
 -- the words of a part of n variables; its box has P if it is there
 pub record PartOk (n : ℕ) (P : List ℤ → Type 0) (part : List ℤ) : Type 0 where
@@ -35,7 +34,7 @@ pub record AfterJoin (n : ℕ) (inv rate bounds : List ℤ) (b : ℤ) (t : Inter
   pub small : SmallInterval t
 
 -- a wall step from a box, whose window ends at end, to the value b of variable d, to be joined to the pieces of a face
-pub record WallJoin (n : ℕ) (inv rate bounds : List ℤ) (end : End) (d : ℕ) (b variable value : ℤ) (pieces : List ℤ) : Type 0 where
+pub record WallJoin (n : ℕ) (inv rate bounds : List ℤ) (end : End) (d : ℕ) (b : ℤ) (cut : Option Cut) (pieces : List ℤ) : Type 0 where
   pub n_small : n ≤ 6
   pub inv_in : Levels n inv
   pub rate_in : Rates n rate
@@ -45,30 +44,30 @@ pub record WallJoin (n : ℕ) (inv rate bounds : List ℤ) (end : End) (d : ℕ)
   pub d_below : d < n
   pub from_low : low inv d ≤ℤ b
   pub to_high : b ≤ℤ high inv d
-  pub words_of_cut : CutVariable n variable
-  pub are_pieces : AreFaces n (pieces_per_face (cut_from variable value)) pieces
+  pub cut_below : CutBelow n cut
+  pub are_pieces : AreFaces n (pieces_per_face cut) pieces
 
 -- the wall steps from a box to all faces of a location
-pub record WallsJoin (n : ℕ) (inv rate bounds : List ℤ) (variable value : ℤ) (block : List ℤ) : Type 0 where
+pub record WallsJoin (n : ℕ) (inv rate bounds : List ℤ) (cut : Option Cut) (block : List ℤ) : Type 0 where
   pub n_small : n ≤ 6
   pub inv_in : Levels n inv
   pub rate_in : Rates n rate
   pub rate_ordered : Ordered n rate
   pub bounds_in : InInvariant n inv bounds
-  pub words_of_cut : CutVariable n variable
-  pub are_pieces : AreFaces n (pieces_with n (cut_from variable value)) block
+  pub cut_below : CutBelow n cut
+  pub are_pieces : AreFaces n (pieces_with n cut) block
 
 -- those from a part
-pub record PartJoin (n : ℕ) (inv rate part : List ℤ) (variable value : ℤ) (block : List ℤ) : Type 0 where
+pub record PartJoin (n : ℕ) (inv rate part : List ℤ) (cut : Option Cut) (block : List ℤ) : Type 0 where
   pub inv_in : Levels n inv
   pub rate_in : Rates n rate
   pub rate_ordered : Ordered n rate
   pub part_ok : PartOk n (InInvariant n inv) part
-  pub words_of_cut : CutVariable n variable
-  pub are_pieces : AreFaces n (pieces_with n (cut_from variable value)) block
+  pub cut_below : CutBelow n cut
+  pub are_pieces : AreFaces n (pieces_with n cut) block
 
 -- those from the start part of location l, of n variables
-pub record StartJoin (m : List ℤ) (l n : ℕ) (inv rate : List ℤ) (variable value : ℤ) (block : List ℤ) : Type 0 where
+pub record StartJoin (m : List ℤ) (l n : ℕ) (inv rate : List ℤ) (cut : Option Cut) (block : List ℤ) : Type 0 where
   pub passes : model_questions m ≡ 0
   pub below : l < L# m
   pub n_is : n ≡ n# m
@@ -77,17 +76,17 @@ pub record StartJoin (m : List ℤ) (l n : ℕ) (inv rate : List ℤ) (variable 
   pub inv_in : Levels n inv
   pub rate_in : Rates n rate
   pub rate_ordered : Ordered n rate
-  pub words_of_cut : CutVariable n variable
-  pub are_pieces : AreFaces n (pieces_with n (cut_from variable value)) block
+  pub cut_below : CutBelow n cut
+  pub are_pieces : AreFaces n (pieces_with n cut) block
 
 -- a switch step from a piece of the source's face
-pub record SwitchJoin (n : ℕ) (guard reset inv from : List ℤ) (variable value : ℤ) (pieces : List ℤ) : Type 0 where
+pub record SwitchJoin (n : ℕ) (guard reset inv from : List ℤ) (cut : Option Cut) (pieces : List ℤ) : Type 0 where
   pub guard_in : Levels n guard
   pub reset_in : Levels n reset
   pub inv_in : Levels n inv
   pub from_ok : PartOk n (Levels n) from
-  pub words_of_cut : CutVariable n variable
-  pub are_pieces : AreFaces n (pieces_per_face (cut_from variable value)) pieces
+  pub cut_below : CutBelow n cut
+  pub are_pieces : AreFaces n (pieces_per_face cut) pieces
 
 -- what is known of location l by its number of pieces
 pub record Located (m : List ℤ) (l n count : ℕ) : Type 0 where
@@ -101,11 +100,6 @@ pub record Leaves (m : List ℤ) (e count k : ℕ) : Type 0 where
   pub is_switch : e < E# m
   pub count_is : count ≡ per_face m (source m e)
   pub is_piece : k < per_face m (source m e)
-
--- the cut of the location on which switch e lands
-pub record LandsOn (m : List ℤ) (e : ℕ) (variable value : ℤ) : Type 0 where
-  pub variable_is : variable ≡ cut_variable m (target m e)
-  pub value_is : value ≡ cut_value m (target m e)
 
 -- no location is cut
 pub record NoCut (m : List ℤ) : Type 0 where

@@ -11,7 +11,7 @@ pub fn start_part(model: &[i32], l: usize, out: &mut [i32]) -> bool
     requires { (model_questions model.now ≡ 0) × (l < L# model.now) × (2 * n# model.now ≤ length out.old) }
     ensures { Handed (n# model.now) result out.new out.old (start_part model.now l) }
 {
-    if integers::same(records::start_flag(model, l), 1) {
+    if records::start_flag(model, l) == 1 {
         let n = records::variables(model);
         let start = records::start_box(model, l);
         let inv = records::invariant(model, l);

@@ -1,7 +1,7 @@
 // The switch steps of a pass: each from a piece of the source's face of the table before the pass, given to the pieces of the
 // target's face.
 ghost use Rattle.std.specs.Prelude.{◌≡◌, ◌+◌, ◌<◌};
-ghost use Rattle.plant.specs.Model.{n#, E#, source, target, cut_from};
+ghost use Rattle.plant.specs.Model.{n#, E#, source, target, cut_of};
 ghost use Rattle.plant.specs.Pieces.{pieces_per_face, per_face};
 ghost use Rattle.plant.specs.Steps.{switch_step};
 ghost use Rattle.plant.specs.Tables as T;
@@ -10,7 +10,9 @@ ghost use Rattle.tables.specs.Places.{Places};
 ghost use Rattle.tables.specs.Room.{AreFaces, joined_each, cut_each};
 ghost use Rattle.passes.specs.Checked.{Checked};
 ghost use Rattle.passes.specs.Parts.{IsPart};
-ghost use Rattle.passes.specs.Joining.{SwitchJoin, Leaves, LandsOn, NoCut, IsTable, landed_on, with_switch, joined_below};
+ghost use Rattle.passes.specs.Joining.{SwitchJoin, Leaves, NoCut, IsTable, landed_on, with_switch, joined_below};
+
+use plant::Cut;
 
 // Joins to the pieces of a face of wall variable d the switch step from a piece of the source's face.
 fn join_switch(
@@ -21,24 +23,18 @@ fn join_switch(
     inv: &[i32],
     from: &[i32],
     d: usize,
-    variable: i32,
-    value: i32,
+    cut: Option<Cut>,
     pieces: &mut [i32],
 )
-    requires { SwitchJoin n guard.now reset.now inv.now from.now variable value pieces.old }
-    ensures { pieces.new ≡ joined_each n (pieces_per_face (cut_from variable value)) pieces.old (cut_each n (cut_from variable value) d (switch_step n mask guard.now reset.now inv.now (face_read n from.now 0))) }
+    requires { SwitchJoin n guard.now reset.now inv.now from.now cut pieces.old }
+    ensures { pieces.new ≡ joined_each n (pieces_per_face cut) pieces.old (cut_each n cut d (switch_step n mask guard.now reset.now inv.now (face_read n from.now 0))) }
 {
-    if integers::same(from[0], 1) {
+    if from[0] == 1 {
         let mut after = [0i32; 12];
         let end = 2 * n;
         let bounds = records::box_at(from, 1, n);
         if steps::switch_step(n, mask, guard, reset, inv, bounds, &mut after) {
-            if integers::same(variable, -1) {
-                tables::join(n, &after[..end], pieces);
-            } else {
-                let v = integers::natural(variable);
-                tables::join_both(n, d, v, value, &after[..end], pieces);
-            }
+            tables::join_pieces(n, d, cut, &after[..end], pieces);
         }
     }
 }
@@ -70,11 +66,10 @@ fn join_from<'a>(
     e: usize,
     count: usize,
     k: usize,
-    variable: i32,
-    value: i32,
+    cut: Option<Cut>,
     pieces: &mut [i32],
 )
-    requires { Checked model.now table.now × Places model.now places.now × Leaves model.now e count k × LandsOn model.now e variable value × AreFaces (n# model.now) (per_face model.now (target model.now e)) pieces.old }
+    requires { Checked model.now table.now × Places model.now places.now × Leaves model.now e count k × (cut ≡ cut_of model.now (target model.now e)) × AreFaces (n# model.now) (per_face model.now (target model.now e)) pieces.old }
     ensures { pieces.new ≡ landed_on model.now table.now e k pieces.old }
 {
     let n = records::variables(model);
@@ -84,7 +79,7 @@ fn join_from<'a>(
     let mask = records::reset_mask(model, e);
     let guard = records::guard(model, e);
     let reset = records::reset(model, e);
-    join_switch(n, mask, guard, reset, inv, from, d, variable, value, pieces);
+    join_switch(n, mask, guard, reset, inv, from, d, cut, pieces);
 }
 
 // Joins the step of switch e from piece k of its source's face to the pieces of the face on which it lands.
@@ -95,30 +90,19 @@ fn land_present<'a>(
     e: usize,
     count: usize,
     k: usize,
-    variable: i32,
-    value: i32,
+    cut: Option<Cut>,
     out: &mut [i32],
 )
-    requires { Checked model.now table.now × Places model.now places.now × Leaves model.now e count k × LandsOn model.now e variable value × IsTable model.now out.old }
+    requires { Checked model.now table.now × Places model.now places.now × Leaves model.now e count k × (cut ≡ cut_of model.now (target model.now e)) × IsTable model.now out.old }
     ensures { out.new ≡ with_switch model.now table.now e k out.old }
 {
     let n = records::variables(model);
     let l = records::target(model, e);
     let f = 2 * records::wall_variable(model, e) + records::target_side(model, e);
-    let each = tables::pieces_by(variable);
+    let each = tables::pieces_per_face(cut);
     let at = tables::piece_at(places[l], f * each, n);
     let end = at + each * tables::face_size(n);
-    join_from(
-        model,
-        places,
-        table,
-        e,
-        count,
-        k,
-        variable,
-        value,
-        &mut out[at..end],
-    );
+    join_from(model, places, table, e, count, k, cut, &mut out[at..end]);
 }
 
 // The same, if the piece is there: an absent one lands nothing, and nothing more is looked at.
@@ -129,16 +113,15 @@ fn land<'a>(
     e: usize,
     count: usize,
     k: usize,
-    variable: i32,
-    value: i32,
+    cut: Option<Cut>,
     out: &mut [i32],
 )
-    requires { Checked model.now table.now × Places model.now places.now × Leaves model.now e count k × LandsOn model.now e variable value × IsTable model.now out.old }
+    requires { Checked model.now table.now × Places model.now places.now × Leaves model.now e count k × (cut ≡ cut_of model.now (target model.now e)) × IsTable model.now out.old }
     ensures { out.new ≡ with_switch model.now table.now e k out.old }
 {
     let from = source_piece(model, places, table, e, count, k);
-    if integers::same(from[0], 1) {
-        land_present(model, places, table, e, count, k, variable, value, out);
+    if from[0] == 1 {
+        land_present(model, places, table, e, count, k, cut, out);
     }
 }
 
@@ -148,13 +131,10 @@ fn land_each<'a>(model: &'a [i32], places: &[usize], table: &'a [i32], e: usize,
     ensures { out.new ≡ table_by model.now (joined_below model.now table.now (e + 1)) }
 {
     let l = records::target(model, e);
-    let variable = records::cut_variable(model, l);
-    let value = records::cut_value(model, l);
+    let cut = records::cut(model, l);
     let count = tables::per_face(model, records::source(model, e));
-    let mut k = 0;
-    while k < count {
-        land(model, places, table, e, count, k, variable, value, out);
-        k = k + 1;
+    for k in 0..count {
+        land(model, places, table, e, count, k, cut, out);
     }
 }
 
@@ -164,10 +144,8 @@ fn switches_cut<'a>(model: &'a [i32], places: &[usize], table: &'a [i32], out: &
     ensures { out.new ≡ T.pass model.now table.now }
 {
     let count = records::switches(model);
-    let mut e = 0;
-    while e < count {
+    for e in 0..count {
         land_each(model, places, table, e, out);
-        e = e + 1;
     }
 }
 
@@ -177,10 +155,8 @@ fn switches_uncut<'a>(model: &'a [i32], places: &[usize], table: &'a [i32], out:
     ensures { out.new ≡ T.pass model.now table.now }
 {
     let count = records::switches(model);
-    let mut e = 0;
-    while e < count {
-        land(model, places, table, e, 1, 0, -1, 0, out);
-        e = e + 1;
+    for e in 0..count {
+        land(model, places, table, e, 1, 0, None, out);
     }
 }
 

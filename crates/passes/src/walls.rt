@@ -3,17 +3,17 @@
 ghost use Rattle.std.specs.Prelude.{◌≡◌, ◌*◌, ◌<◌, pos, length};
 ghost use Rattle.integers.specs.Words.{word};
 ghost use Rattle.plant.specs.Box.{box_at, hull, present, face_words};
-ghost use Rattle.plant.specs.Model.{L#, cut_variable, cut_value, cut_from};
+ghost use Rattle.plant.specs.Model.{L#, cut_of};
 ghost use Rattle.plant.specs.Pieces.{pieces_per_face, pieces};
 ghost use Rattle.plant.specs.Steps.{box_after, face_after, wall_step};
 ghost use Rattle.plant.specs.Tables.{face_size, pieces_before, table_size, face_read, piece_of, table_by, start_part, walls_joined};
 ghost use Rattle.tables.specs.Places.{Places};
-ghost use Rattle.tables.specs.Room.{AreFaces, joined_each, cut_each, CutVariable};
+ghost use Rattle.tables.specs.Room.{AreFaces, joined_each, cut_each, CutBelow};
 ghost use Rattle.passes.specs.Checked.{Checked};
 ghost use Rattle.passes.specs.Joining.{Located, pieces_with, AfterJoin, WallJoin, WallsJoin, PartJoin, StartJoin, walls_from, location_by};
 
 use super::parts;
-use plant::{End, Interval};
+use plant::{Cut, End, Interval};
 
 // Joins to a present face, bound by bound, the box after the delays t to the value b of variable d.
 fn widen_after(
@@ -29,18 +29,13 @@ fn widen_after(
     requires { AfterJoin n inv.now rate.now bounds.now b t × (length face.old ≡ face_size n) × (word face.old 0 ≡ pos 1) }
     ensures { face.new ≡ face_words n (present (hull n (box_at n face.old 1) (box_after n inv.now rate.now bounds.now d b t))) }
 {
-    let mut i = 0;
-    while i < n {
-        let lo = steps::low_after(inv, rate, bounds, d, b, t, i);
-        let hi = steps::high_after(inv, rate, bounds, d, b, t, i);
-        let k = 2 * i;
-        let l = k + 1;
-        let h = k + 2;
-        let low = integers::smaller(face[l] as i64, lo);
-        let high = integers::larger(face[h] as i64, hi);
-        face[l] = low as i32;
-        face[h] = high as i32;
-        i = i + 1;
+    for i in 0..n {
+        let lo = steps::low_after(inv, rate, bounds, d, b, t, i) as i32;
+        let hi = steps::high_after(inv, rate, bounds, d, b, t, i) as i32;
+        let low = 2 * i + 1;
+        let high = 2 * i + 2;
+        face[low] = face[low].min(lo);
+        face[high] = face[high].max(hi);
     }
 }
 
@@ -53,22 +48,16 @@ fn join_after(
     d: usize,
     b: i64,
     t: Interval,
-    variable: i32,
-    value: i32,
+    cut: Option<Cut>,
     pieces: &mut [i32],
 )
-    requires { AfterJoin n inv.now rate.now bounds.now b t × CutVariable n variable × AreFaces n (pieces_per_face (cut_from variable value)) pieces.old }
-    ensures { pieces.new ≡ joined_each n (pieces_per_face (cut_from variable value)) pieces.old (cut_each n (cut_from variable value) d (face_after n inv.now rate.now bounds.now d b (Some t))) }
+    requires { AfterJoin n inv.now rate.now bounds.now b t × CutBelow n cut × AreFaces n (pieces_per_face cut) pieces.old }
+    ensures { pieces.new ≡ joined_each n (pieces_per_face cut) pieces.old (cut_each n cut d (face_after n inv.now rate.now bounds.now d b (Some t))) }
 {
     let mut after = [0i32; 12];
     let size = 2 * n;
     if steps::box_after(n, inv, rate, bounds, d, b, t, &mut after) {
-        if integers::same(variable, -1) {
-            tables::join(n, &after[..size], pieces);
-        } else {
-            let v = integers::natural(variable);
-            tables::join_both(n, d, v, value, &after[..size], pieces);
-        }
+        tables::join_pieces(n, d, cut, &after[..size], pieces);
     }
 }
 
@@ -82,20 +71,20 @@ fn join_wall(
     end: End,
     d: usize,
     b: i64,
-    variable: i32,
-    value: i32,
+    cut: Option<Cut>,
     pieces: &mut [i32],
 )
-    requires { WallJoin n inv.now rate.now bounds.now end d b variable value pieces.old }
-    ensures { pieces.new ≡ joined_each n (pieces_per_face (cut_from variable value)) pieces.old (cut_each n (cut_from variable value) d (wall_step n inv.now rate.now bounds.now d b)) }
+    requires { WallJoin n inv.now rate.now bounds.now end d b cut pieces.old }
+    ensures { pieces.new ≡ joined_each n (pieces_per_face cut) pieces.old (cut_each n cut d (wall_step n inv.now rate.now bounds.now d b)) }
 {
     let Some(t) = delays::wall_delays(rate, bounds, d, b, end) else {
         return;
     };
-    if integers::same(variable, -1) & integers::same(pieces[0], 1) {
+    let there = pieces[0] == 1;
+    if there && cut.is_none() {
         widen_after(n, inv, rate, bounds, d, b, t, pieces);
     } else {
-        join_after(n, inv, rate, bounds, d, b, t, variable, value, pieces);
+        join_after(n, inv, rate, bounds, d, b, t, cut, pieces);
     }
 }
 
@@ -105,18 +94,16 @@ fn join_walls(
     inv: &[i32],
     rate: &[i32],
     bounds: &[i32],
-    variable: i32,
-    value: i32,
+    cut: Option<Cut>,
     block: &mut [i32],
 )
-    requires { WallsJoin n inv.now rate.now bounds.now variable value block.old }
-    ensures { block.new ≡ joined_each n (pieces_with n (cut_from variable value)) block.old (walls_from n inv.now rate.now (cut_from variable value) (present bounds.now)) }
+    requires { WallsJoin n inv.now rate.now bounds.now cut block.old }
+    ensures { block.new ≡ joined_each n (pieces_with n cut) block.old (walls_from n inv.now rate.now cut (present bounds.now)) }
 {
     let end = delays::window_end(n, inv, rate, bounds);
     let faces = 2 * n;
-    let size = tables::pieces_by(variable) * tables::face_size(n);
-    let mut f = 0;
-    while f < faces {
+    let size = tables::pieces_per_face(cut) * tables::face_size(n);
+    for f in 0..faces {
         let at = f * size;
         let next = at + size;
         join_wall(
@@ -127,37 +114,19 @@ fn join_walls(
             end,
             f / 2,
             integers::word(inv, f),
-            variable,
-            value,
+            cut,
             &mut block[at..next],
         );
-        f = f + 1;
     }
 }
 
 // Joins to the pieces of each face of a location the wall step from a part, if it is there.
-fn join_part(
-    n: usize,
-    inv: &[i32],
-    rate: &[i32],
-    part: &[i32],
-    variable: i32,
-    value: i32,
-    block: &mut [i32],
-)
-    requires { PartJoin n inv.now rate.now part.now variable value block.old }
-    ensures { block.new ≡ joined_each n (pieces_with n (cut_from variable value)) block.old (walls_from n inv.now rate.now (cut_from variable value) (face_read n part.now 0)) }
+fn join_part(n: usize, inv: &[i32], rate: &[i32], part: &[i32], cut: Option<Cut>, block: &mut [i32])
+    requires { PartJoin n inv.now rate.now part.now cut block.old }
+    ensures { block.new ≡ joined_each n (pieces_with n cut) block.old (walls_from n inv.now rate.now cut (face_read n part.now 0)) }
 {
-    if integers::same(part[0], 1) {
-        join_walls(
-            n,
-            inv,
-            rate,
-            records::box_at(part, 1, n),
-            variable,
-            value,
-            block,
-        );
+    if part[0] == 1 {
+        join_walls(n, inv, rate, records::box_at(part, 1, n), cut, block);
     }
 }
 
@@ -168,17 +137,16 @@ fn join_started(
     n: usize,
     inv: &[i32],
     rate: &[i32],
-    variable: i32,
-    value: i32,
+    cut: Option<Cut>,
     block: &mut [i32],
 )
-    requires { StartJoin model.now l n inv.now rate.now variable value block.old }
-    ensures { block.new ≡ joined_each n (pieces_with n (cut_from variable value)) block.old (walls_from n inv.now rate.now (cut_from variable value) (start_part model.now l)) }
+    requires { StartJoin model.now l n inv.now rate.now cut block.old }
+    ensures { block.new ≡ joined_each n (pieces_with n cut) block.old (walls_from n inv.now rate.now cut (start_part model.now l)) }
 {
     let mut start = [0i32; 12];
     let end = 2 * n;
     if parts::start_part(model, l, &mut start) {
-        join_walls(n, inv, rate, &start[..end], variable, value, block);
+        join_walls(n, inv, rate, &start[..end], cut, block);
     }
 }
 
@@ -189,38 +157,26 @@ fn join_start(
     n: usize,
     inv: &[i32],
     rate: &[i32],
-    variable: i32,
-    value: i32,
+    cut: Option<Cut>,
     block: &mut [i32],
 )
-    requires { StartJoin model.now l n inv.now rate.now variable value block.old }
-    ensures { block.new ≡ joined_each n (pieces_with n (cut_from variable value)) block.old (walls_from n inv.now rate.now (cut_from variable value) (start_part model.now l)) }
+    requires { StartJoin model.now l n inv.now rate.now cut block.old }
+    ensures { block.new ≡ joined_each n (pieces_with n cut) block.old (walls_from n inv.now rate.now cut (start_part model.now l)) }
 {
-    if integers::same(records::start_flag(model, l), 1) {
-        join_started(model, l, n, inv, rate, variable, value, block);
+    if records::start_flag(model, l) == 1 {
+        join_started(model, l, n, inv, rate, cut, block);
     }
 }
 
-// The words of the cut of location l with so many pieces: they are read only where it is cut.
-fn cut_variable(model: &[i32], l: usize, n: usize, count: usize) -> i32
+// The cut of location l with so many pieces: its words are read only where it is cut.
+fn cut(model: &[i32], l: usize, n: usize, count: usize) -> Option<Cut>
     requires { Located model.now l n count }
-    ensures { result ≡ cut_variable model.now l }
+    ensures { result ≡ cut_of model.now l }
 {
     if count == 2 * n {
-        -1
+        None
     } else {
-        records::cut_variable(model, l)
-    }
-}
-
-fn cut_value(model: &[i32], l: usize, n: usize, count: usize) -> i32
-    requires { Located model.now l n count }
-    ensures { result ≡ cut_value model.now l }
-{
-    if count == 2 * n {
-        0
-    } else {
-        records::cut_value(model, l)
+        records::cut(model, l)
     }
 }
 
@@ -240,14 +196,11 @@ fn join_parts<'a>(
     let n = records::variables(model);
     let inv = records::invariant(model, l);
     let rate = records::rate(model, l);
-    let variable = cut_variable(model, l, n, count);
-    let value = cut_value(model, l, n, count);
-    join_start(model, l, n, inv, rate, variable, value, block);
-    let mut q = 0;
-    while q < count {
+    let cut = cut(model, l, n, count);
+    join_start(model, l, n, inv, rate, cut, block);
+    for q in 0..count {
         let piece = tables::face(table, tables::piece_at(before, q, n), n);
-        join_part(n, inv, rate, piece, variable, value, block);
-        q = q + 1;
+        join_part(n, inv, rate, piece, cut, block);
     }
 }
 
@@ -259,14 +212,12 @@ pub fn walls<'a>(model: &'a [i32], places: &[usize], table: &'a [i32], out: &mut
     let n = records::variables(model);
     let locations = records::locations(model);
     let size = out.len();
-    integers::copy(&table[..size], out);
-    let mut l = 0;
-    while l < locations {
+    out.copy_from_slice(&table[..size]);
+    for l in 0..locations {
         let before = places[l];
         let next = places[l + 1];
         let at = tables::piece_at(before, 0, n);
         let end = tables::piece_at(next, 0, n);
         join_parts(model, table, l, before, next - before, &mut out[at..end]);
-        l = l + 1;
     }
 }

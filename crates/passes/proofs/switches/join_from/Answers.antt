@@ -2,10 +2,7 @@
 use mathlib.Core.Path.{◌≡◌, ap, ◌∙◌}
 use native.Mathlib.Omega.{arith}
 use Prim.Native.Nat.{◌<◌}
-use mir.Syntax.{w32}
-use mir.Val.{to_z, of_z}
-use mir.Facts.{to_z-of_z}
-use Rattle.plant.specs.Model.{L#, invariant, target, cut_variable, cut_value}
+use Rattle.plant.specs.Model.{L#, invariant, target}
 use Rattle.passes.proofs.Reading.{whole, placed, switch_join, step_joined}
 use Rattle.passes.proofs.switches.join_from.Goals as goal
 
@@ -40,15 +37,11 @@ join_switch-requires c =
     let m = c.args.model.now in
     let e = c.args.e in
     let inv_is : c.invariant-inv.result.now ≡ invariant m (target m e) = c.invariant-inv.ensures ∙ ap (invariant m) c.target.ensures in
-    let variable_is : to_z w32 (of_z w32 c.args.variable) ≡ cut_variable m (target m e) = to_z-of_z c.ranges.variable ∙ c.requires.3.variable_is in
-    let value_is : to_z w32 (of_z w32 c.args.value) ≡ cut_value m (target m e) = to_z-of_z c.ranges.value ∙ c.requires.3.value_is in
-    switch_join m c.args.table.now c.requires.0 e c.args.k c.requires.2.is_switch c.requires.2.is_piece c.variables-n.ensures c.guard-guard.ensures c.reset-reset.ensures inv_is c.source_piece-from.ensures variable_is value_is c.requires.4
+    switch_join m c.args.table.now c.requires.0 e c.args.k c.requires.2.is_switch c.requires.2.is_piece c.variables-n.ensures c.guard-guard.ensures c.reset-reset.ensures inv_is c.source_piece-from.ensures c.requires.3 c.requires.4
 
 pub returns : goal.returns
 returns c =
     let m = c.args.model.now in
     let e = c.args.e in
     let inv_is : c.invariant-inv.result.now ≡ invariant m (target m e) = c.invariant-inv.ensures ∙ ap (invariant m) c.target.ensures in
-    let variable_is : to_z w32 (of_z w32 c.args.variable) ≡ cut_variable m (target m e) = to_z-of_z c.ranges.variable ∙ c.requires.3.variable_is in
-    let value_is : to_z w32 (of_z w32 c.args.value) ≡ cut_value m (target m e) = to_z-of_z c.ranges.value ∙ c.requires.3.value_is in
-    step_joined m c.args.table.now c.requires.0 e c.args.k c.requires.2.is_switch c.requires.2.is_piece c.variables-n.ensures c.guard-guard.ensures c.reset-reset.ensures inv_is c.source_piece-from.ensures variable_is value_is c.reset_mask-mask.ensures c.wall_variable-d.ensures c.args.pieces.now c.join_switch.ensures
+    step_joined m c.args.table.now c.requires.0 e c.args.k c.requires.2.is_switch c.requires.2.is_piece c.variables-n.ensures c.guard-guard.ensures c.reset-reset.ensures inv_is c.source_piece-from.ensures c.requires.3 c.reset_mask-mask.ensures c.wall_variable-d.ensures c.args.pieces.now c.join_switch.ensures

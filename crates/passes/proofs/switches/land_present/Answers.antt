@@ -5,17 +5,15 @@ use native.Mathlib.Omega.{arith}
 use Prim.Native.Nat.{ℕ, ◌+◌, ◌-◌, ◌*◌, ◌≤◌, ◌<◌}
 use lib.IntN.{ℤ}
 use lib.ListN.{get_or, length}
-use mir.Syntax.{w32}
-use mir.Val.{SFits, to_z, of_z}
-use mir.Facts.{to_z-of_z}
-use Rattle.plant.specs.Model.{n#, E#, target, wall_variable, target_side, cut_value, cut_from, cut_of}
+use Rattle.std.specs.Prelude.{Option}
+use Rattle.plant.specs.declared.Cut.{Cut}
+use Rattle.plant.specs.Model.{n#, E#, target, wall_variable, target_side, cut_of}
 use Rattle.plant.specs.Pieces.{pieces_per_face, per_face}
 use Rattle.plant.specs.Tables.{face_size, table_size, pieces_before, piece_at, target_face}
 use Rattle.plant.proofs.Whole.{Whole, Placed}
 use Rattle.tables.specs.Places.{Places}
-use Rattle.tables.specs.Room.{PiecesBy}
 use Rattle.passes.specs.Checked.{Checked}
-use Rattle.passes.specs.Joining.{Leaves, LandsOn, IsTable}
+use Rattle.passes.specs.Joining.{Leaves, IsTable}
 use Rattle.passes.proofs.PartWords.{place_is}
 use Rattle.passes.proofs.Reading.{whole, placed, target_face_lem, place_small, table_small}
 use Rattle.passes.proofs.Landing.{target_first, first_small, lands_inside, out_long, target_are_pieces, landed}
@@ -23,26 +21,25 @@ use Rattle.passes.proofs.switches.land_present.Goals as goal
 
 -- what is asked, and what was read: the number of variables, the target, the wall and the side on which the switch lands, and how
 -- many pieces the target's faces have
-record Read (m t : List ℤ) (places : List ℕ) (e k : ℕ) (variable value : ℤ) (out : List ℤ) (n l d s each : ℕ) : Type 0 where
+record Read (m t : List ℤ) (places : List ℕ) (e k : ℕ) (cut : Option Cut) (out : List ℤ) (n l d s each : ℕ) : Type 0 where
   ok : Checked m t
   are_places : Places m places
   is_switch : e < E# m
-  lands : LandsOn m e variable value
+  lands : cut ≡ cut_of m (target m e)
   table : IsTable m out
-  fits : SFits w32 variable
   n_is : n ≡ n# m
   l_is : l ≡ target m e
   d_is : d ≡ wall_variable m e
   s_is : s ≡ target_side m e
-  each_is : PiecesBy (to_z w32 (of_z w32 variable)) each
+  each_is : each ≡ pieces_per_face cut
 
-read : {m t : List ℤ} {places : List ℕ} {e count k : ℕ} {variable value : ℤ} {out : List ℤ} {n l d s each : ℕ}
-    → Checked m t → Places m places → Leaves m e count k → LandsOn m e variable value → IsTable m out → SFits w32 variable
-    → n ≡ n# m → l ≡ target m e → d ≡ wall_variable m e → s ≡ target_side m e → PiecesBy (to_z w32 (of_z w32 variable)) each
-    → Read m t places e k variable value out n l d s each
-read a b c d e f g h i j k = record { ok = a; are_places = b; is_switch = c.is_switch; lands = d; table = e; fits = f; n_is = g; l_is = h; d_is = i; s_is = j; each_is = k }
+read : {m t : List ℤ} {places : List ℕ} {e count k : ℕ} {cut : Option Cut} {out : List ℤ} {n l d s each : ℕ}
+    → Checked m t → Places m places → Leaves m e count k → cut ≡ cut_of m (target m e) → IsTable m out
+    → n ≡ n# m → l ≡ target m e → d ≡ wall_variable m e → s ≡ target_side m e → each ≡ pieces_per_face cut
+    → Read m t places e k cut out n l d s each
+read a b c d e f g h i j = record { ok = a; are_places = b; is_switch = c.is_switch; lands = d; table = e; n_is = f; l_is = g; d_is = h; s_is = i; each_is = j }
 
-module _ {m t : List ℤ} {places : List ℕ} {e k : ℕ} {variable value : ℤ} {out : List ℤ} {n l d s each : ℕ} (r : Read m t places e k variable value out n l d s each) where
+module _ {m t : List ℤ} {places : List ℕ} {e k : ℕ} {cut : Option Cut} {out : List ℤ} {n l d s each : ℕ} (r : Read m t places e k cut out n l d s each) where
   whole_at : Whole m
   whole_at = whole m t r.ok
 
@@ -62,8 +59,8 @@ module _ {m t : List ℤ} {places : List ℕ} {e k : ℕ} {variable value : ℤ}
   n_small = omega (arith, r.n_is, whole_at.head.n_small)
 
   count_is : each ≡ per_face m (target m e)
-  unfolding per_face cut_of
-  count_is = r.each_is (cut_value m (target m e)) ∙ ap (λ (z : ℤ). pieces_per_face (cut_from z (cut_value m (target m e)))) (to_z-of_z r.fits ∙ r.lands.variable_is)
+  unfolding per_face
+  count_is = r.each_is ∙ ap pieces_per_face r.lands
 
   first_is : (2 * d + s) * each ≡ target_first m e
   first_is = (λ i. (2 * r.d_is i + r.s_is i) * count_is i)
@@ -119,62 +116,62 @@ overflow_add-f c =
 
 pub offset_bounds-places-l : goal.offset_bounds-places-l
 offset_bounds-places-l c =
-    let r = read c.requires.0 c.requires.1 c.requires.2 c.requires.3 c.requires.4 c.ranges.variable c.variables-n.ensures c.target-l.ensures c.wall_variable.ensures c.target_side.ensures c.pieces_by-each.ensures in
+    let r = read c.requires.0 c.requires.1 c.requires.2 c.requires.3 c.requires.4 c.variables-n.ensures c.target-l.ensures c.wall_variable.ensures c.target_side.ensures c.pieces_per_face-each.ensures in
     omega (arith, l_below r)
 
 pub bounds-places-l : goal.bounds-places-l
 bounds-places-l c =
-    let r = read c.requires.0 c.requires.1 c.requires.2 c.requires.3 c.requires.4 c.ranges.variable c.variables-n.ensures c.target-l.ensures c.wall_variable.ensures c.target_side.ensures c.pieces_by-each.ensures in
+    let r = read c.requires.0 c.requires.1 c.requires.2 c.requires.3 c.requires.4 c.variables-n.ensures c.target-l.ensures c.wall_variable.ensures c.target_side.ensures c.pieces_per_face-each.ensures in
     omega (arith, l_below r, r.are_places.long)
 
 pub overflow_mul-f-2 : goal.overflow_mul-f-2
 overflow_mul-f-2 c =
-    let r = read c.requires.0 c.requires.1 c.requires.2 c.requires.3 c.requires.4 c.ranges.variable c.variables-n.ensures c.target-l.ensures c.wall_variable.ensures c.target_side.ensures c.pieces_by-each.ensures in
+    let r = read c.requires.0 c.requires.1 c.requires.2 c.requires.3 c.requires.4 c.variables-n.ensures c.target-l.ensures c.wall_variable.ensures c.target_side.ensures c.pieces_per_face-each.ensures in
     omega (arith, few r)
 
 pub piece_at-at-requires : goal.piece_at-at-requires
 piece_at-at-requires c =
-    let r = read c.requires.0 c.requires.1 c.requires.2 c.requires.3 c.requires.4 c.ranges.variable c.variables-n.ensures c.target-l.ensures c.wall_variable.ensures c.target_side.ensures c.pieces_by-each.ensures in
+    let r = read c.requires.0 c.requires.1 c.requires.2 c.requires.3 c.requires.4 c.variables-n.ensures c.target-l.ensures c.wall_variable.ensures c.target_side.ensures c.pieces_per_face-each.ensures in
     (before_small r, few r, n_small r)
 
 pub face_size-requires : goal.face_size-requires
 face_size-requires c =
-    let r = read c.requires.0 c.requires.1 c.requires.2 c.requires.3 c.requires.4 c.ranges.variable c.variables-n.ensures c.target-l.ensures c.wall_variable.ensures c.target_side.ensures c.pieces_by-each.ensures in
+    let r = read c.requires.0 c.requires.1 c.requires.2 c.requires.3 c.requires.4 c.variables-n.ensures c.target-l.ensures c.wall_variable.ensures c.target_side.ensures c.pieces_per_face-each.ensures in
     omega (arith, n_small r)
 
 pub overflow_mul-end : goal.overflow_mul-end
 overflow_mul-end c =
-    let r = read c.requires.0 c.requires.1 c.requires.2 c.requires.3 c.requires.4 c.ranges.variable c.variables-n.ensures c.target-l.ensures c.wall_variable.ensures c.target_side.ensures c.pieces_by-each.ensures in
+    let r = read c.requires.0 c.requires.1 c.requires.2 c.requires.3 c.requires.4 c.variables-n.ensures c.target-l.ensures c.wall_variable.ensures c.target_side.ensures c.pieces_per_face-each.ensures in
     omega (arith, at_small r c.piece_at-at.ensures c.face_size.ensures)
 
 pub overflow_add-end : goal.overflow_add-end
 overflow_add-end c =
-    let r = read c.requires.0 c.requires.1 c.requires.2 c.requires.3 c.requires.4 c.ranges.variable c.variables-n.ensures c.target-l.ensures c.wall_variable.ensures c.target_side.ensures c.pieces_by-each.ensures in
+    let r = read c.requires.0 c.requires.1 c.requires.2 c.requires.3 c.requires.4 c.variables-n.ensures c.target-l.ensures c.wall_variable.ensures c.target_side.ensures c.pieces_per_face-each.ensures in
     omega (arith, at_small r c.piece_at-at.ensures c.face_size.ensures)
 
 pub offset_bounds-out-at : goal.offset_bounds-out-at
 offset_bounds-out-at c =
-    let r = read c.requires.0 c.requires.1 c.requires.2 c.requires.3 c.requires.4 c.ranges.variable c.variables-n.ensures c.target-l.ensures c.wall_variable.ensures c.target_side.ensures c.pieces_by-each.ensures in
+    let r = read c.requires.0 c.requires.1 c.requires.2 c.requires.3 c.requires.4 c.variables-n.ensures c.target-l.ensures c.wall_variable.ensures c.target_side.ensures c.pieces_per_face-each.ensures in
     omega (arith, at_small r c.piece_at-at.ensures c.face_size.ensures)
 
 pub slice_bounds-join_from-end : goal.slice_bounds-join_from-end
 slice_bounds-join_from-end c =
-    let r = read c.requires.0 c.requires.1 c.requires.2 c.requires.3 c.requires.4 c.ranges.variable c.variables-n.ensures c.target-l.ensures c.wall_variable.ensures c.target_side.ensures c.pieces_by-each.ensures in
+    let r = read c.requires.0 c.requires.1 c.requires.2 c.requires.3 c.requires.4 c.variables-n.ensures c.target-l.ensures c.wall_variable.ensures c.target_side.ensures c.pieces_per_face-each.ensures in
     omega (arith, long r c.piece_at-at.ensures c.face_size.ensures)
 
 pub join_from-requires : goal.join_from-requires
 join_from-requires c =
-    let r = read c.requires.0 c.requires.1 c.requires.2 c.requires.3 c.requires.4 c.ranges.variable c.variables-n.ensures c.target-l.ensures c.wall_variable.ensures c.target_side.ensures c.pieces_by-each.ensures in
+    let r = read c.requires.0 c.requires.1 c.requires.2 c.requires.3 c.requires.4 c.variables-n.ensures c.target-l.ensures c.wall_variable.ensures c.target_side.ensures c.pieces_per_face-each.ensures in
     let a = c.args in (
       c.requires.0,
       c.requires.1,
       c.requires.2,
-      record { variable_is = to_z-of_z c.ranges.variable ∙ c.requires.3.variable_is; value_is = to_z-of_z c.ranges.value ∙ c.requires.3.value_is },
+      c.requires.3,
       target_are_pieces a.model.now a.table.now a.e a.k (placed_at r).target_is (face_below r) (placed_at r).target_side_is a.out.now c.requires.4 (at_is r c.piece_at-at.ensures c.face_size.ensures) (part_is r c.piece_at-at.ensures c.face_size.ensures),
     )
 
 pub returns : goal.returns
 returns c =
-    let r = read c.requires.0 c.requires.1 c.requires.2 c.requires.3 c.requires.4 c.ranges.variable c.variables-n.ensures c.target-l.ensures c.wall_variable.ensures c.target_side.ensures c.pieces_by-each.ensures in
+    let r = read c.requires.0 c.requires.1 c.requires.2 c.requires.3 c.requires.4 c.variables-n.ensures c.target-l.ensures c.wall_variable.ensures c.target_side.ensures c.pieces_per_face-each.ensures in
     let a = c.args in
     landed a.model.now a.table.now a.e a.k (placed_at r).target_is (face_below r) (placed_at r).target_side_is a.out.now c.requires.4 (at_is r c.piece_at-at.ensures c.face_size.ensures) (part_is r c.piece_at-at.ensures c.face_size.ensures) c.join_from.ensures

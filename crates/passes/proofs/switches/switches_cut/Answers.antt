@@ -13,22 +13,19 @@ pub switches-count-requires : goal.switches-count-requires
 switches-count-requires c = (whole _ _ c.requires.0).head
 
 pub loop-e-init : goal.loop-e-init
-loop-e-init c = (omega arith, c.requires.2 ∙ switches_none c.args.model.now c.args.table.now)
+loop-e-init c = c.requires.2 ∙ switches_none c.args.model.now c.args.table.now
 
 pub land_each-requires : goal.land_each-requires
 land_each-requires c =
     let is_switch : c.loop-e.e < E# c.args.model.now = omega (arith, c.loop-e-test.true, c.switches-count.ensures) in
-    (c.requires.0, c.requires.1, is_switch, c.loop-e.invariant.1)
-
-pub overflow_add-e : goal.overflow_add-e
-overflow_add-e c = omega (arith, c.loop-e-test.true, c.switches-count.ensures, (whole _ _ c.requires.0).head.E_small)
+    (c.requires.0, c.requires.1, is_switch, c.loop-e.invariant)
 
 pub loop-e-preserved : goal.loop-e-preserved
-loop-e-preserved c = (omega (arith, c.loop-e-test.true, c.switches-count.ensures), c.land_each.ensures)
+loop-e-preserved c = c.land_each.ensures
 
 pub returns : goal.returns
 returns c =
     let m = c.args.model.now in
     let t = c.args.table.now in
-    let e : c.loop-e.e ≡ E# m = omega (arith, c.loop-e.invariant.0, c.loop-e-test.false, c.switches-count.ensures) in
-    c.loop-e.invariant.1 ∙ ap (λ (k : ℕ). table_by m (joined_below m t k)) e ∙ switches_all m t
+    let e : c.loop-e.e ≡ E# m = omega (arith, c.switches-count.ensures) in
+    c.loop-e.invariant ∙ ap (λ (k : ℕ). table_by m (joined_below m t k)) e ∙ switches_all m t

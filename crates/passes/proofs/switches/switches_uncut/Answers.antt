@@ -22,7 +22,7 @@ pub switches-count-requires : goal.switches-count-requires
 switches-count-requires c = (whole _ _ c.requires.0).head
 
 pub loop-e-init : goal.loop-e-init
-loop-e-init c = (omega arith, c.requires.2 ∙ switches_none c.args.model.now c.args.table.now)
+loop-e-init c = c.requires.2 ∙ switches_none c.args.model.now c.args.table.now
 
 pub land-requires : goal.land-requires
 land-requires c =
@@ -31,21 +31,18 @@ land-requires c =
     let e = c.loop-e.e in
     let is_switch : e < E# m = omega (arith, c.loop-e-test.true, c.switches-count.ensures) in
     let single = one m t c.requires.0 c.requires.3 e is_switch in
-    (c.requires.0, c.requires.1, record { is_switch = is_switch; count_is = sym single; is_piece = omega (arith, single) }, lands_uncut m t c.requires.0 c.requires.3 e is_switch, is_table m t (joined_below m t e) c.loop-e.invariant.1)
-
-pub overflow_add-e : goal.overflow_add-e
-overflow_add-e c = omega (arith, c.loop-e-test.true, c.switches-count.ensures, (whole _ _ c.requires.0).head.E_small)
+    (c.requires.0, c.requires.1, record { is_switch = is_switch; count_is = sym single; is_piece = omega (arith, single) }, lands_uncut m t c.requires.0 c.requires.3 e is_switch, is_table m t (joined_below m t e) c.loop-e.invariant)
 
 pub loop-e-preserved : goal.loop-e-preserved
 loop-e-preserved c =
     let m = c.args.model.now in
     let t = c.args.table.now in
     let is_switch : c.loop-e.e < E# m = omega (arith, c.loop-e-test.true, c.switches-count.ensures) in
-    (omega arith, c.land.ensures ∙ from_one m t c.loop-e.e (one m t c.requires.0 c.requires.3 c.loop-e.e is_switch) c.loop-e.invariant.1)
+    c.land.ensures ∙ from_one m t c.loop-e.e (one m t c.requires.0 c.requires.3 c.loop-e.e is_switch) c.loop-e.invariant
 
 pub returns : goal.returns
 returns c =
     let m = c.args.model.now in
     let t = c.args.table.now in
-    let e : c.loop-e.e ≡ E# m = omega (arith, c.loop-e.invariant.0, c.loop-e-test.false, c.switches-count.ensures) in
-    c.loop-e.invariant.1 ∙ ap (λ (k : ℕ). table_by m (joined_below m t k)) e ∙ switches_all m t
+    let e : c.loop-e.e ≡ E# m = omega (arith, c.switches-count.ensures) in
+    c.loop-e.invariant ∙ ap (λ (k : ℕ). table_by m (joined_below m t k)) e ∙ switches_all m t

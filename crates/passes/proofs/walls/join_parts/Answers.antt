@@ -4,12 +4,10 @@ use mathlib.Core.List.{List}
 use native.Mathlib.Omega.{arith}
 use Prim.Native.Nat.{ℕ, ◌+◌, ◌*◌, ◌≤◌, ◌<◌}
 use lib.IntN.{ℤ}
-use lib.Signed.{mag}
 use lib.ListN.{length, take, drop}
-use mir.Syntax.{w32}
-use mir.Val.{to_z, of_z}
-use Rattle.integers.proofs.Signed.{got32}
-use Rattle.plant.specs.Model.{n#, L#, invariant, rate, cut_variable, cut_value}
+use Rattle.std.specs.Prelude.{Option}
+use Rattle.plant.specs.declared.Cut.{Cut}
+use Rattle.plant.specs.Model.{n#, L#, invariant, rate, cut_of}
 use Rattle.plant.specs.Pieces.{pieces}
 use Rattle.plant.specs.Tables.{face_size, pieces_before, piece_at, part_of}
 use Rattle.plant.proofs.Tables.{pieces-most}
@@ -20,10 +18,9 @@ use Rattle.passes.proofs.PartWords.{place_is, piece_end}
 use Rattle.passes.proofs.Reading.{LocationRead, whole, piece_is_part, joined_to, joined_all, start_join, start_joined, part_join, joined_more}
 use Rattle.passes.proofs.walls.join_parts.Goals as goal
 
--- what was read of the location: the words of its cut as the calls have them
-read : {m : List ℤ} {l n : ℕ} {inv rates : List ℤ} {variable value : ℤ} → n ≡ n# m → inv ≡ invariant m l → rates ≡ rate m l → mag variable < 2147483648 → variable ≡ cut_variable m l → mag value < 2147483648 → value ≡ cut_value m l
-    → LocationRead m l n inv rates (to_z w32 (of_z w32 variable)) (to_z w32 (of_z w32 value))
-read a b c u d v e = record { n_is = a; inv_is = b; rate_is = c; variable_is = got32 _ u ∙ d; value_is = got32 _ v ∙ e }
+-- what was read of the location
+read : {m : List ℤ} {l n : ℕ} {inv rates : List ℤ} {cut : Option Cut} → n ≡ n# m → inv ≡ invariant m l → rates ≡ rate m l → cut ≡ cut_of m l → LocationRead m l n inv rates cut
+read a b c d = record { n_is = a; inv_is = b; rate_is = c; cut_is = d }
 
 pub variables-n-requires : goal.variables-n-requires
 variables-n-requires c = (whole _ _ c.requires.0).head
@@ -34,23 +31,20 @@ invariant-inv-requires c = (whole _ _ c.requires.0, c.requires.1)
 pub rate-rate-requires : goal.rate-rate-requires
 rate-rate-requires c = (whole _ _ c.requires.0, c.requires.1)
 
-pub cut_variable-variable-requires : goal.cut_variable-variable-requires
-cut_variable-variable-requires c = record { passes = c.requires.0.ready.passes; below = c.requires.1; n_is = c.variables-n.ensures; count_is = c.requires.4 }
-
-pub cut_value-value-requires : goal.cut_value-value-requires
-cut_value-value-requires c = record { passes = c.requires.0.ready.passes; below = c.requires.1; n_is = c.variables-n.ensures; count_is = c.requires.4 }
+pub cut-cut-requires : goal.cut-cut-requires
+cut-cut-requires c = record { passes = c.requires.0.ready.passes; below = c.requires.1; n_is = c.variables-n.ensures; count_is = c.requires.4 }
 
 pub join_start-requires : goal.join_start-requires
 join_start-requires c =
     let a = c.args in
-    let r = read c.variables-n.ensures c.invariant-inv.ensures c.rate-rate.ensures c.cut_variable-variable.type_inv c.cut_variable-variable.ensures c.cut_value-value.type_inv c.cut_value-value.ensures in
+    let r = read c.variables-n.ensures c.invariant-inv.ensures c.rate-rate.ensures c.cut-cut.ensures in
     start_join a.model.now a.table.now c.requires.0 a.l c.requires.1 r c.requires.3
 
 pub loop-q-init : goal.loop-q-init
 loop-q-init c =
     let a = c.args in
-    let r = read c.variables-n.ensures c.invariant-inv.ensures c.rate-rate.ensures c.cut_variable-variable.type_inv c.cut_variable-variable.ensures c.cut_value-value.type_inv c.cut_value-value.ensures in
-    (omega arith, start_joined a.model.now a.table.now c.requires.0 a.l c.requires.1 r c.requires.3 c.join_start.ensures)
+    let r = read c.variables-n.ensures c.invariant-inv.ensures c.rate-rate.ensures c.cut-cut.ensures in
+    start_joined a.model.now a.table.now c.requires.0 a.l c.requires.1 r c.requires.3 c.join_start.ensures
 
 -- piece q of the location
 module _ (m t : List ℤ) (ok : Checked m t) (l : ℕ) (u : l < L# m) {n before count q : ℕ} (n_is : n ≡ n# m) (before_is : before ≡ pieces_before m l) (count_is : count ≡ pieces m l) (v : q < count) where
@@ -88,23 +82,20 @@ face-piece-requires c = (
 pub join_part-requires : goal.join_part-requires
 join_part-requires c =
     let a = c.args in
-    let r = read c.variables-n.ensures c.invariant-inv.ensures c.rate-rate.ensures c.cut_variable-variable.type_inv c.cut_variable-variable.ensures c.cut_value-value.type_inv c.cut_value-value.ensures in
+    let r = read c.variables-n.ensures c.invariant-inv.ensures c.rate-rate.ensures c.cut-cut.ensures in
     let p = piece_is a.model.now a.table.now c.requires.0 a.l c.requires.1 c.variables-n.ensures c.requires.2 c.requires.4 c.loop-q-test.true c.piece_at.ensures c.face-piece.ensures in
-    part_join a.model.now a.table.now c.requires.0 a.l c.requires.1 r (c.loop-q.q + 1) p c.loop-q.invariant.1 (omega (arith, c.loop-q-test.true, c.requires.4))
-
-pub overflow_add-q : goal.overflow_add-q
-overflow_add-q c = omega (arith, c.loop-q-test.true, c.requires.4, pieces-most c.args.model.now c.args.l (whole _ _ c.requires.0).head.n_small)
+    part_join a.model.now a.table.now c.requires.0 a.l c.requires.1 r (c.loop-q.q + 1) p c.loop-q.invariant (omega (arith, c.loop-q-test.true, c.requires.4))
 
 pub loop-q-preserved : goal.loop-q-preserved
 loop-q-preserved c =
     let a = c.args in
-    let r = read c.variables-n.ensures c.invariant-inv.ensures c.rate-rate.ensures c.cut_variable-variable.type_inv c.cut_variable-variable.ensures c.cut_value-value.type_inv c.cut_value-value.ensures in
+    let r = read c.variables-n.ensures c.invariant-inv.ensures c.rate-rate.ensures c.cut-cut.ensures in
     let p = piece_is a.model.now a.table.now c.requires.0 a.l c.requires.1 c.variables-n.ensures c.requires.2 c.requires.4 c.loop-q-test.true c.piece_at.ensures c.face-piece.ensures in
-    (omega (arith, c.loop-q-test.true, c.requires.4), joined_more a.model.now a.table.now c.requires.0 a.l c.requires.1 r (c.loop-q.q + 1) p c.loop-q.invariant.1 c.join_part.ensures)
+    joined_more a.model.now a.table.now c.requires.0 a.l c.requires.1 r (c.loop-q.q + 1) p c.loop-q.invariant c.join_part.ensures
 
 pub returns : goal.returns
 returns c =
     let a = c.args in
     let i = c.loop-q in
-    let e : i.q + 1 ≡ pieces a.model.now a.l + 1 = omega (arith, i.invariant.0, c.loop-q-test.false, c.requires.4) in
-    i.invariant.1 ∙ ap (joined_to a.model.now a.table.now c.requires.0 a.l c.requires.1) e ∙ joined_all a.model.now a.table.now c.requires.0 a.l c.requires.1
+    let e : i.q + 1 ≡ pieces a.model.now a.l + 1 = omega (arith, c.requires.4) in
+    i.invariant ∙ ap (joined_to a.model.now a.table.now c.requires.0 a.l c.requires.1) e ∙ joined_all a.model.now a.table.now c.requires.0 a.l c.requires.1

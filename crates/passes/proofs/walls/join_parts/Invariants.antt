@@ -1,16 +1,12 @@
 -- At piece q the location's pieces are joined with the wall steps from the start part, before the loop, and from the pieces below q.
 use mathlib.Core.Path.{◌≡◌}
-use Prim.Native.Nat.{◌+◌, ◌-◌, ◌≤◌}
+use Prim.Native.Nat.{◌+◌}
 use Rattle.plant.specs.Model.{n#}
 use Rattle.plant.specs.Box.{joins}
-use Rattle.plant.specs.Pieces.{pieces}
 use Rattle.plant.specs.Tables.{piece_of, wall_from}
 use Rattle.passes.specs.Joining.{location_by}
 use Rattle.passes.proofs.walls.join_parts.Given as goal
 
 abbrev pub invariant-loop-q : goal.invariant-loop-q
 invariant-loop-q l =
-    (l.q ≤ pieces l.model l.l) × (l.block ≡ location_by l.model l.l (λ i. joins (n# l.model) (l.q + 1) (wall_from l.model l.table l.l i) (piece_of l.model l.table l.l i)))
-
-abbrev pub decreases-loop-q : goal.decreases-loop-q
-decreases-loop-q l = l.count - l.q
+    l.block ≡ location_by l.model l.l (λ i. joins (n# l.model) (l.q + 1) (wall_from l.model l.table l.l i) (piece_of l.model l.table l.l i))

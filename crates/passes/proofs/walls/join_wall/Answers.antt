@@ -1,69 +1,61 @@
 -- Without a delay the pieces stay. A present face in an uncut location is widened by the box, which is not empty; else the box is
 -- joined to the pieces.
-use mathlib.Core.Path.{◌≡◌, sym, ◌∙◌}
-use mathlib.Core.Bool.{Bool, true, ◌&&◌}
-use lib.IntN.{pos}
+use Rattle.std.proofs.Common.{◌≡◌, arith, rules, pos, Option, Some, None, false, refl}
+use Rattle.std.proofs.lemmas.Int.{ints}
 use mir.Facts.{to_z-of_z}
-use borrow.Author.Rules.{rules}
 use Rattle.integers.specs.Words.{word}
-use Rattle.integers.proofs.Signed.{got32}
-use Rattle.integers.proofs.Tests.{true_is, and_yes, is_true}
-use Rattle.integers.proofs.Counted.{eq_z_eq}
 use Rattle.passes.proofs.Handing.{delays_ready, pieces_there, wall_nothing, after_ok, wall_after, one_long, wall_widened}
+use Rattle.std.specs.Option.{is_some}
+use Rattle.plant.specs.declared.Cut.{Cut}
 use Rattle.passes.proofs.walls.join_wall.Goals as goal
+
+none_is : (c : Option Cut) → is_some c ≡ false → c ≡ None
+none_is None h = refl
+none_is (Some cut) h = cc
 
 pub wall_delays-requires : goal.wall_delays-requires
 wall_delays-requires c =
     let a = c.args in
-    simp (to_z-of_z c.ranges.b) (delays_ready a.n a.inv.now a.rate.now a.bounds.now a.end a.d a.b a.variable a.value a.pieces.now c.requires)
+    simp (to_z-of_z c.ranges.b) (delays_ready a.n a.inv.now a.rate.now a.bounds.now a.end a.d a.b a.cut a.pieces.now c.requires)
 
 pub returns-in_default : goal.returns-in_default
 returns-in_default c =
     let a = c.args in
-    wall_nothing a.n a.inv.now a.rate.now a.bounds.now a.end a.d a.b a.variable a.value a.pieces.now c.requires (simp (to_z-of_z c.ranges.b) at c.wall_delays.ensures) c.in_default.is
+    wall_nothing a.n a.inv.now a.rate.now a.bounds.now a.end a.d a.b a.cut a.pieces.now c.requires (simp (to_z-of_z c.ranges.b) at c.wall_delays.ensures) c.in_default.is
 
--- both tests say yes
-both : {x y : Bool} → x && y ≡ true → (x ≡ true) × (y ≡ true)
-both {x} {y} h = let b = and_yes x y (true_is h) in (is_true b.0, is_true b.1)
-
-pub slice_copy_out-same : goal.slice_copy_out-same
-slice_copy_out-same c =
+pub slice_copy_out-there : goal.slice_copy_out-there
+slice_copy_out-there c =
     let a = c.args in
-    let u = pieces_there a.n a.inv.now a.rate.now a.bounds.now a.end a.d a.b a.variable a.value a.pieces.now c.requires in
+    let u = pieces_there a.n a.inv.now a.rate.now a.bounds.now a.end a.d a.b a.cut a.pieces.now c.requires in
     search rules
 
 pub widen_after-requires : goal.widen_after-requires
 widen_after-requires c =
     let a = c.args in
     let delays_are = simp (to_z-of_z c.ranges.b) at c.wall_delays.ensures in
-    let uncut_told = simp (to_z-of_z c.ranges.variable) at c.same.ensures in
-    let there_told = simp (got32 (word a.pieces.now 0) c.same-arg-1.given) at c.same-2.ensures in
+    let none : a.cut ≡ None = none_is a.cut (grind (arith)) in
+    let there : word a.pieces.now 0 ≡ pos 1 = omega (arith, ints) in
     simp (to_z-of_z c.ranges.b) (
-      after_ok a.n a.inv.now a.rate.now a.bounds.now a.end a.d a.b a.variable a.value a.pieces.now c.requires delays_are c.in-Some.is,
-      one_long a.n a.inv.now a.rate.now a.bounds.now a.end a.d a.b a.variable a.value a.pieces.now c.requires delays_are c.in-Some.is (sym uncut_told ∙ (both c.if-same.true).0),
-      eq_z_eq (word a.pieces.now 0) (pos 1) (true_is (sym there_told ∙ (both c.if-same.true).1)),
+      after_ok a.n a.inv.now a.rate.now a.bounds.now a.end a.d a.b a.cut a.pieces.now c.requires delays_are c.in-Some.is,
+      one_long a.n a.inv.now a.rate.now a.bounds.now a.end a.d a.b a.cut a.pieces.now c.requires delays_are c.in-Some.is none,
+      there,
     )
 
 pub join_after-requires : goal.join_after-requires
 join_after-requires c =
     let a = c.args in
     let delays_are = simp (to_z-of_z c.ranges.b) at c.wall_delays.ensures in
-    simp (to_z-of_z c.ranges.b, to_z-of_z c.ranges.variable, to_z-of_z c.ranges.value) (
-      after_ok a.n a.inv.now a.rate.now a.bounds.now a.end a.d a.b a.variable a.value a.pieces.now c.requires delays_are c.in-Some.is,
-      c.requires.words_of_cut,
-      c.requires.are_pieces,
-    )
+    simp (to_z-of_z c.ranges.b) (after_ok a.n a.inv.now a.rate.now a.bounds.now a.end a.d a.b a.cut a.pieces.now c.requires delays_are c.in-Some.is, c.requires.cut_below, c.requires.are_pieces)
 
-pub returns-then-same : goal.returns-then-same
-returns-then-same c =
+pub returns-then-is_none : goal.returns-then-is_none
+returns-then-is_none c =
     let a = c.args in
     let delays_are = simp (to_z-of_z c.ranges.b) at c.wall_delays.ensures in
-    let uncut_told = simp (to_z-of_z c.ranges.variable) at c.same.ensures in
-    let there_told = simp (got32 (word a.pieces.now 0) c.same-arg-1.given) at c.same-2.ensures in
-    wall_widened a.n a.inv.now a.rate.now a.bounds.now a.end a.d a.b a.variable a.value a.pieces.now c.requires delays_are c.in-Some.is (sym uncut_told ∙ (both c.if-same.true).0) (sym there_told ∙ (both c.if-same.true).1) (simp (to_z-of_z c.ranges.b) at c.widen_after.ensures)
+    let there : word a.pieces.now 0 ≡ pos 1 = omega (arith, ints) in
+    wall_widened a.n a.inv.now a.rate.now a.bounds.now a.end a.d a.b a.cut a.pieces.now c.requires delays_are c.in-Some.is (none_is a.cut (grind (arith))) there (simp (to_z-of_z c.ranges.b) at c.widen_after.ensures)
 
-pub returns-else-same : goal.returns-else-same
-returns-else-same c =
+pub returns-else-there : goal.returns-else-there
+returns-else-there c =
     let a = c.args in
     let delays_are = simp (to_z-of_z c.ranges.b) at c.wall_delays.ensures in
-    wall_after a.n a.inv.now a.rate.now a.bounds.now a.end a.d a.b a.variable a.value a.pieces.now c.requires delays_are c.in-Some.is (simp (to_z-of_z c.ranges.b, to_z-of_z c.ranges.variable, to_z-of_z c.ranges.value) at c.join_after.ensures)
+    wall_after a.n a.inv.now a.rate.now a.bounds.now a.end a.d a.b a.cut a.pieces.now c.requires delays_are c.in-Some.is (simp (to_z-of_z c.ranges.b) at c.join_after.ensures)

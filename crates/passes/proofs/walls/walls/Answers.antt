@@ -112,17 +112,17 @@ variables-n-requires c = (whole _ _ c.requires.0).head
 pub locations-locations-requires : goal.locations-locations-requires
 locations-locations-requires c = (whole _ _ c.requires.0).head
 
-pub slice_bounds-copy-end : goal.slice_bounds-copy-end
-slice_bounds-copy-end c = sym (copied_long _ _ c.requires.0 c.args.out.now c.requires.2)
+pub slice_bounds-copy_from_slice-end : goal.slice_bounds-copy_from_slice-end
+slice_bounds-copy_from_slice-end c = sym (copied_long _ _ c.requires.0 c.args.out.now c.requires.2)
 
-pub copy-requires : goal.copy-requires
-copy-requires c = copied_long _ _ c.requires.0 c.args.out.now c.requires.2
+pub copy_from_slice-requires : goal.copy_from_slice-requires
+copy_from_slice-requires c = sym (copied_long _ _ c.requires.0 c.args.out.now c.requires.2)
 
 pub loop-l-init : goal.loop-l-init
 loop-l-init c =
     let m = c.args.model.now in
     let t = c.args.table.now in
-    (omega arith, c.copy.ensures ∙ copied_is m t c.requires.0 c.args.out.now c.requires.2 ∙ none_put (location_words m) (locations_of m t) (locations_sized m t) (held m t c.requires.0))
+    c.copy_from_slice.ensures.after ∙ copied_is m t c.requires.0 c.args.out.now c.requires.2 ∙ none_put (location_words m) (locations_of m t) (locations_sized m t) (held m t c.requires.0)
 
 pub offset_bounds-places-l : goal.offset_bounds-places-l
 offset_bounds-places-l c = let r = turn c.requires.0 c.requires.1 c.variables-n.ensures c.locations-locations.ensures c.loop-l-test.true in omega (arith, few r)
@@ -171,10 +171,7 @@ slice_bounds-join_parts-end c =
 pub join_parts-requires : goal.join_parts-requires
 join_parts-requires c =
     let r = turn c.requires.0 c.requires.1 c.variables-n.ensures c.locations-locations.ensures c.loop-l-test.true in
-    (c.requires.0, r.is_location, before_is r, old_words r c.piece_at-at.ensures c.piece_at-end.ensures c.loop-l.invariant.1, omega (arith, next_is r))
-
-pub overflow_add-l : goal.overflow_add-l
-overflow_add-l c = let r = turn c.requires.0 c.requires.1 c.variables-n.ensures c.locations-locations.ensures c.loop-l-test.true in omega (arith, few r)
+    (c.requires.0, r.is_location, before_is r, old_words r c.piece_at-at.ensures c.piece_at-end.ensures c.loop-l.invariant, omega (arith, next_is r))
 
 pub loop-l-preserved : goal.loop-l-preserved
 loop-l-preserved c =
@@ -183,12 +180,12 @@ loop-l-preserved c =
     let r = turn c.requires.0 c.requires.1 c.variables-n.ensures c.locations-locations.ensures c.loop-l-test.true in
     let a = c.piece_at-at.ensures in
     let b = c.piece_at-end.ensures in
-    (omega (arith, r.is_location), one_put (location_words m) (locations_of m t) (locations_sized m t) (held m t c.requires.0) c.loop-l.l c.loop-l.invariant.1 (from r a b) (to r a b) (inside_held r a b) c.join_parts.ensures)
+    one_put (location_words m) (locations_of m t) (locations_sized m t) (held m t c.requires.0) c.loop-l.l c.loop-l.invariant (from r a b) (to r a b) (inside_held r a b) c.join_parts.ensures
 
 pub returns : goal.returns
 returns c =
     let m = c.args.model.now in
     let t = c.args.table.now in
     let h = held m t c.requires.0 in
-    let e : c.loop-l.l ≡ L# m = omega (arith, c.loop-l.invariant.0, c.loop-l-test.false, c.locations-locations.ensures) in
-    all_put (location_words m) (locations_of m t) (locations_sized m t) h (L# m) (c.loop-l.invariant.1 ∙ ap (λ (k : ℕ). onto (cat k (locations_of m t)) h) e) (table_sized m (held_long m t c.requires.0)) ∙ all_locations m t
+    let e : c.loop-l.l ≡ L# m = omega (arith, c.locations-locations.ensures) in
+    all_put (location_words m) (locations_of m t) (locations_sized m t) h (L# m) (c.loop-l.invariant ∙ ap (λ (k : ℕ). onto (cat k (locations_of m t)) h) e) (table_sized m (held_long m t c.requires.0)) ∙ all_locations m t

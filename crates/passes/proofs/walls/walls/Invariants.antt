@@ -1,16 +1,11 @@
 -- After l turns the locations below l have their wall steps; the others still have the words of the table before the pass.
 use mathlib.Core.Path.{◌≡◌}
-use Prim.Native.Nat.{◌-◌, ◌≤◌}
 use lib.ListN.{take}
 use Rattle.integers.specs.Words.{onto}
 use Rattle.integers.specs.Counted.{cat}
-use Rattle.plant.specs.Model.{L#}
 use Rattle.plant.specs.Tables.{table_size}
 use Rattle.passes.proofs.Reading.{locations_of}
 use Rattle.passes.proofs.walls.walls.Given as goal
 
 abbrev pub invariant-loop-l : goal.invariant-loop-l
-invariant-loop-l l = (l.l ≤ L# l.model) × (l.out ≡ onto (cat l.l (locations_of l.model l.table)) (take (table_size l.model) l.table))
-
-abbrev pub decreases-loop-l : goal.decreases-loop-l
-decreases-loop-l l = l.locations - l.l
+invariant-loop-l l = l.out ≡ onto (cat l.l (locations_of l.model l.table)) (take (table_size l.model) l.table)

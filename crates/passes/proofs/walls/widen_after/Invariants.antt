@@ -1,16 +1,11 @@
 -- In each turn the low and the high of one more variable: the smaller of the two lows, the larger of the two highs.
 use mathlib.Core.Path.{◌≡◌}
 use mathlib.Core.List.{◌∷◌}
-use Prim.Native.Nat.{◌-◌, ◌≤◌}
 use lib.IntN.{pos}
-use lib.ListN.{length}
 use Rattle.integers.specs.Words.{onto}
 use Rattle.plant.specs.Box.{hull, box_at}
 use Rattle.plant.specs.Steps.{box_after}
 use Rattle.passes.proofs.walls.widen_after.Given as goal
 
 abbrev pub invariant-loop-i : goal.invariant-loop-i
-invariant-loop-i l = (l.i ≤ l.n) × (length l.face ≡ length l.initial.face) × (l.face ≡ onto (pos 1 ∷ hull l.i (box_at l.n l.initial.face 1) (box_after l.n l.inv l.rate l.bounds l.d l.b l.t)) l.initial.face)
-
-abbrev pub decreases-loop-i : goal.decreases-loop-i
-decreases-loop-i l = l.n - l.i
+invariant-loop-i l = l.face ≡ onto (pos 1 ∷ hull l.i (box_at l.n l.initial.face 1) (box_after l.n l.inv l.rate l.bounds l.d l.b l.t)) l.initial.face

@@ -3,14 +3,14 @@ use mathlib.Core.Path.{sym}
 use native.Mathlib.Omega.{arith}
 use Rattle.plant.proofs.Passed.{passed}
 use Rattle.plant.proofs.Passing.{whole}
-use Rattle.passes.proofs.Reading.{uncut_value}
-use Rattle.passes.proofs.walls.cut_value.Goals as goal
+use Rattle.passes.proofs.Reading.{uncut_of}
+use Rattle.passes.proofs.walls.cut.Goals as goal
 
 pub overflow_mul-n : goal.overflow_mul-n
 overflow_mul-n c = omega (arith, c.requires.n_is, (passed c.args.model.now c.requires.passes).n_small)
 
-pub cut_value-requires : goal.cut_value-requires
-cut_value-requires c = (whole c.args.model.now c.requires.passes, c.requires.below)
+pub cut-requires : goal.cut-requires
+cut-requires c = (whole c.args.model.now c.requires.passes, c.requires.below)
 
 pub returns-then-count-n : goal.returns-then-count-n
-returns-then-count-n c = sym (uncut_value c.args.model.now c.args.l c.requires c.if-count-n.true)
+returns-then-count-n c = sym (uncut_of c.requires c.if-count-n.true)
