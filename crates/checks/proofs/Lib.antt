@@ -1,10 +1,11 @@
+pub mod Model
 pub mod Loops
-pub mod Extents
+pub mod Sums
 pub mod Pieces
 pub mod Ranges
 pub mod Widths
 pub mod Counts
 pub mod Touched
-pub mod Links
+pub mod Linking
 pub mod Parts
 pub mod Search

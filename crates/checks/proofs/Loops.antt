@@ -1,9 +1,9 @@
--- One turn of a loop over every number below k: tests that all hold, a search for one that holds, and a sum.
+-- Loops over every number below k: tests that all hold, and a search for one that holds.
 use mathlib.Core.Path.{◌≡◌, refl, ap₂}
 use mathlib.Core.Bool.{Bool, true, false, ◌&&◌}
 use Prim.Native.Nat.{ℕ, ◌+◌, ◌<◌}
 use native.Mathlib.Numerals.{add-one}
-use Rattle.integers.specs.Counted.{all_below, any_below, sum_below}
+use Rattle.integers.specs.Counted.{all_below, any_below}
 use Rattle.integers.proofs.Tests.{is_true, true_is}
 use Rattle.integers.proofs.Counted.{any_intro}
 
@@ -26,12 +26,3 @@ module _ (f : ℕ → Bool) where
 
   pub any_found : (i k : ℕ) → i < k → f i ≡ true → any_below k f ≡ true
   any_found i k l e = is_true (any_intro k f i l (true_is e))
-
-module _ (f : ℕ → ℕ) where
-  pub sum_none : sum_below 0 f ≡ 0
-  unfolding sum_below
-  sum_none = refl
-
-  pub sum_more : (i : ℕ) → sum_below (i + 1) f ≡ sum_below i f + f i
-  unfolding sum_below
-  sum_more i = rw add-one refl

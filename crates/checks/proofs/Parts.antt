@@ -7,6 +7,8 @@ use Prim.Native.Nat.{ℕ, zero, suc, ◌+◌, ◌*◌, ◌-◌, ◌<◌, ◌≤�
 use native.Mathlib.Omega.{arith}
 use borrow.Rule.Slice.PartMut.{put_mid}
 use lib.IntN.{ℤ, pos}
+use mir.Syntax.{w32}
+use mir.Val.{to_z, bool_byte}
 use lib.ListN.{length, set, take, drop}
 use lib.Seq.{length-take-le, take-append-le}
 use Rattle.plant.specs.Box.{box_at, absent, present}
@@ -22,29 +24,12 @@ use Rattle.checks.specs.Parts.{part_words, PartAt}
 
 -- ---- the start part
 
--- a box put behind the flag 0, and then the flag 1 or none
-module _ (n k : ℕ) (x : List ℤ) where
-  flag_set : 2 * n ≤ length x → (words : List ℤ) → 0 < length words → face_read n (set (put_mid 1 k (set words 0 (pos 0)) x) 0 (pos 1)) 0 ≡ present (take (2 * n) x)
-  unfolding face_read box_at
-  flag_set e [] l = absurd (omega arith)
-  flag_set e (w ∷ words) l = ap present (take-append-le (2 * n) x _ e)
-
-  flag_left : (words : List ℤ) → 0 < length words → face_read n (put_mid 1 k (set words 0 (pos 0)) x) 0 ≡ absent
-  unfolding face_read
-  flag_left [] l = absurd (omega arith)
-  flag_left (w ∷ words) l = refl
-
--- how long what is lent behind a flag is
-pub behind_long : (flag : ℤ) (words : List ℤ) → length words ≡ 13 → length (take (length (set words 0 flag) - 1) (drop 1 (set words 0 flag))) ≡ 12
-behind_long flag [] e = absurd (omega (arith, e))
-behind_long flag (w ∷ words) e = length-take-le (length (flag ∷ words) - 1) words (omega arith) ∙ omega (arith, e)
-
-module _ (m : List ℤ) (l k : ℕ) {r : Bool} {x out : List ℤ} (gives : Handed (n# m) r x out (start_part m l)) (words : List ℤ) (some : 0 < length words) where
-  pub start_there : 2 * n# m ≤ length x → r ≡ true → face_read (n# m) (set (put_mid 1 k (set words 0 (pos 0)) x) 0 (pos 1)) 0 ≡ start_part m l
-  start_there room u = flag_set (n# m) k x room words some ∙ sym (gives.is_face ∙ ap (λ (b : Bool). cond b (present (take (2 * n# m) x)) absent) u)
-
-  pub start_gone : r ≡ false → face_read (n# m) (put_mid 1 k (set words 0 (pos 0)) x) 0 ≡ start_part m l
-  start_gone u = flag_left (n# m) k x words some ∙ sym (gives.is_face ∙ ap (λ (b : Bool). cond b (present (take (2 * n# m) x)) absent) u)
+-- a box put behind the first word, and there the flag 1, or 0 and the box is nothing
+pub flag_put : (n k : ℕ) (r : Bool) (x words : List ℤ) → 2 * n ≤ length x → 0 < length words → face_read n (set (put_mid 1 k words x) 0 (to_z w32 (bool_byte r))) 0 ≡ cond r (present (take (2 * n) x)) absent
+unfolding face_read box_at
+flag_put n k r x [] u v = absurd (omega arith)
+flag_put n k true x (w ∷ words) u v = ap present (take-append-le (2 * n) x _ u)
+flag_put n k false x (w ∷ words) u v = refl
 
 -- ---- part p of location l
 

@@ -18,7 +18,7 @@ use Rattle.plant.proofs.PieceCases.{before_more}
 use Rattle.passes.specs.Parts.{IsPart}
 use Rattle.plant.proofs.FaceWords.{read_present, read_absent}
 use Rattle.checks.specs.Links.{last_box}
-use Rattle.checks.proofs.Links.{last_within, last_own}
+use Rattle.checks.proofs.Linking.{last_within, last_own}
 use Rattle.checks.proofs.Loops.{any_none, any_more, any_found}
 
 module _ (m t : List ℤ) where

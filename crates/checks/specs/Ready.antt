@@ -1,17 +1,14 @@
 -- What the checks of a location's pieces ask of the words that they are lent.
-use Rattle.std.specs.Prelude.{◌≡◌, false, List, ℕ, ◌+◌, ◌*◌, ◌<◌, ◌≤◌, T, ℤ, negsuc, nat_abs, length}
-use Rattle.std.specs.Int.Signed.{non_neg}
-use Rattle.integers.specs.Words.{eq_z}
+use Rattle.std.specs.Prelude.{◌≡◌, List, ℕ, ◌+◌, ◌*◌, ◌<◌, ◌≤◌, ℤ, length, Option, Some, None}
+use Rattle.plant.specs.declared.Cut.{Cut}
 
--- a cut's first word: no variable (-1), or one whose two ends stand in a box of k words
-pub record CutNamed (k : ℕ) (variable : ℤ) : Type 0 where
-  pub not_negative : eq_z variable (negsuc 0) ≡ false → T (non_neg variable)
-  pub there : eq_z variable (negsuc 0) ≡ false → 2 * nat_abs variable + 1 < k
+-- the ends of a cut's variable, if there is a cut, stand in a box of k words
+abbrev pub CutNamed : ℕ → Option Cut → Type 0
+CutNamed k None = Unit {0}
+CutNamed k (Some cut) = 2 * cut.variable + 1 < k
 
--- a location: its invariant of n variables, c pieces a face, and the first word of its cut
-pub record LocationReady (n : ℕ) (inv : List ℤ) (c : ℕ) (variable : ℤ) : Type 0 where
+-- a location: its invariant of n variables, and its cut
+pub record LocationReady (n : ℕ) (inv : List ℤ) (cut : Option Cut) : Type 0 where
   pub n_small : n ≤ 6
   pub inv_length : length inv ≡ 2 * n
-  pub some_piece : 0 < c
-  pub two_most : c ≤ 2
-  pub named : CutNamed (2 * n) variable
+  pub named : CutNamed (2 * n) cut

@@ -12,7 +12,7 @@ fn width(inv: &[i32], i: usize) -> u64
     ensures { result ≡ T.width inv.now i }
 {
     let k = 2 * i;
-    integers::magnitude(integers::word(inv, k + 1) - integers::word(inv, k))
+    (integers::word(inv, k + 1) - integers::word(inv, k)).unsigned_abs()
 }
 
 // The sum of the widths of all n variables.
@@ -20,13 +20,7 @@ fn all_widths(n: usize, inv: &[i32]) -> u64
     requires { (n ≤ 6) × Levels n inv.now }
     ensures { result ≡ all_widths n inv.now }
 {
-    let mut sum: u64 = 0;
-    let mut i: usize = 0;
-    while i < n {
-        sum = sum + width(inv, i);
-        i = i + 1;
-    }
-    sum
+    (0..n).map(|i| width(inv, i)).sum()
 }
 
 // 2n + 2(n - 1) × the sum of the widths; of no variables nothing.
@@ -48,13 +42,12 @@ fn location_ceiling(model: &[i32], l: usize) -> u64
 {
     let n = records::variables(model);
     let inv = records::invariant(model, l);
-    let variable = records::cut_variable(model, l);
     let widths = all_widths(n, inv);
     let faces = uncut_ceiling(n, widths);
-    if integers::same(variable, -1) {
+    let Some(cut) = records::cut(model, l) else {
         return faces;
-    }
-    let others = widths - width(inv, integers::natural(variable));
+    };
+    let others = widths - width(inv, cut.variable);
     faces + uncut_ceiling(n - 1, others)
 }
 
@@ -63,12 +56,7 @@ pub fn ceiling_of(model: &[i32]) -> u64
     requires { model_questions model.now ≡ 0 }
     ensures { result ≡ ceiling_of model.now }
 {
-    let locations = records::locations(model);
-    let mut sum: u64 = 0;
-    let mut l: usize = 0;
-    while l < locations {
-        sum = sum + location_ceiling(model, l);
-        l = l + 1;
-    }
-    sum
+    (0..records::locations(model))
+        .map(|l| location_ceiling(model, l))
+        .sum()
 }

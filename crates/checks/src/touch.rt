@@ -10,20 +10,27 @@ ghost use Rattle.passes.specs.Ready.{TableReady};
 ghost use Rattle.checks.specs.Links.{Linked};
 ghost use Rattle.checks.specs.Parts.{part_words, PartAt};
 
-// Links the forbidden boxes of each location, from the last to the first. A box has its number plus 1 here, and 0 is none:
-// `last` holds the last box of each location, and `before` the one before each box in its location. Both are lent all zero.
-pub fn link(model: &[i32], last: &mut [usize; 64], before: &mut [usize; 64])
-    requires { (model_questions model.now ≡ 0) × Linked model.now 0 last.old before.old }
-    ensures { Linked model.now (B# model.now) last.new before.new }
+// The forbidden boxes of each location, linked from the last to the first. A box has its number plus 1 here, and 0 is none: `last`
+// holds the last box of each location, and `before` the one before each box in its location.
+pub struct Links {
+    pub last: [usize; 64],
+    pub before: [usize; 64],
+}
+
+pub fn link(model: &[i32]) -> Links
+    requires { model_questions model.now ≡ 0 }
+    ensures { Linked model.now (B# model.now) result.last result.before }
 {
-    let boxes = records::forbidden_boxes(model);
-    let mut b = 0;
-    while b < boxes {
+    let mut links = Links {
+        last: [0; 64],
+        before: [0; 64],
+    };
+    for b in 0..records::forbidden_boxes(model) {
         let l = records::forbidden_location(model, b);
-        before[b] = last[l];
-        b = b + 1;
-        last[l] = b;
+        links.before[b] = links.last[l];
+        links.last[l] = b + 1;
     }
+    links
 }
 
 // How many parts of a location are asked, whose pieces are numbered from `earlier` to before `next` in the table: none where it
@@ -41,10 +48,8 @@ fn start_words(model: &[i32], l: usize, parts: usize, words: &mut [i32])
     ensures { 0 < parts → face_read (n# model.now) words.new 0 ≡ start_part model.now l }
 {
     if 0 < parts {
-        words[0] = 0;
-        if passes::start_part(model, l, &mut words[1..]) {
-            words[0] = 1;
-        }
+        let there = passes::start_part(model, l, &mut words[1..]);
+        words[0] = there as i32;
     }
 }
 
@@ -66,47 +71,34 @@ fn first_asked(part: &[i32], last: usize) -> usize
     requires { 0 < length part.now }
     ensures { result ≡ cond (eq_z (word part.now 0) (pos 1)) last 0 }
 {
-    if integers::same(part[0], 1) { last } else { 0 }
+    if part[0] == 1 { last } else { 0 }
 }
 
-// A part of a location touches a forbidden box of it: the search stops at the first such part. `last` and `before` link the
-// forbidden boxes of each location.
-pub fn touching(
-    model: &[i32],
-    places: &[usize],
-    last: &[usize],
-    before: &[usize],
-    table: &[i32],
-) -> bool
-    requires { TableReady model.now table.now × Places model.now places.now × (table_ok model.now table.now ≡ true) × Linked model.now (B# model.now) last.now before.now }
+// A part of a location touches a forbidden box of it: the search is left at the first such part.
+pub fn touching(model: &[i32], places: &[usize], links: &Links, table: &[i32]) -> bool
+    requires { TableReady model.now table.now × Places model.now places.now × (table_ok model.now table.now ≡ true) × Linked model.now (B# model.now) links.now.last links.now.before }
     ensures { result ≡ T.touching model.now table.now }
 {
-    let locations = records::locations(model);
     let n = records::variables(model);
     let mut start = [0i32; 13];
-    let mut found = false;
-    let mut l: usize = 0;
-    'search: while l < locations {
+    'search: for l in 0..records::locations(model) {
         let inv = records::invariant(model, l);
         let rate = records::rate(model, l);
         let earlier = places[l];
-        let parts = parts_asked(earlier, places[l + 1], last[l]);
+        let last = links.last[l];
+        let parts = parts_asked(earlier, places[l + 1], last);
         start_words(model, l, parts, &mut start);
-        let mut p: usize = 0;
-        'parts: while p < parts {
+        'parts: for p in 0..parts {
             let part = part_at(&start, table, n, earlier, p);
             let bounds = records::box_at(part, 1, n);
-            let mut b = first_asked(part, last[l]);
+            let mut b = first_asked(part, last);
             'boxes: while 0 < b {
                 if delays::touches(n, inv, rate, bounds, records::forbidden_box(model, b - 1)) {
-                    found = true;
-                    break 'search;
+                    return true;
                 }
-                b = before[b - 1];
+                b = links.before[b - 1];
             }
-            p = p + 1;
         }
-        l = l + 1;
     }
-    found
+    false
 }

@@ -1,8 +1,8 @@
 // Question 32 of a table: flags 0 or 1, absent pieces zero, present ones ordered, inside the invariant, on their wall, and each
 // keeping to its side.
-ghost use Rattle.std.specs.Prelude.{◌≡◌, ◌||◌, ◌+◌, ◌*◌, ◌/◌, ◌%◌, ◌<◌, length};
+ghost use Rattle.std.specs.Prelude.{◌≡◌, ◌||◌, ◌+◌, ◌*◌, ◌<◌, length};
 ghost use Rattle.integers.specs.Counted.{all_below};
-ghost use Rattle.plant.specs.Model.{L#, cut_from, variable_of, side_of, wall};
+ghost use Rattle.plant.specs.Model.{L#, variable_of, side_of, wall};
 ghost use Rattle.plant.specs.Pieces.{extent_by, keeps_to, pieces};
 ghost use Rattle.plant.specs.Tables as T;
 ghost use Rattle.plant.specs.Tables.{face_size, pieces_before, absent_ok, present_ok, piece_ok, table_ok};
@@ -10,7 +10,7 @@ ghost use Rattle.tables.specs.Places.{Places};
 ghost use Rattle.passes.specs.Ready.{TableReady};
 ghost use Rattle.checks.specs.Ready.{CutNamed, LocationReady};
 
-use super::numbers;
+use plant::Cut;
 
 // A box lies on the wall w of variable d.
 fn on_wall(bounds: &[i32], d: usize, w: i32) -> bool
@@ -18,51 +18,34 @@ fn on_wall(bounds: &[i32], d: usize, w: i32) -> bool
     ensures { result ≡ T.on_wall bounds.now d w }
 {
     let k = 2 * d;
-    integers::same(bounds[k], w) & integers::same(bounds[k + 1], w)
+    (bounds[k] == w) & (bounds[k + 1] == w)
 }
 
-// A box keeps to the side of piece k of a face with the wall variable d, by the words of the location's cut.
-fn keeps(bounds: &[i32], variable: i32, value: i32, d: usize, k: usize) -> bool
-    requires { CutNamed (length bounds.now) variable }
-    ensures { result ≡ keeps_to (extent_by (cut_from variable value) d k) bounds.now }
+// A box keeps to the side of piece k of a face with the wall variable d, in a location with this cut.
+fn keeps(bounds: &[i32], cut: Option<Cut>, d: usize, k: usize) -> bool
+    requires { CutNamed (length bounds.now) cut }
+    ensures { result ≡ keeps_to (extent_by cut d k) bounds.now }
 {
-    if integers::same(variable, -1) {
-        return true;
-    }
-    let v = integers::natural(variable);
-    if v == d {
-        return k == 0;
-    }
-    if k == 0 {
-        bounds[2 * v + 1] <= value
-    } else {
-        value <= bounds[2 * v]
+    match cut {
+        None => true,
+        Some(cut) if cut.variable == d => k == 0,
+        Some(cut) if k == 0 => bounds[2 * cut.variable + 1] <= cut.value,
+        Some(cut) => cut.value <= bounds[2 * cut.variable],
     }
 }
 
-// The words of piece q of a location: of its invariant inv of n variables, its c pieces a face, and the words of its cut.
-fn piece_ok(
-    n: usize,
-    inv: &[i32],
-    c: usize,
-    variable: i32,
-    value: i32,
-    q: usize,
-    piece: &[i32],
-) -> bool
-    requires { LocationReady n inv.now c variable × (q < 2 * n * c) × (length piece.now ≡ face_size n) }
-    ensures { result ≡ (absent_ok n piece.now || present_ok n inv.now (variable_of (q / c)) (wall inv.now (variable_of (q / c)) (side_of (q / c))) (extent_by (cut_from variable value) (variable_of (q / c)) (q % c)) piece.now) }
+// The words of piece k of face f, in a location of n variables with this invariant and cut.
+fn piece_ok(n: usize, inv: &[i32], cut: Option<Cut>, f: usize, k: usize, piece: &[i32]) -> bool
+    requires { LocationReady n inv.now cut × (f < 2 * n) × (length piece.now ≡ face_size n) }
+    ensures { result ≡ (absent_ok n piece.now || present_ok n inv.now (variable_of f) (wall inv.now (variable_of f) (side_of f)) (extent_by cut (variable_of f) k) piece.now) }
 {
-    let flag = piece[0];
     let bounds = &piece[1..];
-    if integers::same(flag, 1) {
-        let f = numbers::face_of(q, c);
+    if piece[0] == 1 {
         let d = f / 2;
         let w = records::wall(inv, d, f % 2);
-        let side = keeps(bounds, variable, value, d, numbers::index_of(q, c));
-        model::inside_ok(bounds, inv, n) & (on_wall(bounds, d, w) & side)
+        model::inside_ok(bounds, inv, n) & (on_wall(bounds, d, w) & keeps(bounds, cut, d, k))
     } else {
-        integers::same(flag, 0) & model::zeros_ok(bounds, 2 * n)
+        (piece[0] == 0) & model::zeros_ok(bounds, 2 * n)
     }
 }
 
@@ -73,16 +56,12 @@ fn location_ok(model: &[i32], table: &[i32], l: usize, earlier: usize) -> bool
 {
     let n = records::variables(model);
     let inv = records::invariant(model, l);
-    let c = tables::per_face(model, l);
-    let variable = records::cut_variable(model, l);
-    let value = records::cut_value(model, l);
-    let count = 2 * n * c;
+    let cut = records::cut(model, l);
+    let c = tables::pieces_per_face(cut);
     let mut ok = true;
-    let mut q: usize = 0;
-    while q < count {
+    for q in 0..2 * n * c {
         let piece = tables::face(table, tables::piece_at(earlier, q, n), n);
-        ok = ok & piece_ok(n, inv, c, variable, value, q, piece);
-        q = q + 1;
+        ok &= piece_ok(n, inv, cut, q / c, q % c, piece);
     }
     ok
 }
@@ -92,12 +71,9 @@ pub fn table_ok(model: &[i32], places: &[usize], table: &[i32]) -> bool
     requires { TableReady model.now table.now × Places model.now places.now }
     ensures { result ≡ table_ok model.now table.now }
 {
-    let locations = records::locations(model);
     let mut ok = true;
-    let mut l: usize = 0;
-    while l < locations {
-        ok = ok & location_ok(model, table, l, places[l]);
-        l = l + 1;
+    for l in 0..records::locations(model) {
+        ok &= location_ok(model, table, l, places[l]);
     }
     ok
 }
