@@ -1,12 +1,10 @@
 // Words and fields of a file's bytes, and a cursor over them.
 #![tactic(auto)]
 
-ghost use Rattle.std.specs.Prelude.{◌≡◌, ◌++◌, ◌+◌, ◌*◌, ◌≤◌, ◌<◌, length, take};
-ghost use Rattle.std.specs.Int.{w32};
-ghost use Rattle.std.proofs.Common.{to_z, of_z};
+ghost use Rattle.std.specs.Prelude.{◌≡◌, ◌++◌, ◌+◌, ◌≤◌, ◌<◌, length, take, drop};
 ghost use Rattle.integers.specs.Words.{onto};
-ghost use Rattle.files.specs.Bytes.{word_size, bits_at, word_at, words_at, bits_bytes, word_bytes, words_bytes, part};
-ghost use Rattle.files.specs.Fields.{header_size, payload_length, field_length, field_place, length_at, field_at, is_field, header};
+ghost use Rattle.files.specs.Bytes.{word_size, word_at, words_at, word_bytes, words_bytes, part};
+ghost use Rattle.files.specs.Fields.{header_size, payload_length, field_length, field_place, field_at, is_field, header};
 
 use files::Field;
 
@@ -15,41 +13,12 @@ pub const WORD_SIZE: usize = 4;
 
 // ---- from bytes to words
 
-fn wide(b: u8) -> u32
-    ensures { (result ≡ b) × (result < 256) }
-{
-    b as u32
-}
-
-// The 32 bits of the four bytes at a position, highest byte first.
-fn bits_at(file: &[u8], at: usize) -> u32
-    requires { at + word_size ≤ length file.now }
-    ensures { result ≡ bits_at file.now at }
-{
-    let a = wide(file[at]);
-    let b = wide(file[at + 1]);
-    let c = wide(file[at + 2]);
-    let d = wide(file[at + 3]);
-    a * 16777216 + b * 65536 + c * 256 + d
-}
-
-// The word that 32 bits stand for.
-fn signed(u: u32) -> i32
-    ensures { result ≡ to_z w32 u }
-{
-    if u < 2147483648 {
-        u as i32
-    } else {
-        -1 - ((4294967295 - u) as i32)
-    }
-}
-
-// The word at a position.
+// The word at a position, highest byte first.
 pub fn word_at(file: &[u8], at: usize) -> i32
     requires { at + word_size ≤ length file.now }
     ensures { result ≡ word_at file.now at }
 {
-    signed(bits_at(file, at))
+    i32::from_be_bytes([file[at], file[at + 1], file[at + 2], file[at + 3]])
 }
 
 // Copies `count` words, from a position of the file on, to a place of the buffer.
@@ -57,43 +26,19 @@ pub fn copy_words(file: &[u8], from: usize, count: usize, words: &mut [i32], to:
     requires { (from + payload_length count ≤ length file.now) × (to + count ≤ length words.old) }
     ensures { words.new ≡ onto (take to words.old ++ words_at file.now from count) words.old }
 {
-    let mut i: usize = 0;
-    while i < count {
-        words[to + i] = word_at(file, from + WORD_SIZE * i);
-        i = i + 1;
+    for (i, word) in words[to..to + count].iter_mut().enumerate() {
+        *word = word_at(file, from + WORD_SIZE * i);
     }
 }
 
 // ---- from words to bytes
 
-// The 32 bits of a word.
-fn bits_of(z: i32) -> u32
-    ensures { result ≡ of_z w32 z }
-{
-    if z < 0 {
-        4294967295 - ((-1 - z) as u32)
-    } else {
-        z as u32
-    }
-}
-
-// Writes the four bytes of 32 bits, highest byte first.
-fn put_bits(out: &mut [u8], at: usize, u: u32)
-    requires { at + word_size ≤ length out.old }
-    ensures { out.new ≡ onto (take at out.old ++ bits_bytes u) out.old }
-{
-    out[at] = (u / 16777216) as u8;
-    out[at + 1] = (u / 65536 % 256) as u8;
-    out[at + 2] = (u / 256 % 256) as u8;
-    out[at + 3] = (u % 256) as u8;
-}
-
-// Writes a word's bytes at a position.
+// Writes a word's bytes at a position, highest byte first.
 pub fn put_word(out: &mut [u8], at: usize, z: i32)
     requires { at + word_size ≤ length out.old }
     ensures { out.new ≡ onto (take at out.old ++ word_bytes z) out.old }
 {
-    put_bits(out, at, bits_of(z))
+    out[at..at + WORD_SIZE].copy_from_slice(&z.to_be_bytes());
 }
 
 // Writes the bytes of `count` words, from a place of the list on, at a position.
@@ -101,10 +46,8 @@ pub fn put_words(words: &[i32], from: usize, count: usize, out: &mut [u8], to: u
     requires { (from + count ≤ length words.now) × (to + payload_length count ≤ length out.old) }
     ensures { out.new ≡ onto (take to out.old ++ words_bytes (part words.now from count)) out.old }
 {
-    let mut i: usize = 0;
-    while i < count {
-        put_word(out, to + WORD_SIZE * i, words[from + i]);
-        i = i + 1;
+    for (i, word) in words[from..from + count].iter().enumerate() {
+        put_word(out, to + WORD_SIZE * i, *word);
     }
 }
 
@@ -139,29 +82,23 @@ pub fn field_place(from: usize, w: usize, i: usize) -> usize
 
 // ---- fields
 
-// The length that a field's second and third byte give, highest byte first.
-fn length_at(file: &[u8], at: usize) -> usize
-    requires { at + header_size ≤ length file.now }
-    ensures { (result ≡ length_at file.now at) × (result < 65536) }
+// The bytes from a position on, which may lie anywhere.
+fn rest(file: &[u8], at: usize) -> &[u8]
+    ensures { result.now ≡ drop at file.now }
 {
-    let high = wide(file[at + 1]);
-    let low = wide(file[at + 2]);
-    (high * 256 + low) as usize
+    file.get(at..).unwrap_or(&[])
 }
 
-// The field at a position, which may lie anywhere.
+// The field at a position, which may lie anywhere. The second and the third byte are the payload's length, highest byte first.
 pub fn field_at(file: &[u8], at: usize) -> Field
     ensures { result ≡ field_at file.now at }
 {
-    if file.len() < HEADER_SIZE {
+    let [tag, high, low, payload @ ..] = rest(file, at) else {
         return Field::Short;
-    }
-    if file.len() - HEADER_SIZE < at {
-        return Field::Short;
-    }
-    let tag = file[at];
-    let len = length_at(file, at);
-    if file.len() - HEADER_SIZE - at < len {
+    };
+    let tag = *tag;
+    let len = usize::from(u16::from_be_bytes([*high, *low]));
+    if payload.len() < len {
         return Field::Cut { tag };
     }
     let start = at + HEADER_SIZE;
@@ -177,11 +114,7 @@ pub fn field_at(file: &[u8], at: usize) -> Field
 pub fn is_field(f: Field, tag: u8, len: usize) -> bool
     ensures { result ≡ is_field f tag len }
 {
-    match f {
-        Field::Whole { tag: t, len: l, .. } => (t == tag) & (l == len),
-        Field::Cut { .. } => false,
-        Field::Short => false,
-    }
+    matches!(f, Field::Whole { tag: t, len: l, .. } if (t == tag) & (l == len))
 }
 
 // Writes a field's tag and the length of its payload.
@@ -189,9 +122,8 @@ pub fn put_header(out: &mut [u8], to: usize, tag: u8, len: usize)
     requires { (len < 65536) × (to + header_size ≤ length out.old) }
     ensures { out.new ≡ onto (take to out.old ++ header tag len) out.old }
 {
-    out[to] = tag;
-    out[to + 1] = (len / 256) as u8;
-    out[to + 2] = (len % 256) as u8;
+    let [high, low] = (len as u16).to_be_bytes();
+    out[to..to + HEADER_SIZE].copy_from_slice(&[tag, high, low]);
 }
 
 // ---- the cursor
@@ -199,26 +131,28 @@ pub fn put_header(out: &mut [u8], to: usize, tag: u8, len: usize)
 // A place in a file.
 #[derive(Clone, Copy)]
 pub struct Cursor<'a> {
-    pub file: &'a [u8],
-    pub at: usize,
+    file: &'a [u8],
+    at: usize,
 }
 
-pub fn cursor_at<'a>(file: &'a [u8], at: usize) -> Cursor<'a>
-    ensures { (result.file ≡ file.entry) × (result.at ≡ at) }
-{
-    Cursor { file, at }
-}
+impl<'a> Cursor<'a> {
+    pub fn new(file: &'a [u8], at: usize) -> Self
+        ensures { (result.file ≡ file.entry) × (result.at ≡ at) }
+    {
+        Cursor { file, at }
+    }
 
-// The next field: where its payload lies, and where the one after it begins.
-pub fn next<'a>(c: Cursor<'a>) -> Field
-    ensures { result ≡ field_at c.entry.file.now c.entry.at }
-{
-    field_at(c.file, c.at)
+    // The next field: where its payload lies, and where the one after it begins.
+    pub fn next(self) -> Field
+        ensures { result ≡ field_at self.entry.file.now self.entry.at }
+    {
+        field_at(self.file, self.at)
+    }
 }
 
 // The next field from a position on, by a cursor there.
 pub fn next_field(file: &[u8], at: usize) -> Field
     ensures { result ≡ field_at file.now at }
 {
-    next(cursor_at(file, at))
+    Cursor::new(file, at).next()
 }

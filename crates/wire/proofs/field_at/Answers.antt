@@ -1,16 +1,15 @@
 -- Each way out is a case of the definition.
-use native.Mathlib.Omega.{arith}
-use Rattle.files.proofs.Fields.{field_short, field_cut, field_whole}
+use mathlib.Core.Path.{◌∙◌}
+use Rattle.wire.proofs.Tail.{tail_short, tail_cut, tail_whole}
 use Rattle.wire.proofs.field_at.Goals as goal
 
-pub returns-then-file-lt-HEADER_SIZE : goal.returns-then-file-lt-HEADER_SIZE
-returns-then-file-lt-HEADER_SIZE c = field_short _ _ (omega arith)
+pub returns-in_default : goal.returns-in_default
+returns-in_default c = tail_short _ _ _ c.rest.ensures c.in_default.len_below
 
-pub returns-then-file-at : goal.returns-then-file-at
-returns-then-file-at c = field_short _ _ (omega arith)
-
-pub returns-then-file-at-2 : goal.returns-then-file-at-2
-returns-then-file-at-2 c = field_cut _ _ (omega arith) (omega arith)
+pub returns-then-payload-len : goal.returns-then-payload-len
+returns-then-payload-len c =
+    tail_cut _ _ _ c.rest.ensures _ c.in-len3-up.len_at_least (c.from-len.ensures ∙ c.from_be_bytes.ensures) c.if-payload-len.true
 
 pub returns : goal.returns
-returns c = rw c.length_at-len.ensures.0 (field_whole _ _ (omega arith))
+returns c =
+    tail_whole _ _ _ c.rest.ensures _ c.in-len3-up.len_at_least (c.from-len.ensures ∙ c.from_be_bytes.ensures) c.if-payload-len.false

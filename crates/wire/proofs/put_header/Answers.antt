@@ -1,14 +1,10 @@
--- Three stores, each of a byte.
+-- The three bytes at the position.
+use mathlib.Core.Path.{◌∙◌}
 use native.Mathlib.Omega.{arith}
-use lib.ListN.{length-set}
-use Rattle.integers.proofs.Filling.{set_three}
+use Rattle.wire.proofs.Parts.{part_put, length_bytes}
 use Rattle.wire.proofs.put_header.Goals as goal
 
-pub bounds-out-to-2 : goal.bounds-out-to-2
-bounds-out-to-2 c = simp length-set (omega arith)
-
-pub bounds-out-to-3 : goal.bounds-out-to-3
-bounds-out-to-3 c = simp length-set (omega arith)
-
 pub returns : goal.returns
-returns c = set_three c.args.out.now c.args.to _ _ _ (omega arith)
+returns c =
+    let a = c.args in
+    part_put a.out.now _ _ a.to _ (c.copy_from_slice.ensures.after ∙ length_bytes a.len a.tag _ (omega arith) c.to_be_bytes.ensures) (omega arith) (omega arith)

@@ -1,10 +1,9 @@
--- The word of the bits.
-use mir.Syntax.{w32}
-use mir.Facts.{to_z-of_z}
-use borrow.Author.Rules.{sfits_of}
-use Rattle.files.specs.Bytes.{word_at}
+-- The word of the bytes.
+use mathlib.Core.Path.{◌∙◌}
+use Rattle.integers.proofs.Signed.{got32}
+use Rattle.files.specs.Bytes.{bits_at, word_at}
 use Rattle.wire.proofs.word_at.Goals as goal
 
 pub returns : goal.returns
-unfolding word_at
-returns c = cc (to_z-of_z {w = w32} (sfits_of c.signed.type_inv))
+unfolding word_at bits_at
+returns c = got32 _ c.from_be_bytes.type_inv ∙ c.from_be_bytes.ensures
