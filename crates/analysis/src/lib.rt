@@ -3,27 +3,26 @@
 // what these ask of their callers.
 #![tactic(auto)]
 
-ghost use Rattle.std.specs.Prelude.{◌≡◌, true};
+ghost use Rattle.std.specs.Prelude.{◌≡◌, true, ◌≤◌, Ok, length};
 ghost use Rattle.integers.specs.Words.{equal};
+ghost use Rattle.plant.specs.Refusals.{asked, numbered};
 ghost use Rattle.plant.specs.Tables.{table_ok, pass};
 ghost use Rattle.plant.specs.Calls as C;
 ghost use Rattle.plant.specs.Calls.{Analysed, ceiling_call, certificate_questions, table_questions, check_call, answer_table, analysis_questions, answered, analyse_call};
 ghost use Rattle.tables.specs.Places.{Places};
 ghost use Rattle.analysis.specs.Ready.{Sized};
 
-use plant::{Answer, Ceiling, Verdict};
+use plant::{Answer, Refusal};
+use tables::{FEW_WORDS, FEWEST_WORDS, MOST_WORDS};
 
 // ---- the ceiling
 
-// How many passes settle every answer, or the number of the model's question that is not yes.
-pub fn ceiling(model: &[i32]) -> Ceiling
-    ensures { result ≡ ceiling_call model.now }
+// How many passes settle every answer, or the refusal of the model's question that is not yes.
+pub fn ceiling(model: &[i32]) -> Result<u64, Refusal>
+    ensures { numbered result ≡ ceiling_call model.now }
 {
-    let q = model::questions(model);
-    if q != 0 {
-        return Ceiling::Refused(q);
-    }
-    Ceiling::Passes(checks::ceiling_of(model))
+    model::questions(model)?; // a model that is refused has no ceiling
+    Ok(checks::ceiling_of(model))
 }
 
 // ---- the checker
@@ -37,86 +36,66 @@ fn fixpoint<'a>(model: &'a [i32], places: &[usize], table: &'a [i32], after: &mu
     integers::equal(after, table)
 }
 
-// 33 and 34 of a table that passes 32, with words lent for the pass: 0 if both are yes, else the number of the first that is not.
-fn certificate_with<'a>(
+// 33 and 34 of a table that passes 32, with N words held for the pass. They are cleared at each call.
+fn certificate_in<'a, const N: usize>(
     model: &'a [i32],
     places: &[usize],
     table: &'a [i32],
-    after: &mut [i32],
-) -> u32
-    requires { Sized model.now table.now × Places model.now places.now × (table_ok model.now table.now ≡ true) × Sized model.now after.old }
-    ensures { result ≡ certificate_questions model.now table.now }
+) -> Result<(), Refusal>
+    requires { Sized model.now table.now × Places model.now places.now × (table_ok model.now table.now ≡ true) × (length table.now ≤ N) × (N ≤ MOST_WORDS) }
+    ensures { asked result ≡ certificate_questions model.now table.now }
 {
-    if !fixpoint(model, places, table, after) {
-        return 33;
-    }
-    let mut last = [0usize; 64];
-    let mut before = [0usize; 64];
-    checks::link(model, &mut last, &mut before);
-    if checks::touching(model, places, &last, &before, table) {
-        return 34;
-    }
-    0
+    let mut after = [0i32; N];
+    let unchanged = fixpoint(model, places, table, &mut after[..table.len()]);
+    model::ask(unchanged, Refusal::Unchanged)?;
+    let links = checks::link(model);
+    let touches = checks::touching(model, places, &links, table);
+    model::ask(!touches, Refusal::Touching)
 }
 
-// The same. The words held for the pass are cleared at each call: fewer for a smaller table.
-fn certificate_held<'a>(model: &'a [i32], places: &[usize], table: &'a [i32]) -> u32
+// The same, with fewer words held for a smaller table.
+fn certificate_held<'a>(model: &'a [i32], places: &[usize], table: &'a [i32]) -> Result<(), Refusal>
     requires { Sized model.now table.now × Places model.now places.now × (table_ok model.now table.now ≡ true) }
-    ensures { result ≡ certificate_questions model.now table.now }
+    ensures { asked result ≡ certificate_questions model.now table.now }
 {
-    let size = table.len();
-    if size <= tables::FEWEST_WORDS {
-        let mut after = [0i32; tables::FEWEST_WORDS];
-        return certificate_with(model, places, table, &mut after[..size]);
+    if table.len() <= FEWEST_WORDS {
+        return certificate_in::<FEWEST_WORDS>(model, places, table);
     }
-    if size <= tables::FEW_WORDS {
-        let mut after = [0i32; tables::FEW_WORDS];
-        return certificate_with(model, places, table, &mut after[..size]);
+    if table.len() <= FEW_WORDS {
+        return certificate_in::<FEW_WORDS>(model, places, table);
     }
-    let mut after = [0i32; tables::MOST_WORDS];
-    certificate_with(model, places, table, &mut after[..size])
+    certificate_in::<MOST_WORDS>(model, places, table)
 }
 
 // 33 and 34 of a table that passes 32.
-pub fn certificate_questions<'a>(model: &'a [i32], table: &'a [i32]) -> u32
+pub fn certificate_questions<'a>(model: &'a [i32], table: &'a [i32]) -> Result<(), Refusal>
     requires { Sized model.now table.now × (table_ok model.now table.now ≡ true) }
-    ensures { result ≡ certificate_questions model.now table.now }
+    ensures { asked result ≡ certificate_questions model.now table.now }
 {
     let mut places = [0usize; 65];
     tables::places(model, &mut places);
     certificate_held(model, &places, table)
 }
 
-// The questions of a table's words, 32 to 34: 0 if all are yes, else the number of the first that is not.
-fn table_questions<'a>(model: &'a [i32], table: &'a [i32]) -> u32
+// The questions of a table's words, 32 to 34.
+fn table_questions<'a>(model: &'a [i32], table: &'a [i32]) -> Result<(), Refusal>
     requires { Sized model.now table.now }
-    ensures { result ≡ table_questions model.now table.now }
+    ensures { asked result ≡ table_questions model.now table.now }
 {
     let mut places = [0usize; 65];
     tables::places(model, &mut places);
-    if !checks::table_ok(model, &places, table) {
-        return 32;
-    }
+    model::ask(checks::table_ok(model, &places, table), Refusal::Table)?;
     certificate_held(model, &places, table)
 }
 
 // Accepts exactly if the model's questions, 20 and 32 to 34 are all yes.
-pub fn check<'a>(model: &'a [i32], table: &'a [i32]) -> Verdict
-    ensures { result ≡ check_call model.now table.now }
+pub fn check<'a>(model: &'a [i32], table: &'a [i32]) -> Result<(), Refusal>
+    ensures { numbered result ≡ check_call model.now table.now }
 {
-    let q = model::questions(model);
-    if q != 0 {
-        return Verdict::Refused(q);
-    }
+    model::questions(model)?;
     let end = tables::table_size(model);
-    if table.len() < end {
-        return Verdict::Refused(20);
-    }
-    let q = table_questions(model, &table[..end]);
-    if q != 0 {
-        return Verdict::Refused(q);
-    }
-    Verdict::Accepted
+    model::ask(end <= table.len(), Refusal::TableWords)?;
+    table_questions(model, &table[..end])
 }
 
 // ---- the analysis
@@ -133,13 +112,11 @@ fn counted_passes(
     requires { Sized model.now table.old × Places model.now places.now × Sized model.now work.old }
     ensures { (result ≡ C.analysis model.now limit) × (table.new ≡ answer_table model.now result) }
 {
-    let mut last = [0usize; 64];
-    let mut before = [0usize; 64];
-    checks::link(model, &mut last, &mut before);
-    integers::clear(table);
+    let links = checks::link(model);
+    table.fill(0);
     let mut k: u32 = 0;
     loop {
-        if checks::touching(model, places, &last, &before, table) {
+        if checks::touching(model, places, &links, table) {
             return Answer::Unknown(k);
         }
         if fixpoint(model, places, table, work) {
@@ -148,49 +125,43 @@ fn counted_passes(
         if k == limit {
             return Answer::Unfinished(k);
         }
-        integers::copy(work, table);
+        table.copy_from_slice(work);
         k += 1;
     }
 }
 
-// The questions of an analysis, the model's, 20 and 21: 0 if all are yes, else the number of the first that is not.
-pub fn questions<'a>(model: &'a [i32], table: &'a [i32], work: &'a [i32]) -> u32
-    ensures { result ≡ analysis_questions model.now table.now work.now }
+// The questions of an analysis, the model's, 20 and 21.
+pub fn questions<'a>(model: &'a [i32], table: &'a [i32], work: &'a [i32]) -> Result<(), Refusal>
+    ensures { asked result ≡ analysis_questions model.now table.now work.now }
 {
-    let q = model::questions(model);
-    if q != 0 {
-        return q;
-    }
+    model::questions(model)?;
     let size = tables::table_size(model);
-    if table.len() < size {
-        return 20;
-    }
-    if work.len() < size {
-        return 21;
-    }
-    0
+    model::ask(size <= table.len(), Refusal::TableWords)?;
+    model::ask(size <= work.len(), Refusal::WorkWords)
 }
 
 // The answer after its questions. The table buffer then begins with the answer's table, and the work buffer is all zero.
 pub fn analyse_passed(model: &[i32], limit: u32, table: &mut [i32], work: &mut [i32]) -> Answer
     requires { analysis_questions model.now table.old work.old ≡ 0 }
-    ensures { record { answer = result; table = table.new; work = work.new } ≡ answered model.now (C.analysis model.now limit) table.old work.old }
+    ensures { record { answer = Ok result; table = table.new; work = work.new } ≡ answered model.now (C.analysis model.now limit) table.old work.old }
 {
     let size = tables::table_size(model);
     let mut places = [0usize; 65];
     tables::places(model, &mut places);
     let answer = counted_passes(model, &places, limit, &mut table[..size], &mut work[..size]);
-    integers::clear(work);
+    work.fill(0);
     answer
 }
 
 // The questions, and then the answer; a refusal changes nothing.
-pub fn analyse(model: &[i32], limit: u32, table: &mut [i32], work: &mut [i32]) -> Answer
-    ensures { record { answer = result; table = table.new; work = work.new } ≡ analyse_call model.now limit table.old work.old }
+pub fn analyse(
+    model: &[i32],
+    limit: u32,
+    table: &mut [i32],
+    work: &mut [i32],
+) -> Result<Answer, Refusal>
+    ensures { record { answer = numbered result; table = table.new; work = work.new } ≡ analyse_call model.now limit table.old work.old }
 {
-    let q = questions(model, table, work);
-    if q != 0 {
-        return Answer::Refused(q);
-    }
-    analyse_passed(model, limit, table, work)
+    questions(model, table, work)?;
+    Ok(analyse_passed(model, limit, table, work))
 }

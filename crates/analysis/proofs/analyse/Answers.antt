@@ -1,13 +1,15 @@
 -- The questions' number is the refusal, or the answer is the analysis's.
-use mathlib.Core.Path.{sym, ◌∙◌}
-use Rattle.plant.proofs.AnalysisAsked.{analyse_refused, analyse_answered}
+use Rattle.std.proofs.Common.{arith}
+use Rattle.std.proofs.lemmas.Grind.{common_steps}
+use Rattle.plant.specs.Ask.{◌then◌}
+use Rattle.plant.specs.Calls.{analyse_call}
+use Rattle.plant.proofs.Refusing.{number_positive}
 use Rattle.analysis.proofs.analyse.Goals as goal
 
-pub returns-then-q-ne0 : goal.returns-then-q-ne0
-returns-then-q-ne0 c = analyse_refused _ _ _ _ _ c.questions-q.ensures c.if-q-ne0.true
-
-pub analyse_passed-requires : goal.analyse_passed-requires
-analyse_passed-requires c = sym c.questions-q.ensures ∙ c.if-q-ne0.false
+pub returns-in_err-questions : goal.returns-in_err-questions
+unfolding analyse_call ◌then◌
+returns-in_err-questions c = grind (arith, common_steps, number_positive)
 
 pub returns : goal.returns
-returns c = analyse_answered _ _ _ _ _ c.questions-q.ensures _ c.if-q-ne0.false c.analyse_passed.ensures
+unfolding analyse_call ◌then◌
+returns c = grind (arith, common_steps)

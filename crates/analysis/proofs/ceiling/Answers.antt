@@ -1,10 +1,14 @@
 -- Refused by the model's number, or the ceiling.
-use mathlib.Core.Path.{sym, ◌∙◌}
-use Rattle.analysis.proofs.Calls.{ceiling-refused, ceiling-passes}
+use Rattle.std.proofs.Common.{arith}
+use Rattle.std.proofs.lemmas.Grind.{common_steps}
+use Rattle.plant.specs.Calls.{ceiling_call}
+use Rattle.plant.proofs.Refusing.{number_positive}
 use Rattle.analysis.proofs.ceiling.Goals as goal
 
-pub returns-then-q-ne0 : goal.returns-then-q-ne0
-returns-then-q-ne0 c = ceiling-refused _ _ c.questions-q.ensures c.if-q-ne0.true
+pub returns-in_err-questions : goal.returns-in_err-questions
+unfolding ceiling_call
+returns-in_err-questions c = grind (arith, common_steps, number_positive)
 
 pub returns : goal.returns
-returns c = ceiling-passes _ _ (sym c.questions-q.ensures ∙ c.if-q-ne0.false) c.ceiling_of.ensures
+unfolding ceiling_call
+returns c = grind (arith, common_steps)

@@ -3,8 +3,8 @@ use Prim.Native.Nat.{◌-◌}
 use Rattle.analysis.proofs.Counting.{Going}
 use Rattle.analysis.proofs.counted_passes.Given as goal
 
-abbrev pub invariant-loop-last : goal.invariant-loop-last
-invariant-loop-last l = Going l.model l.limit l.table l.work l.k
+abbrev pub invariant-loop-links : goal.invariant-loop-links
+invariant-loop-links l = Going l.model l.limit l.table l.work l.k
 
-abbrev pub decreases-loop-last : goal.decreases-loop-last
-decreases-loop-last l = l.limit - l.k
+abbrev pub decreases-loop-links : goal.decreases-loop-links
+decreases-loop-links l = l.limit - l.k

@@ -1,25 +1,19 @@
 -- The places are made once; each return is one case of the three questions.
-use mathlib.Core.Path.{◌≡◌, refl, sym, ◌∙◌}
-use mathlib.Core.Bool.{true}
-use Rattle.plant.specs.Tables.{table_ok}
+use Rattle.std.proofs.Common.{arith}
+use Rattle.std.proofs.lemmas.Grind.{common_steps}
+use Rattle.plant.specs.Ask.{◌then◌}
+use Rattle.plant.specs.Calls.{table_questions}
 use Rattle.plant.proofs.Passing.{whole}
-use Rattle.analysis.proofs.Calls.{not_valid, valid_asked}
+use Rattle.plant.proofs.Refusing.{number_positive}
 use Rattle.analysis.proofs.table_questions.Goals as goal
 
 pub places-requires : goal.places-requires
-places-requires c = (whole _ c.requires.passes, refl)
+places-requires c = grind (arith, whole)
 
-pub returns-then-not-table_ok : goal.returns-then-not-table_ok
-returns-then-not-table_ok c = not_valid _ _ (sym c.table_ok.ensures ∙ c.if-not-table_ok.true)
-
-pub certificate_held-requires : goal.certificate_held-requires
-certificate_held-requires c =
-    -- after 32
-    let valid : (let a = c.args in table_ok a.model.now a.table.now ≡ true) = sym c.table_ok.ensures ∙ c.if-not-table_ok.false in
-    (c.requires, c.places.ensures, valid)
+pub returns-in_err-ask : goal.returns-in_err-ask
+unfolding table_questions ◌then◌
+returns-in_err-ask c = grind (arith, common_steps)
 
 pub returns : goal.returns
-returns c =
-    -- after 32
-    let valid : (let a = c.args in table_ok a.model.now a.table.now ≡ true) = sym c.table_ok.ensures ∙ c.if-not-table_ok.false in
-    valid_asked _ _ valid c.certificate_held.ensures
+unfolding table_questions ◌then◌
+returns c = grind (arith, common_steps)
