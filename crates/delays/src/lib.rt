@@ -223,7 +223,6 @@ pub fn window_end(n: usize, inv: &[i32], rate: &[i32], part: &[i32]) -> End
 }
 
 // The low of variable i of the box a cut to the box b.
-#[tactic(auto, using(integers::proofs::Library::max_is))]
 pub fn cut_low(a: &[i32], b: &[i32], i: usize) -> i64
     requires { LevelAt a.now i × LevelAt b.now i }
     ensures { result ≡ max_z (low a.now i) (low b.now i) }
@@ -232,7 +231,6 @@ pub fn cut_low(a: &[i32], b: &[i32], i: usize) -> i64
 }
 
 // The high of variable i of the box a cut to the box b.
-#[tactic(auto, using(integers::proofs::Library::min_is))]
 pub fn cut_high(a: &[i32], b: &[i32], i: usize) -> i64
     requires { LevelAt a.now i × LevelAt b.now i }
     ensures { result ≡ min_z (high a.now i) (high b.now i) }
