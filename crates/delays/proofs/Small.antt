@@ -1,10 +1,7 @@
 -- Delays between two levels at a rate are small: their cross products fit a word.
-use Rattle.std.specs.Prelude.{Option, Some, None}
-use mathlib.Core.Path.{◌≡◌, subst}
 use mathlib.Core.Bool.{Bool, true, false, not, ◌&&◌, ◌||◌}
 use mathlib.Core.List.{List}
-use Prim.Native.Nat.{ℕ, ◌*◌, ◌≤◌, ◌<◌}
-use native.Mathlib.Nat.{mul-le-mul}
+use Prim.Native.Nat.{ℕ, ◌<◌}
 use native.Mathlib.Omega.{arith}
 use lib.Dec.{T}
 use lib.IntN.{ℤ, pos, negsuc, neg_ℤ, nat_abs, ◌-ℤ◌}
@@ -20,7 +17,7 @@ use Rattle.plant.specs.declared.End.TheVariants.{At, Endless}
 use Rattle.plant.specs.declared.Interval.{Interval}
 use Rattle.plant.specs.Delays.{ratio, no_delay, earliest_into, is_endless, latest_into, delays_into, le_f, later, sooner, both}
 use Rattle.plant.specs.Box.{low, high}
-use Rattle.delays.specs.Ranges.{Level, Rate, Levels, InInvariant, Small, SmallEnd, SmallInterval}
+use Rattle.delays.specs.Ranges.{Level, Rate, Levels, InInvariant, Small, SmallEnd, SmallInterval, SmallDelays}
 
 ratio_small : (x y d : ℤ) → Level x → Level y → Rate d → 0 < nat_abs d → Small (ratio (x -ℤ y) d)
 ratio_small x y d h k r l = record { num_small = omega (arith, abs_minus x y); den_positive = l; den_small = r }
@@ -42,11 +39,6 @@ and_no_left : (s t : Bool) → T (not (s && t)) → T t → T (not s)
 and_no_left true true h k = h
 and_no_left true false h k = k
 and_no_left false t h k = tt
-
--- where there is an interval of delays, it is small
-abbrev pub SmallDelays : Option Interval → Type 0
-SmallDelays None = Unit {0}
-SmallDelays (Some t) = SmallInterval t
 
 module _ (p q a c lo hi : ℤ) (lp : Level p) (lq : Level q) (ra : Rate a) (rc : Rate c) (ll : Level lo) (lh : Level hi) where
   earliest_into_small : T (not (no_delay p q a c lo hi)) → Small (earliest_into p q a c lo hi)
@@ -70,13 +62,6 @@ module _ (p q a c lo hi : ℤ) (lp : Level p) (lq : Level q) (ra : Rate a) (rc :
   pub into_small : SmallDelays (delays_into p q a c lo hi)
   unfolding delays_into
   into_small = by_test SmallDelays (no_delay p q a c lo hi) (λ _. tt) (λ n. record { earliest_small = earliest_into_small n; latest_small = latest_into_small })
-
-  pub delays_small : (t : Interval) → delays_into p q a c lo hi ≡ Some t → SmallInterval t
-  delays_small t e = subst SmallDelays e into_small
-
--- a cross product
-pub cross_small : {e f : Fraction} → Small e → Small f → e.num * f.den ≤ 2000000000
-cross_small s t = mul-le-mul s.num_small t.den_small
 
 -- ---- what two small intervals share is small
 

@@ -20,8 +20,8 @@ use Rattle.plant.specs.Box.{low, high, ordered, cut}
 use Rattle.plant.specs.Delays.{no_delay, delays_into, both_delays, has_delay, any_delay, reaches_end, both}
 use Rattle.plant.specs.Steps.{delays_into_box, touches}
 use Rattle.plant.proofs.Boxes.{low_cut, high_cut, ordered_yes, ordered_intro}
-use Rattle.delays.specs.Ranges.{Level, LevelAt, RateAt, SmallInterval}
-use Rattle.delays.proofs.Small.{delays_small, shared_small, level_max, level_min}
+use Rattle.delays.specs.Ranges.{Level, LevelAt, SmallInterval}
+use Rattle.delays.proofs.Small.{shared_small, level_max, level_min}
 
 -- delays shared with none are none; two intervals share an interval
 both_never : (s t : Option Interval) → t ≡ None → both_delays s t ≡ None
@@ -66,11 +66,6 @@ module _ {inv box : List ℤ} {i : ℕ} (v : LevelAt inv i) (b : LevelAt box i) 
   pub highest_in : Level (highest inv box i)
   highest_in = level_min (high box i) (high inv i) b.high_in v.high_in
 
-  pub found_small : {rate part : List ℤ} {t : Interval} → RateAt rate i → LevelAt part i → delays_at inv rate part box i ≡ Some t → SmallInterval t
-  found_small {rate} {part} {t} r p e =
-      delays_small (low part i) (high part i) (low rate i) (high rate i) (lowest inv box i) (highest inv box i)
-      p.low_in p.high_in r.low_in r.high_in lowest_in highest_in t e
-
 -- ---- all variables
 
 module _ (n : ℕ) (inv rate part box : List ℤ) where
@@ -80,7 +75,6 @@ module _ (n : ℕ) (inv rate part box : List ℤ) where
 
   -- before variable i: no cut so far is empty, and the shared is what the delays so far share
   pub record SharedSoFar (w : Interval) (i : ℕ) : Type 0 where
-    pub seen : i ≤ n
     pub cuts : (j : ℕ) → j < i → low region j ≤ℤ high region j
     pub shares : delays_into_box rate part region i ≡ Some w
     pub small : SmallInterval w
@@ -89,7 +83,6 @@ module _ (n : ℕ) (inv rate part box : List ℤ) where
   unfolding delays_into_box
   shared_start =
       record {
-        seen = omega arith;
         cuts = λ j l. absurd (omega arith);
         shares = refl;
         small = record { earliest_small = record { num_small = omega arith; den_positive = omega arith; den_small = omega arith }; latest_small = tt };
@@ -107,7 +100,6 @@ module _ (n : ℕ) (inv rate part box : List ℤ) where
   pub shared_more : {w t : Interval} {i : ℕ} → SharedSoFar w i → i < n → lt_z (highest inv box i) (lowest inv box i) ≡ false → delays_at inv rate part box i ≡ Some t → SmallInterval t → SharedSoFar (both w t) (i + 1)
   shared_more {w} {t} {i} h l u e k =
       record {
-        seen = omega arith;
         cuts = λ j m. ⊎_elim (h.cuts j) (λ q. subst (λ (x : ℕ). low region x ≤ℤ high region x) (sym q) (cut_holds i l u)) (split j i (omega arith));
         shares = rw add-one (delays_at_lem i l ∙ both_between h.shares e);
         small = shared_small h.small k;

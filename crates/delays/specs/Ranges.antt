@@ -1,5 +1,5 @@
 -- The ranges in which the code computes: levels and rates of document 01, and the delays that they give.
-use Rattle.std.specs.Prelude.{◌≡◌, ℕ, ◌+◌, ◌*◌, ◌≤◌, ◌<◌, List, ℤ, nat_abs, length}
+use Rattle.std.specs.Prelude.{◌≡◌, ℕ, ◌+◌, ◌*◌, ◌≤◌, ◌<◌, List, ℤ, nat_abs, length, Option, Some, None}
 use Rattle.plant.specs.Box.{low, high, Ordered, Inside}
 use Rattle.plant.specs.declared.Fraction.{Fraction}
 use Rattle.plant.specs.declared.End.{End}
@@ -51,3 +51,8 @@ SmallEnd Endless = Unit {0}
 pub record SmallInterval (t : Interval) : Type 0 where
   pub earliest_small : Small t.earliest
   pub latest_small : SmallEnd t.latest
+
+-- where there is an interval of delays, it is small
+abbrev pub SmallDelays : Option Interval → Type 0
+SmallDelays None = Unit {0}
+SmallDelays (Some t) = SmallInterval t

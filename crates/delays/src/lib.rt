@@ -1,97 +1,125 @@
 // The delays from a part to a wall or into a range, and whether a part touches a box (document 01, "Delays").
 #![tactic(auto)]
 
-ghost use Rattle.std.specs.Prelude.{◌≡◌, true, false, cond, ◌-ℤ◌};
+ghost use Rattle.std.specs.Prelude.{◌≡◌, true, false, cond, ◌+◌, ◌*◌, ◌<◌, ◌-ℤ◌, length};
 ghost use Rattle.integers.specs.Rounding.{max_z, min_z};
 ghost use Rattle.plant.specs.Box.{low, high};
 ghost use Rattle.plant.specs.Delays as D;
 ghost use Rattle.plant.specs.Delays.{ratio, no_delay, is_endless, earliest_into, latest_into, delays_into, delays_to, le_f, both, both_delays, reaches_end, or_never};
 ghost use Rattle.plant.specs.Steps as Steps;
-ghost use Rattle.delays.specs.Ranges.{Level, Rate, LevelAt, RateAt, Levels, Rates, InInvariant, Small, SmallEnd, SmallInterval};
+ghost use Rattle.delays.specs.Ranges.{Level, LevelAt, RateAt, Levels, Rates, InInvariant, Small, SmallEnd, SmallInterval, SmallDelays};
 ghost use Rattle.delays.specs.Windows.{WithinAt, up_to, WindowEnd};
 
 use plant::{End, Fraction, Interval};
 
-// The delay over the distance between two levels at a rate.
-fn delay(x: i64, y: i64, v: i64) -> Fraction
-    requires { Level x × Level y }
-    ensures { result ≡ ratio (x -ℤ y) v }
+// From low to high: a variable's levels in a part, its rates, or the levels to be reached.
+#[derive(Clone, Copy)]
+struct Range {
+    low: i64,
+    high: i64,
+}
+
+// The low of variable i of a box.
+#[tactic(auto, unfolding(plant::specs::Box::low))]
+pub fn low(words: &[i32], i: usize) -> i64
+    requires { 2 * i < length words.now }
+    ensures { result ≡ low words.now i }
 {
-    Fraction {
-        num: integers::magnitude(x - y),
-        den: integers::magnitude(v),
+    integers::word(words, 2 * i)
+}
+
+// Its high.
+#[tactic(auto, unfolding(plant::specs::Box::high))]
+pub fn high(words: &[i32], i: usize) -> i64
+    requires { 2 * i + 1 < length words.now }
+    ensures { result ≡ high words.now i }
+{
+    integers::word(words, 2 * i + 1)
+}
+
+// Both.
+fn range_at(words: &[i32], i: usize) -> Range
+    requires { 2 * i + 1 < length words.now }
+    ensures { result ≡ record { low = low words.now i; high = high words.now i } }
+{
+    Range {
+        low: low(words, i),
+        high: high(words, i),
     }
 }
 
-// No delay leads from the part p..q with the rate a..c into the range lo..hi.
-fn no_delay(p: i64, q: i64, a: i64, c: i64, lo: i64, hi: i64) -> bool
-    ensures { result ≡ no_delay p q a c lo hi }
+// The delay over the distance between two levels at a rate.
+fn delay(x: i64, y: i64, v: i64) -> Fraction
+    ensures { result ≡ ratio (x -ℤ y) v }
 {
-    ((hi < p) & (0 <= a)) | ((q < lo) & (c <= 0))
+    Fraction {
+        num: x.abs_diff(y),
+        den: v.unsigned_abs(),
+    }
+}
+
+// No delay leads from the part with the rate into the range.
+fn no_delay(part: Range, rate: Range, into: Range) -> bool
+    ensures { result ≡ no_delay part.low part.high rate.low rate.high into.low into.high }
+{
+    ((into.high < part.low) & (0 <= rate.low)) | ((part.high < into.low) & (rate.high <= 0))
 }
 
 // The latest delay into the range is endless.
-fn endless(p: i64, q: i64, a: i64, c: i64, lo: i64, hi: i64) -> bool
-    ensures { result ≡ is_endless p q a c lo hi }
+fn endless(part: Range, rate: Range, into: Range) -> bool
+    ensures { result ≡ is_endless part.low part.high rate.low rate.high into.low into.high }
 {
-    ((a <= 0) & (0 <= c)) | (((hi < p) & (0 <= c)) | ((q < lo) & (a <= 0)))
+    ((rate.low <= 0) & (0 <= rate.high))
+        | (((into.high < part.low) & (0 <= rate.high)) | ((part.high < into.low) & (rate.low <= 0)))
 }
 
 // The earliest delay into the range.
-fn earliest(p: i64, q: i64, a: i64, c: i64, lo: i64, hi: i64) -> Fraction
-    requires { Level p × Level q × Level lo × Level hi }
-    ensures { result ≡ earliest_into p q a c lo hi }
+fn earliest(part: Range, rate: Range, into: Range) -> Fraction
+    ensures { result ≡ earliest_into part.low part.high rate.low rate.high into.low into.high }
 {
-    if hi < p {
-        delay(p, hi, a)
-    } else if q < lo {
-        delay(lo, q, c)
+    if into.high < part.low {
+        delay(part.low, into.high, rate.low)
+    } else if part.high < into.low {
+        delay(into.low, part.high, rate.high)
     } else {
         Fraction { num: 0, den: 1 }
     }
 }
 
 // The latest delay into the range.
-fn latest(p: i64, q: i64, a: i64, c: i64, lo: i64, hi: i64) -> End
-    requires { Level p × Level q × Level lo × Level hi }
-    ensures { result ≡ latest_into p q a c lo hi }
+fn latest(part: Range, rate: Range, into: Range) -> End
+    ensures { result ≡ latest_into part.low part.high rate.low rate.high into.low into.high }
 {
-    if endless(p, q, a, c, lo, hi) {
+    if endless(part, rate, into) {
         End::Endless
-    } else if c < 0 {
-        End::At(delay(q, lo, c))
+    } else if rate.high < 0 {
+        End::At(delay(part.high, into.low, rate.high))
     } else {
-        End::At(delay(hi, p, a))
+        End::At(delay(into.high, part.low, rate.low))
     }
 }
 
-// The delays from the part p..q with the rate a..c into the range lo..hi.
-pub fn delays_into(p: i64, q: i64, a: i64, c: i64, lo: i64, hi: i64) -> Option<Interval>
-    requires { Level p × Level q × Rate a × Rate c × Level lo × Level hi }
-    ensures { result ≡ delays_into p q a c lo hi }
+// The delays from the part with the rate into the range.
+#[tactic(auto, unfolding(plant::specs::Delays::delays_into))]
+fn delays_into(part: Range, rate: Range, into: Range) -> Option<Interval>
+    ensures { result ≡ delays_into part.low part.high rate.low rate.high into.low into.high }
 {
-    if no_delay(p, q, a, c, lo, hi) {
-        None
-    } else {
-        Some(Interval {
-            earliest: earliest(p, q, a, c, lo, hi),
-            latest: latest(p, q, a, c, lo, hi),
-        })
+    if no_delay(part, rate, into) {
+        return None;
     }
+    Some(Interval {
+        earliest: earliest(part, rate, into),
+        latest: latest(part, rate, into),
+    })
 }
 
-// The delays at which variable i of a part can be in the range lo..hi.
-pub fn variable_delays(rate: &[i32], part: &[i32], i: usize, lo: i64, hi: i64) -> Option<Interval>
-    requires { RateAt rate.now i × LevelAt part.now i × Level lo × Level hi }
-    ensures { result ≡ delays_into (low part.now i) (high part.now i) (low rate.now i) (high rate.now i) lo hi }
+// The delays at which variable i of a part can be in the range: none, or small.
+fn variable_delays(rate: &[i32], part: &[i32], i: usize, into: Range) -> Option<Interval>
+    requires { RateAt rate.now i × LevelAt part.now i × Level into.low × Level into.high }
+    ensures value { result ≡ delays_into (low part.now i) (high part.now i) (low rate.now i) (high rate.now i) into.low into.high }
+    ensures small { SmallDelays result }
 {
-    let k = 2 * i;
-    let j = k + 1;
-    let p = integers::word(part, k);
-    let q = integers::word(part, j);
-    let a = integers::word(rate, k);
-    let c = integers::word(rate, j);
-    delays_into(p, q, a, c, lo, hi)
+    delays_into(range_at(part, i), range_at(rate, i), into)
 }
 
 // One delay is no later than another, compared exactly.
@@ -123,15 +151,10 @@ fn sooner(s: End, t: End) -> End
     requires { SmallEnd s × SmallEnd t }
     ensures { result ≡ D.sooner s t }
 {
-    match s {
-        End::Endless => match t {
-            End::Endless => End::Endless,
-            End::At(g) => End::At(g),
-        },
-        End::At(f) => match t {
-            End::Endless => End::At(f),
-            End::At(g) => End::At(earlier(f, g)),
-        },
+    match (s, t) {
+        (End::Endless, End::Endless) => End::Endless,
+        (End::Endless, End::At(f)) | (End::At(f), End::Endless) => End::At(f),
+        (End::At(f), End::At(g)) => End::At(earlier(f, g)),
     }
 }
 
@@ -140,13 +163,9 @@ fn both(s: Interval, t: Interval) -> Interval
     requires { SmallInterval s × SmallInterval t }
     ensures { result ≡ both s t }
 {
-    let e = s.earliest;
-    let f = t.earliest;
-    let g = s.latest;
-    let h = t.latest;
     Interval {
-        earliest: later(e, f),
-        latest: sooner(g, h),
+        earliest: later(s.earliest, t.earliest),
+        latest: sooner(s.latest, t.latest),
     }
 }
 
@@ -155,12 +174,10 @@ fn has_delay(t: Interval) -> bool
     requires { SmallInterval t }
     ensures { result ≡ reaches_end t.earliest t.latest }
 {
-    let e = t.earliest;
-    let l = t.latest;
-    let End::At(f) = l else {
-        return true;
-    };
-    le(e, f)
+    match t.latest {
+        End::Endless => true,
+        End::At(f) => le(t.earliest, f),
+    }
 }
 
 // The delays from a part to the wall value b of variable d that are in a window from 0 to an end; none if no delay is.
@@ -168,20 +185,12 @@ pub fn wall_delays(rate: &[i32], part: &[i32], d: usize, b: i64, end: End) -> Op
     requires { RateAt rate.now d × LevelAt part.now d × Level b × SmallEnd end }
     ensures { result ≡ or_never (both_delays (delays_to (low part.now d) (high part.now d) (low rate.now d) (high rate.now d) b) (Some (up_to end))) }
 {
-    let Some(t) = variable_delays(rate, part, d, b, b) else {
-        return None;
-    };
-    let e = t.earliest;
-    let l = t.latest;
+    let own = variable_delays(rate, part, d, Range { low: b, high: b })?;
     let cut = Interval {
-        earliest: e,
-        latest: sooner(l, end),
+        earliest: own.earliest,
+        latest: sooner(own.latest, end),
     };
-    if has_delay(cut) {
-        Some(cut)
-    } else {
-        None
-    }
+    has_delay(cut).then_some(cut)
 }
 
 // The latest delay after which variable i of a part inside the invariant can still be inside it. Where its rates hold 0 there is none,
@@ -190,14 +199,11 @@ fn latest_inside(inv: &[i32], rate: &[i32], part: &[i32], i: usize) -> End
     requires { LevelAt inv.now i × RateAt rate.now i × LevelAt part.now i × WithinAt inv.now part.now i }
     ensures { result ≡ latest_into (low part.now i) (high part.now i) (low rate.now i) (high rate.now i) (low inv.now i) (high inv.now i) }
 {
-    let k = 2 * i;
-    let j = k + 1;
-    let a = integers::word(rate, k);
-    let c = integers::word(rate, j);
-    if c < 0 {
-        End::At(delay(integers::word(part, j), integers::word(inv, k), c))
-    } else if 0 < a {
-        End::At(delay(integers::word(inv, j), integers::word(part, k), a))
+    let rates = range_at(rate, i);
+    if rates.high < 0 {
+        End::At(delay(high(part, i), low(inv, i), rates.high))
+    } else if 0 < rates.low {
+        End::At(delay(high(inv, i), low(part, i), rates.low))
     } else {
         End::Endless
     }
@@ -210,10 +216,8 @@ pub fn window_end(n: usize, inv: &[i32], rate: &[i32], part: &[i32]) -> End
     ensures { WindowEnd n inv.now rate.now part.now result }
 {
     let mut end = End::Endless;
-    let mut i = 0;
-    while i < n {
+    for i in 0..n {
         end = sooner(end, latest_inside(inv, rate, part, i));
-        i += 1;
     }
     end
 }
@@ -223,8 +227,7 @@ pub fn cut_low(a: &[i32], b: &[i32], i: usize) -> i64
     requires { LevelAt a.now i × LevelAt b.now i }
     ensures { result ≡ max_z (low a.now i) (low b.now i) }
 {
-    let k = 2 * i;
-    integers::larger(integers::word(a, k), integers::word(b, k))
+    low(a, i).max(low(b, i))
 }
 
 // The high of variable i of the box a cut to the box b.
@@ -232,8 +235,18 @@ pub fn cut_high(a: &[i32], b: &[i32], i: usize) -> i64
     requires { LevelAt a.now i × LevelAt b.now i }
     ensures { result ≡ min_z (high a.now i) (high b.now i) }
 {
-    let j = 2 * i + 1;
-    integers::smaller(integers::word(a, j), integers::word(b, j))
+    high(a, i).min(high(b, i))
+}
+
+// Both.
+fn cut_range(a: &[i32], b: &[i32], i: usize) -> Range
+    requires { LevelAt a.now i × LevelAt b.now i }
+    ensures { result ≡ record { low = max_z (low a.now i) (low b.now i); high = min_z (high a.now i) (high b.now i) } }
+{
+    Range {
+        low: cut_low(a, b, i),
+        high: cut_high(a, b, i),
+    }
 }
 
 // Some variable rules a touch out by itself: its cut is empty, or no delay leads into it. Comparisons alone, no products: most
@@ -242,20 +255,11 @@ fn ruled_out(n: usize, inv: &[i32], rate: &[i32], part: &[i32], forbidden: &[i32
     requires { Levels n inv.now × Rates n rate.now × Levels n part.now × Levels n forbidden.now }
     ensures { result ≡ true → Steps.touches n inv.now rate.now part.now forbidden.now ≡ false }
 {
-    let mut i = 0;
-    while i < n {
-        let lo = cut_low(forbidden, inv, i);
-        let hi = cut_high(forbidden, inv, i);
-        let k = 2 * i;
-        let j = k + 1;
-        let p = integers::word(part, k);
-        let q = integers::word(part, j);
-        let a = integers::word(rate, k);
-        let c = integers::word(rate, j);
-        if (hi < lo) | no_delay(p, q, a, c, lo, hi) {
+    for i in 0..n {
+        let into = cut_range(forbidden, inv, i);
+        if (into.high < into.low) | no_delay(range_at(part, i), range_at(rate, i), into) {
             return true;
         }
-        i += 1;
     }
     false
 }
@@ -272,18 +276,15 @@ pub fn touches(n: usize, inv: &[i32], rate: &[i32], part: &[i32], forbidden: &[i
         earliest: Fraction { num: 0, den: 1 },
         latest: End::Endless,
     };
-    let mut i = 0;
-    while i < n {
-        let lo = cut_low(forbidden, inv, i);
-        let hi = cut_high(forbidden, inv, i);
-        if hi < lo {
+    for i in 0..n {
+        let into = cut_range(forbidden, inv, i);
+        if into.high < into.low {
             return false;
         }
-        let Some(t) = variable_delays(rate, part, i, lo, hi) else {
+        let Some(own) = variable_delays(rate, part, i, into) else {
             return false;
         };
-        shared = both(shared, t);
-        i += 1;
+        shared = both(shared, own);
     }
     has_delay(shared)
 }
