@@ -1,6 +1,6 @@
 -- Laws of refusals: each has a number of its own, which is not 0; and how code with `?` comes to the answer of questions in an order.
 use mathlib.Core.Path.{◌≡◌, refl, sym, ap, ◌∙◌}
-use Prim.Native.Nat.{ℕ, zero, suc, ◌+◌, ◌<◌}
+use Prim.Native.Nat.{ℕ, zero, suc, ◌+◌, ◌-◌, ◌<◌}
 use native.Mathlib.Omega.{arith}
 use Rattle.std.specs.Prelude.{Result, Ok, Err, List, [], ◌∷◌}
 use Rattle.std.proofs.Common.{get_or}
@@ -44,6 +44,9 @@ number_positive TableBytes = omega arith
 number_positive ModelBytes = omega arith
 number_positive Edition = omega arith
 number_positive CutPlace = omega arith
+
+pub number_suc : (r : Refusal) → number r ≡ suc (number r - 1)
+number_suc r = omega (arith, number_positive r)
 
 pub number_not_0 : (r : Refusal) → number r ≡ 0 → ⊥
 number_not_0 r e = absurd (omega (arith, number_positive r, e))
