@@ -1,6 +1,6 @@
 -- Laws of refusals: each has a number of its own, which is not 0; and how code with `?` comes to the answer of questions in an order.
 use mathlib.Core.Path.{◌≡◌, refl, sym, ap, ◌∙◌}
-use Prim.Native.Nat.{ℕ, zero, suc, ◌+◌, ◌<◌}
+use Prim.Native.Nat.{ℕ, zero, suc, ◌+◌, ◌-◌, ◌<◌}
 use native.Mathlib.Omega.{arith}
 use Rattle.std.specs.Prelude.{Result, Ok, Err, List, [], ◌∷◌}
 use Rattle.std.proofs.Common.{get_or}
@@ -47,6 +47,9 @@ number_between CutPlace = (omega arith, omega arith)
 
 pub number_positive : (r : Refusal) → 0 < number r
 number_positive r = (number_between r).0
+
+pub number_suc : (r : Refusal) → number r ≡ suc (number r - 1)
+number_suc r = omega (arith, number_positive r)
 
 pub number_not_0 : (r : Refusal) → number r ≡ 0 → ⊥
 number_not_0 r e = absurd (omega (arith, number_positive r, e))
