@@ -100,10 +100,14 @@ module _ (n : ℕ) (b d face : List ℤ) (i : ℕ) (l : i < n) (e : face ≡ ont
       ∙ ap (λ (s : List ℤ). onto (pos 1 ∷ s) d) (sym (hull_more i (box_at n d 1) b))
 
   -- by the library's methods, the high read once the low is written
-  pub widen_words : (x y : ℤ) → x ≡ int_min (word face (2 * i + 1)) (word b (2 * i)) → y ≡ int_max (word (set face (2 * i + 1) x) (2 * i + 2)) (word b (2 * i + 1)) → set (set face (2 * i + 1) x) (2 * i + 2) y ≡ onto (pos 1 ∷ hull (i + 1) (box_at n d 1) b) d
+  pub widen_words : (x y : ℤ) → x ≡ int_min (word face (2 * i + 1)) (word b (2 * i)) → y ≡ int_max (word (set face (2 * i + 1) x) (2 * i + 1 + 1)) (word b (2 * i + 1))
+      → set (set face (2 * i + 1) x) (2 * i + 1 + 1) y ≡ onto (pos 1 ∷ hull (i + 1) (box_at n d 1) b) d
   widen_words x y p q =
+      let two : 2 * i + 1 + 1 ≡ 2 * i + 2 = omega arith in
+      rw two (
       widen_turn x y (p ∙ min_is _ _)
-      (q ∙ max_is _ _ ∙ ap (λ (z : ℤ). max_z z (word b (2 * i + 1))) (get_or-set_other face (2 * i + 1) (2 * i + 2) x (pos 0) (λ w. omega arith)))
+      ((rw two at q) ∙ max_is _ _ ∙ ap (λ (z : ℤ). max_z z (word b (2 * i + 1))) (get_or-set_other face (2 * i + 1) (2 * i + 2) x (pos 0) (λ w. omega arith)))
+      )
 
 pub widen_end : (n : ℕ) (a b d face : List ℤ) → face ≡ onto (pos 1 ∷ hull n a b) d → length d ≡ 1 + 2 * n → face ≡ face_words n (present (hull n a b))
 unfolding face_words

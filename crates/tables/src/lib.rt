@@ -145,11 +145,10 @@ fn widen(n: usize, from: &[i32], face: &mut [i32])
     ensures { face.new ≡ face_words n (present (hull n (box_at n face.old 1) from.now)) }
 {
     for i in 0..n {
-        let k = 2 * i;
-        let l = k + 1;
-        let h = k + 2;
-        face[l] = face[l].min(from[k]);
-        face[h] = face[h].max(from[l]);
+        let low = 2 * i;
+        let high = low + 1;
+        face[low + 1] = face[low + 1].min(from[low]);
+        face[high + 1] = face[high + 1].max(from[high]);
     }
 }
 
