@@ -4,7 +4,6 @@ use mathlib.Core.Path.{◌≡◌, refl, sym, ap, ap₂, ◌∙◌}
 use mathlib.Core.Bool.{true, false, cond}
 use mathlib.Core.List.{List, [], ◌∷◌, ◌++◌, append-nil}
 use Prim.Native.Nat.{ℕ, ◌+◌, ◌*◌, ◌-◌, ◌<◌, ◌≤◌}
-use native.Mathlib.Nat.{mul-le-mul}
 use native.Mathlib.Omega.{arith}
 use lib.IntN.{ℤ, pos}
 use lib.Signed.{mag, lt_z}
@@ -19,7 +18,7 @@ use Rattle.integers.specs.Rounding.{max_z, min_z}
 use Rattle.integers.proofs.Signed.{cond_case}
 use Rattle.integers.proofs.Buffers.{onto_two, onto_all, cat_more}
 use Rattle.plant.specs.Box.{low, high, box_by, box_at, hull, Face, absent, present, face_words, join}
-use Rattle.plant.specs.Tables.{words_per_location, face_size, table_size, face_read}
+use Rattle.plant.specs.Tables.{face_size, table_size, face_read}
 use Rattle.plant.proofs.Boxes.{low-box_by, high-box_by, length-box_by, box_ext, low-box_at, high-box_at, length-box_at, box_ends, length_face, length-hull}
 use Rattle.plant.proofs.Tables as P
 use Rattle.plant.proofs.Whole.{Head}
@@ -38,7 +37,7 @@ word-onto a d j h =
 
 -- ---- the box at the front of some words
 
-pub box_front : (n : ℕ) (b : List ℤ) → 2 * n ≤ length b → box_by n (low b) (high b) ≡ take (2 * n) b
+box_front : (n : ℕ) (b : List ℤ) → 2 * n ≤ length b → box_by n (low b) (high b) ≡ take (2 * n) b
 unfolding box_at low high
 box_front n b h =
     box_ext n (low b) (high b) (low (box_at n b 0)) (high (box_at n b 0))
@@ -101,10 +100,14 @@ module _ (n : ℕ) (b d face : List ℤ) (i : ℕ) (l : i < n) (e : face ≡ ont
       ∙ ap (λ (s : List ℤ). onto (pos 1 ∷ s) d) (sym (hull_more i (box_at n d 1) b))
 
   -- by the library's methods, the high read once the low is written
-  pub widen_words : (x y : ℤ) → x ≡ int_min (word face (2 * i + 1)) (word b (2 * i)) → y ≡ int_max (word (set face (2 * i + 1) x) (2 * i + 2)) (word b (2 * i + 1)) → set (set face (2 * i + 1) x) (2 * i + 2) y ≡ onto (pos 1 ∷ hull (i + 1) (box_at n d 1) b) d
+  pub widen_words : (x y : ℤ) → x ≡ int_min (word face (2 * i + 1)) (word b (2 * i)) → y ≡ int_max (word (set face (2 * i + 1) x) (2 * i + 1 + 1)) (word b (2 * i + 1))
+      → set (set face (2 * i + 1) x) (2 * i + 1 + 1) y ≡ onto (pos 1 ∷ hull (i + 1) (box_at n d 1) b) d
   widen_words x y p q =
+      let two : 2 * i + 1 + 1 ≡ 2 * i + 2 = omega arith in
+      rw two (
       widen_turn x y (p ∙ min_is _ _)
-      (q ∙ max_is _ _ ∙ ap (λ (z : ℤ). max_z z (word b (2 * i + 1))) (get_or-set_other face (2 * i + 1) (2 * i + 2) x (pos 0) (λ w. omega arith)))
+      ((rw two at q) ∙ max_is _ _ ∙ ap (λ (z : ℤ). max_z z (word b (2 * i + 1))) (get_or-set_other face (2 * i + 1) (2 * i + 2) x (pos 0) (λ w. omega arith)))
+      )
 
 pub widen_end : (n : ℕ) (a b d face : List ℤ) → face ≡ onto (pos 1 ∷ hull n a b) d → length d ≡ 1 + 2 * n → face ≡ face_words n (present (hull n a b))
 unfolding face_words
@@ -174,11 +177,6 @@ pub nothing_joined : (n : ℕ) (g : Face) {s : List ℤ} → IsFace n s → g �
 nothing_joined n g {s} f e = sym (ap (joined_with n s) e ∙ ap (face_words n) (join_absent n (face_read n s 0)) ∙ f)
 
 -- ---- how many words
-
--- words per location grow with the number of variables
-pub words_grow : (n k : ℕ) → n ≤ k → words_per_location n ≤ words_per_location k
-unfolding words_per_location
-words_grow n k h = let a : 2 * n ≤ 2 * k = omega arith in let b : face_size n ≤ face_size k = omega arith in mul-le-mul a b
 
 -- the largest table: 64 locations of 6 variables, all cut
 pub table_most : (m : List ℤ) → Head m → table_size m ≤ 19968

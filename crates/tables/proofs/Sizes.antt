@@ -17,7 +17,6 @@ use Rattle.plant.proofs.Pieces.{per_face_most}
 use Rattle.plant.proofs.PieceCases.{before_none}
 use Rattle.plant.proofs.Tables.{pieces-most}
 use Rattle.plant.proofs.Whole.{Head}
-use Rattle.tables.specs.Places.{Places}
 
 -- ---- sums over the locations
 
@@ -75,6 +74,3 @@ places_more m k before places h p e = record {
       (λ v. rw v (get_or-set_same places (k + 1) before 0 (omega (arith, p.long)) ∙ e))
       (split l (k + 1) (omega arith));
 }
-
-pub places_all : (m : List ℤ) (k : ℕ) (places : List ℕ) → PlacesTo m k places → k ≡ L# m → Places m places
-places_all m k places p e = record { long = p.long; each = λ l u. p.each l (omega (arith, e)) }

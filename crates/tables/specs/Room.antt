@@ -1,7 +1,8 @@
 -- What the code on faces asks of the words that it is lent, and the words that it leaves.
-use Rattle.std.specs.Prelude.{◌≡◌, List, ℕ, ◌*◌, ◌<◌, ◌≤◌, ℤ, length, Option, Some, None}
+use Rattle.std.specs.Prelude.{◌≡◌, List, ℕ, ◌+◌, ◌*◌, ◌<◌, ◌≤◌, ℤ, cond, length, set, Option, Some, None}
+use Rattle.std.specs.Int.Signed.{le_z}
 use Rattle.integers.specs.Counted.{cat}
-use Rattle.plant.specs.Box.{Ordered, Face, on_box, face_words, join}
+use Rattle.plant.specs.Box.{Ordered, Face, absent, present, on_box, face_words, join}
 use Rattle.plant.specs.declared.Cut.{Cut}
 use Rattle.plant.specs.Pieces.{extent_by, cut_to_extent, pieces_per_face}
 use Rattle.plant.specs.Tables.{face_size, face_read}
@@ -40,16 +41,13 @@ joined_each n k words h = faces_by n k (λ q. join n (face_in n words q) (h q))
 
 -- ---- a box cut to the pieces of a face
 
+-- what a box has with variable v from low to high: nothing, where low is above high
+abbrev pub between : ℕ → (low high : ℤ) → List ℤ → Face
+between v low high b = cond (le_z low high) (present (set (set b (2 * v) low) (2 * v + 1) high)) absent
+
 -- what each piece k of a face of wall variable d gets of the face g, by its location's cut
 abbrev pub cut_each : ℕ → Option Cut → ℕ → Face → ℕ → Face
 cut_each n c d g k = on_box g (cut_to_extent n (extent_by c d k))
-
--- an ordered box, to be cut at a value of variable v
-pub record Cuttable (n v : ℕ) (from : List ℤ) : Type 0 where
-  pub n_small : n ≤ 6
-  pub box_length : length from ≡ 2 * n
-  pub box_ordered : Ordered n from
-  pub variable : v < n
 
 -- a cut, where there is one, is at a value of one of n variables
 abbrev pub CutBelow : ℕ → Option Cut → Type 0

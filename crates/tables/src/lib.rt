@@ -9,11 +9,11 @@ ghost use Rattle.plant.specs.Box as B;
 ghost use Rattle.plant.specs.Box.{hull, box_at, present, face_words};
 ghost use Rattle.plant.specs.Model.{L#};
 ghost use Rattle.plant.specs.Pieces as P;
-ghost use Rattle.plant.specs.Pieces.{up_to_value, from_value, cut_to_extent, per_face};
+ghost use Rattle.plant.specs.Pieces.{per_face};
 ghost use Rattle.plant.specs.Tables.{words_per_location, face_size, piece_count, table_size, face_read};
 ghost use Rattle.plant.proofs.Whole.{Whole};
 ghost use Rattle.tables.specs.Places.{Places};
-ghost use Rattle.tables.specs.Room.{Joinable, IsFace, joined_with, AreFaces, joined_each, cut_each, Cuttable, PiecesJoinable};
+ghost use Rattle.tables.specs.Room.{Joinable, IsFace, joined_with, joined_each, between, cut_each, PiecesJoinable};
 
 use plant::Cut;
 
@@ -145,11 +145,10 @@ fn widen(n: usize, from: &[i32], face: &mut [i32])
     ensures { face.new ≡ face_words n (present (hull n (box_at n face.old 1) from.now)) }
 {
     for i in 0..n {
-        let k = 2 * i;
-        let l = k + 1;
-        let h = k + 2;
-        face[l] = face[l].min(from[k]);
-        face[h] = face[h].max(from[l]);
+        let low = 2 * i;
+        let high = low + 1;
+        face[low + 1] = face[low + 1].min(from[low]);
+        face[high + 1] = face[high + 1].max(from[high]);
     }
 }
 
@@ -167,55 +166,36 @@ pub fn join(n: usize, from: &[i32], face: &mut [i32])
 
 // ---- joins to the pieces of a face
 
-// Joins to a piece a box with another word at a place.
-fn join_with(n: usize, at: usize, z: i32, from: &[i32], piece: &mut [i32])
-    requires { Joinable n from.now piece.old × (length from.now ≡ 2 * n) × (at < 2 * n) }
-    ensures { piece.new ≡ joined_with n piece.old (present (set from.now at z)) }
+// Joins to a piece what a box has with variable v from low to high: nothing, where low is above high.
+fn join_between(n: usize, v: usize, low: i32, high: i32, from: &[i32], piece: &mut [i32])
+    requires { (n ≤ 6) × (length from.now ≡ 2 * n) × (v < n) × IsFace n piece.old }
+    ensures { piece.new ≡ joined_with n piece.old (between v low high from.now) }
 {
-    let mut part = [0i32; 12];
-    let end = 2 * n;
-    part[..end].copy_from_slice(from);
-    part[at] = z;
-    join(n, &part[..end], piece);
-}
-
-// Joins to a piece what a box has up to the value of a cut. Its twin, join_from, differs in the test, in the end that changes and in
-// what it becomes, so one function with the side as a value would branch three times.
-fn join_up_to(n: usize, cut: Cut, from: &[i32], piece: &mut [i32])
-    requires { Cuttable n cut.variable from.now × IsFace n piece.old }
-    ensures { piece.new ≡ joined_with n piece.old (cut_to_extent n (up_to_value cut.variable cut.value) from.now) }
-{
-    let low = 2 * cut.variable;
-    let high = low + 1;
-    if from[low] <= cut.value {
-        join_with(n, high, from[high].min(cut.value), from, piece);
+    if low <= high {
+        let mut part = [0i32; 12];
+        let end = 2 * n;
+        part[..end].copy_from_slice(from);
+        part[2 * v] = low;
+        part[2 * v + 1] = high;
+        join(n, &part[..end], piece);
     }
 }
 
-// Joins to a piece what a box has from the value of a cut.
-fn join_from(n: usize, cut: Cut, from: &[i32], piece: &mut [i32])
-    requires { Cuttable n cut.variable from.now × IsFace n piece.old }
-    ensures { piece.new ≡ joined_with n piece.old (cut_to_extent n (from_value cut.variable cut.value) from.now) }
-{
-    let low = 2 * cut.variable;
-    let high = low + 1;
-    if cut.value <= from[high] {
-        join_with(n, low, from[low].max(cut.value), from, piece);
-    }
-}
-
-// Joins a box to the two pieces of a face of wall variable d in a cut location. On the walls of the cut's variable the first piece is
-// the whole face, and the second is absent.
+// Joins a box to the two pieces of a face of wall variable d in a cut location: to the first what the box has up to the cut's value, to
+// the second what it has from it. On the walls of the cut's variable the first piece is the whole face, and the second is absent.
 fn join_both(n: usize, d: usize, cut: Cut, from: &[i32], pieces: &mut [i32])
-    requires { Cuttable n cut.variable from.now × AreFaces n 2 pieces.old }
+    requires { PiecesJoinable n (Some cut) from.now pieces.old }
     ensures { pieces.new ≡ joined_each n 2 pieces.old (cut_each n (Some cut) d (present from.now)) }
 {
     let (first, second) = pieces.split_at_mut(face_size(n));
-    if cut.variable == d {
+    let v = cut.variable;
+    if v == d {
         join(n, from, first);
     } else {
-        join_up_to(n, cut, from, first);
-        join_from(n, cut, from, second);
+        let low = from[2 * v];
+        let high = from[2 * v + 1];
+        join_between(n, v, low, high.min(cut.value), from, first);
+        join_between(n, v, low.max(cut.value), high, from, second);
     }
 }
 
