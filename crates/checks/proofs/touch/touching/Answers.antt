@@ -9,7 +9,7 @@ use Rattle.checks.specs.Links.{last_box}
 use Rattle.checks.proofs.Linking.{last_within}
 use Rattle.checks.proofs.Model.{L_most, before_few}
 use Rattle.checks.proofs.Parts.{part_ready, part_is}
-use Rattle.checks.proofs.Search.{locations_touch, search_is, no_part, no_location, parts_few, all_asked, asked_left, one_less, none_left, part_more, location_more, found}
+use Rattle.checks.proofs.Search.{locations_touch, search_is, no_part, no_location, all_asked, asked_left, one_less, none_left, part_more, location_more, found}
 use Rattle.checks.proofs.Touched.{touch_is, touch_ready}
 use Rattle.checks.proofs.touch.touching.Goals as goal
 use Rattle.checks.proofs.touch.touching.Goals.{In-search, In-parts, After-part_at-part, In-boxes, After-touches}
