@@ -2,7 +2,6 @@ pub mod Model
 pub mod Loops
 pub mod Sums
 pub mod Pieces
-pub mod Ranges
 pub mod Widths
 pub mod Counts
 pub mod Touched

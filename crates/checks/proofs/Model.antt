@@ -8,7 +8,7 @@ use lib.Dec.{T}
 use lib.Signed.{non_neg}
 use Rattle.std.specs.Prelude.{Some}
 use Rattle.integers.specs.Words.{word}
-use Rattle.delays.specs.Ranges.{LevelAt, Levels}
+use Rattle.delays.specs.Ranges.{LevelAt}
 use Rattle.plant.specs.declared.Cut.{Cut}
 use Rattle.plant.specs.Model.{n#, L#, B#, invariant, forbidden_at, forbidden_location, cut_of}
 use Rattle.plant.specs.Pieces.{pieces}

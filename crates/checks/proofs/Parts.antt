@@ -1,26 +1,27 @@
 -- The words of a location's parts as the search for a touch has them: those of the start part, a flag and a box behind it, and those
 -- of a piece in the table.
-use mathlib.Core.Path.{◌≡◌, refl, sym, ap, ◌∙◌}
+use mathlib.Core.Path.{◌≡◌, refl, ap, ◌∙◌}
 use mathlib.Core.Bool.{Bool, true, false, cond}
 use mathlib.Core.List.{List, [], ◌∷◌}
-use Prim.Native.Nat.{ℕ, zero, suc, ◌+◌, ◌*◌, ◌-◌, ◌<◌, ◌≤◌}
+use Prim.Native.Nat.{ℕ, zero, suc, ◌+◌, ◌*◌, ◌<◌, ◌≤◌}
 use native.Mathlib.Omega.{arith}
 use borrow.Rule.Slice.PartMut.{put_mid}
-use lib.IntN.{ℤ, pos}
+use lib.IntN.{ℤ}
 use mir.Syntax.{w32}
 use mir.Val.{to_z, bool_byte}
-use lib.ListN.{length, set, take, drop}
+use lib.ListN.{length, set, take}
 use lib.Seq.{length-take-le, take-append-le}
 use Rattle.plant.specs.Box.{box_at, absent, present}
 use Rattle.plant.specs.Model.{n#, L#}
 use Rattle.plant.specs.Pieces.{pieces}
 use Rattle.plant.specs.Tables.{face_size, pieces_before, table_size, piece_at, face_read, start_part, part_of}
-use Rattle.plant.proofs.Tables.{piece_inside, pieces-most}
-use Rattle.steps.specs.Handing.{Handed}
+use Rattle.plant.proofs.Tables.{piece_inside}
 use Rattle.passes.specs.Parts.{IsPart}
+use Rattle.passes.specs.Ready.{TableReady}
 use Rattle.plant.proofs.FaceWords.{face_there}
 use Rattle.passes.proofs.PartWords.{place_is, piece_part}
 use Rattle.checks.specs.Parts.{part_words, PartAt}
+use Rattle.checks.proofs.Model.{n_most, pieces_few, before_few}
 
 -- ---- the start part
 
@@ -39,33 +40,18 @@ unfolding piece_at
 piece_end m l zero u v w = absurd (omega arith)
 piece_end m l (suc q) u v w = omega (arith, piece_inside m l q u v)
 
-pub part_ready : (m t : List ℤ) (l p : ℕ) → l < L# m → p ≤ pieces m l → table_size m ≤ length t → n# m ≤ 6 → (start : List ℤ) → length start ≡ 13 → {n earlier : ℕ} → n ≡ n# m → earlier ≡ pieces_before m l → earlier ≤ 1536 → PartAt n start t earlier p
-part_ready m t l p u v room small start long {n} {earlier} n_is earlier_is few = rw (n_is, earlier_is) (record {
-  n_small = small;
-  start_there = omega arith;
-  earlier_small = omega arith;
-  few = omega (arith, pieces-most m l small);
-  piece_there = λ w. omega (arith, piece_end m l p u v w);
-})
+module _ (m t : List ℤ) (ready : TableReady m t) (l : ℕ) (u : l < L# m) (p : ℕ) (v : p ≤ pieces m l) (start : List ℤ) (long : length start ≡ 13) where
+  pub part_ready : PartAt (n# m) start t (pieces_before m l) p
+  part_ready = record {
+    n_small = n_most m ready.passes;
+    start_there = omega (arith, n_most m ready.passes);
+    earlier_small = before_few m ready.passes l (omega arith);
+    few = omega (arith, pieces_few m ready.passes l);
+    piece_there = λ w. omega (arith, piece_end m l p u v w, ready.room);
+  }
 
--- its words, by what code has
-module _ (n : ℕ) (start t : List ℤ) (earlier : ℕ) where
-  pub part_0 : (p : ℕ) → p ≡ 0 → take (face_size n) (drop 0 start) ≡ part_words n start t earlier p
-  unfolding part_words
-  part_0 zero e = refl
-  part_0 (suc q) e = absurd (omega arith)
-
-  pub part_piece : (p : ℕ) → (p ≡ 0 → ⊥) → {at : ℕ} → at ≡ (earlier + (p - 1)) * face_size n → take (face_size n) (drop at t) ≡ part_words n start t earlier p
-  unfolding part_words
-  part_piece zero w e = absurd (w (omega arith))
-  part_piece (suc q) w e = let k : suc q - 1 ≡ q = omega arith in rw (e, k) refl
-
-  pub piece_fits : (p : ℕ) → (p ≡ 0 → ⊥) → {at : ℕ} → at ≡ (earlier + (p - 1)) * face_size n → (earlier + p) * face_size n ≤ length t → at + face_size n ≤ length t
-  piece_fits zero w e h = absurd (w (omega arith))
-  piece_fits (suc q) w e h = let k : suc q - 1 ≡ q = omega arith in rw (e, k) (omega (arith, h))
-
-module _ (m t : List ℤ) (l : ℕ) (u : l < L# m) (room : table_size m ≤ length t) (small : n# m ≤ 6) (start : List ℤ) (long : length start ≡ 13) (start_is : face_read (n# m) start 0 ≡ start_part m l) {n earlier : ℕ} (n_is : n ≡ n# m) (earlier_is : earlier ≡ pieces_before m l) where
-  pub part_is : (p : ℕ) → p ≤ pieces m l → {words : List ℤ} → words ≡ part_words n start t earlier p → IsPart (n# m) words (part_of m t l p)
-  unfolding part_of part_words
-  part_is zero v h = rw (h, n_is) (record { sized = length-take-le (face_size (n# m)) start (omega arith); gives = face_there (n# m) start 0 ∙ start_is })
-  part_is (suc q) v h = piece_part m l u t room q v n_is (place_is m l q n_is earlier_is refl) h
+pub part_is : (m t : List ℤ) → TableReady m t → (l : ℕ) → l < L# m → (p : ℕ) → p ≤ pieces m l → (start : List ℤ) → length start ≡ 13 → face_read (n# m) start 0 ≡ start_part m l
+    → IsPart (n# m) (part_words (n# m) start t (pieces_before m l) p) (part_of m t l p)
+unfolding part_of part_words
+part_is m t ready l u zero v start long e = record { sized = length-take-le (face_size (n# m)) start (omega (arith, n_most m ready.passes)); gives = face_there (n# m) start 0 ∙ e }
+part_is m t ready l u (suc q) v start long e = piece_part m l u t ready.room q v refl (place_is m l q refl refl refl) refl

@@ -1,11 +1,10 @@
 -- The pieces of a location, as question 32 goes over them.
 use Rattle.std.specs.Prelude.{Option, Some, None}
-use mathlib.Core.Path.{◌≡◌, refl, sym}
+use mathlib.Core.Path.{◌≡◌, refl}
 use mathlib.Core.List.{List}
-use Prim.Native.Nat.{ℕ, ◌+◌, ◌*◌, ◌/◌, ◌%◌, ◌≤◌, ◌<◌}
+use Prim.Native.Nat.{ℕ, ◌+◌, ◌*◌, ◌/◌, ◌≤◌, ◌<◌}
 use native.Mathlib.Omega.{arith}
 use lib.IntN.{ℤ}
-use lib.ListN.{length, take, drop}
 use Rattle.plant.specs.declared.Cut.{Cut}
 use Rattle.plant.specs.Model.{n#, L#, invariant, cut_of}
 use Rattle.plant.specs.Pieces.{pieces_per_face, per_face, pieces, piece_face}

@@ -17,20 +17,19 @@ pub struct Links {
     pub before: [usize; 64],
 }
 
+// Links the forbidden boxes of a model.
 pub fn link(model: &[i32]) -> Links
     requires { model_questions model.now ≡ 0 }
     ensures { Linked model.now (B# model.now) result.last result.before }
 {
-    let mut links = Links {
-        last: [0; 64],
-        before: [0; 64],
-    };
+    let mut last = [0; 64];
+    let mut before = [0; 64];
     for b in 0..records::forbidden_boxes(model) {
         let l = records::forbidden_location(model, b);
-        links.before[b] = links.last[l];
-        links.last[l] = b + 1;
+        before[b] = last[l];
+        last[l] = b + 1;
     }
-    links
+    Links { last, before }
 }
 
 // How many parts of a location are asked, whose pieces are numbered from `earlier` to before `next` in the table: none where it

@@ -1,6 +1,5 @@
 -- The sum over the numbers of the locations is small.
 use Rattle.std.proofs.Common.{◌∙◌, arith, rules}
-use Rattle.plant.specs.Tables.{ceiling_of}
 use Rattle.plant.proofs.Passed.{passed}
 use Rattle.plant.proofs.Widths.{ceiling-most}
 use Rattle.checks.proofs.Counts.{ceiling_at, ceiling_is}

@@ -1,5 +1,5 @@
 -- The formula, with n - 1 computed only where n is not 0.
-use Rattle.std.proofs.Common.{rules, arith}
+use Rattle.std.proofs.Common.{arith}
 use Rattle.plant.specs.Tables.{uncut_ceiling}
 use Rattle.checks.proofs.ceiling.uncut_ceiling.Goals as goal
 

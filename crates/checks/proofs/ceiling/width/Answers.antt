@@ -1,5 +1,5 @@
 -- A width is the magnitude of a difference of levels.
-use Rattle.std.proofs.Common.{rules, arith}
+use Rattle.std.proofs.Common.{arith}
 use Rattle.std.proofs.lemmas.Int.{ints}
 use Rattle.plant.specs.Box.{low, high}
 use Rattle.plant.specs.Tables as T

@@ -1,5 +1,5 @@
 -- The flag before the box is the answer whether there is a start part.
-use Rattle.std.proofs.Common.{sym, ◌∙◌, length, arith}
+use Rattle.std.proofs.Common.{sym, ◌∙◌, arith}
 use Rattle.std.proofs.lemmas.Grind.{common_steps}
 use Rattle.plant.specs.Model.{n#}
 use Rattle.checks.proofs.Parts.{flag_put}

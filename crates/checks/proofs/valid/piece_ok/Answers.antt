@@ -1,5 +1,5 @@
 -- The flag decides which of the two questions is asked.
-use Rattle.std.proofs.Common.{◌≡◌, arith, rules}
+use Rattle.std.proofs.Common.{arith}
 use Rattle.std.proofs.lemmas.Grind.{common_steps}
 use Rattle.std.proofs.lemmas.Int.{ints}
 use Rattle.plant.specs.Tables.{absent_ok, present_ok}

@@ -1,4 +1,4 @@
-use Rattle.std.proofs.Common.{arith, rules}
+use Rattle.std.proofs.Common.{arith}
 use Rattle.plant.specs.Tables.{table_ok}
 use Rattle.checks.proofs.Loops.{all_none, all_more}
 use Rattle.checks.proofs.valid.table_ok.Goals as goal
