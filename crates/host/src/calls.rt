@@ -2,41 +2,39 @@
 // a number and a value. The number is 100 (done, safe, accepted), 101 (unknown), 102 (unfinished) or a refusal's; the value, of which
 // a quote has three, is 0 on a refusal.
 ghost use Rattle.std.specs.Prelude.{◌≡◌};
-ghost use Rattle.plant.specs.Calls.{Reply, answer_reply, verdict_reply, ceiling_reply, count_reply, ceiling_call, check_call, analyse_call};
+ghost use Rattle.plant.specs.Refusals.{numbered};
+ghost use Rattle.plant.specs.Calls.{Reply, analysis_reply, verdict_reply, count_reply, ceiling_call, check_call, analyse_call};
 ghost use Rattle.orders.specs.Desks.{desk_call};
 ghost use Rattle.files.specs.ModelFile.{read_model_call, write_model_call};
 ghost use Rattle.files.specs.TableFile.{read_table_call, write_table_call};
 ghost use Rattle.orders.specs.Quotes.{QuoteReply, quote_reply, quote_call};
 ghost use Rattle.interface.specs.ForC.{read_for_c, analysed_for_c, written_for_c, served_for_c};
 
-use orders::{Desk, Figures, Quote};
-use plant::{Answer, Ceiling, Count, Verdict};
+use orders::{Desk, Figures};
+use plant::{Answer, Refusal};
 
-// Stores the value that a reply holds, and gives its number.
-fn reply(number: u32, holds: u64, value: &mut u64) -> u32
-    ensures { (result ≡ number) × (value.new ≡ holds) }
+// Stores the passes of an answer, and gives its number.
+fn answer_reply(answer: Result<Answer, Refusal>, value: &mut u64) -> u32
+    ensures { record { code = result; value = value.new } ≡ analysis_reply (numbered answer) }
 {
-    *value = holds;
-    number
+    let (code, passes) = crate::reply(answer);
+    *value = passes as u64;
+    code
 }
 
-fn answer_reply(answer: Answer, value: &mut u64) -> u32
-    ensures { record { code = result; value = value.new } ≡ answer_reply answer }
-{
-    match answer {
-        Answer::Safe(k) => reply(100, k as u64, value),
-        Answer::Unknown(k) => reply(101, k as u64, value),
-        Answer::Unfinished(k) => reply(102, k as u64, value),
-        Answer::Refused(q) => reply(q, 0, value),
-    }
-}
-
-fn count_reply(count: Count, value: &mut u64) -> u32
-    ensures { record { code = result; value = value.new } ≡ count_reply count }
+// Stores a number of words, bytes or passes, and gives the call's number.
+fn count_reply(count: Result<usize, Refusal>, value: &mut u64) -> u32
+    ensures { record { code = result; value = value.new } ≡ count_reply (numbered count) }
 {
     match count {
-        Count::Done(k) => reply(100, k as u64, value),
-        Count::Refused(q) => reply(q, 0, value),
+        Ok(k) => {
+            *value = k as u64;
+            100
+        }
+        Err(refusal) => {
+            *value = 0;
+            refusal.number()
+        }
     }
 }
 
@@ -44,72 +42,49 @@ fn count_reply(count: Count, value: &mut u64) -> u32
 pub fn qii_read_model(file: &[u8], words: &mut [i32], value: &mut u64) -> u32
     ensures { record { reply = record { code = result; value = value.new }; words = words.new } ≡ read_for_c (read_model_call file.now words.old) }
 {
-    let count = model_files::read_model(file, words);
-    count_reply(count, value)
+    count_reply(model_files::read_model(file, words), value)
 }
 
 // Writes a model's file; the value is how many bytes it has.
 pub fn qii_write_model(model: &[i32], file: &mut [u8], value: &mut u64) -> u32
     ensures { record { reply = record { code = result; value = value.new }; file = file.new } ≡ written_for_c (write_model_call model.now file.old) }
 {
-    let count = model_files::write_model(model, file);
-    count_reply(count, value)
+    count_reply(model_files::write_model(model, file), value)
 }
 
 // How many passes settle every answer.
 pub fn qii_ceiling(model: &[i32], value: &mut u64) -> u32
-    ensures { record { code = result; value = value.new } ≡ ceiling_reply (ceiling_call model.now) }
+    ensures { record { code = result; value = value.new } ≡ count_reply (ceiling_call model.now) }
 {
-    let ceiling = analysis::ceiling(model);
-    match ceiling {
-        Ceiling::Passes(k) => reply(100, k, value),
-        Ceiling::Refused(q) => reply(q, 0, value),
-    }
+    count_reply(analysis::ceiling(model).map(|k| k as usize), value)
 }
 
-// Stores the three values that a quote's reply holds, and gives its number.
-fn quote_reply(
-    number: u32,
-    figures: Figures,
-    words: &mut u64,
-    bytes: &mut u64,
-    ceiling: &mut u64,
-) -> u32
-    ensures { (result ≡ number) × (words.new ≡ figures.words) × (bytes.new ≡ figures.bytes) × (ceiling.new ≡ figures.ceiling) }
-{
-    *words = figures.words as u64;
-    *bytes = figures.bytes as u64;
-    *ceiling = figures.ceiling;
-    number
-}
+// The figures of a quote that is refused.
+const NOTHING: Figures = Figures {
+    words: 0,
+    bytes: 0,
+    ceiling: 0,
+};
 
 // What any analysis of a model takes at most: the words of its table, the bytes of a file of it, the passes.
 pub fn qii_quote(model: &[i32], words: &mut u64, bytes: &mut u64, ceiling: &mut u64) -> u32
     ensures { record { code = result; words = words.new; bytes = bytes.new; ceiling = ceiling.new } ≡ quote_reply (quote_call model.now) }
 {
-    let quote = quote::quote(model);
-    match quote {
-        Quote::AtMost(figures) => quote_reply(100, figures, words, bytes, ceiling),
-        Quote::Refused(q) => {
-            let nothing = Figures {
-                words: 0,
-                bytes: 0,
-                ceiling: 0,
-            };
-            quote_reply(q, nothing, words, bytes, ceiling)
-        }
-    }
+    let (code, figures) = match quote::quote(model) {
+        Ok(figures) => (100, figures),
+        Err(refusal) => (refusal.number(), NOTHING),
+    };
+    *words = figures.words as u64;
+    *bytes = figures.bytes as u64;
+    *ceiling = figures.ceiling;
+    code
 }
 
 // Whether a table shows that a model is safe.
 pub fn qii_check<'a>(model: &'a [i32], table: &'a [i32]) -> u32
     ensures { result ≡ (verdict_reply (check_call model.now table.now)).code }
 {
-    let verdict = analysis::check(model, table);
-    match verdict {
-        Verdict::Accepted => 100,
-        Verdict::Refused(q) => q,
-    }
+    crate::verdict(analysis::check(model, table))
 }
 
 // The analysis under a limit of passes; the value is the number of passes made.
@@ -122,24 +97,21 @@ pub fn qii_analyse(
 ) -> u32
     ensures { record { reply = record { code = result; value = value.new }; table = table.new; work = work.new } ≡ analysed_for_c (analyse_call model.now limit table.old work.old) }
 {
-    let answer = analysis::analyse(model, limit, table, work);
-    answer_reply(answer, value)
+    answer_reply(analysis::analyse(model, limit, table, work), value)
 }
 
 // Reads a table file; the value is how many words the table has.
 pub fn qii_read_table(model: &[i32], file: &[u8], table: &mut [i32], value: &mut u64) -> u32
     ensures { record { reply = record { code = result; value = value.new }; words = table.new } ≡ read_for_c (read_table_call model.now file.now table.old) }
 {
-    let count = table_files::read_table(model, file, table);
-    count_reply(count, value)
+    count_reply(table_files::read_table(model, file, table), value)
 }
 
 // Writes a table's file; the value is how many bytes it has.
 pub fn qii_write_table(model: &[i32], table: &[i32], file: &mut [u8], value: &mut u64) -> u32
     ensures { record { reply = record { code = result; value = value.new }; file = file.new } ≡ written_for_c (write_table_call model.now table.now file.old) }
 {
-    let count = table_files::write_table(model, table, file);
-    count_reply(count, value)
+    count_reply(table_files::write_table(model, table, file), value)
 }
 
 // The analysis at the desk: an answer moves both counters, by one job and by its passes.
@@ -160,8 +132,7 @@ pub fn qii_desk(
     };
     let receipt = desk::serve(desk, model, limit, table, work);
     let after = receipt.desk;
-    let answer = receipt.answer;
     *jobs = after.jobs;
     *passes = after.passes;
-    answer_reply(answer, value)
+    answer_reply(receipt.answer, value)
 }

@@ -3,7 +3,7 @@
 #![tactic(auto)]
 
 ghost use Rattle.std.specs.Prelude.{◌≡◌};
-ghost use Rattle.plant.specs.Calls.{Reply, verdict_reply, ceiling_reply, ceiling_call, check_call, analyse_call};
+ghost use Rattle.plant.specs.Calls.{Reply, verdict_reply, count_reply, ceiling_call, check_call, analyse_call};
 ghost use Rattle.orders.specs.Desks.{desk_call};
 ghost use Rattle.orders.specs.Quotes.{QuoteReply, quote_reply, quote_call};
 ghost use Rattle.files.specs.ModelFile.{read_model_call, write_model_call};
@@ -53,7 +53,7 @@ pub extern "C" fn qii_write_model(model: &[i32], file: &mut [u8], value: &mut u6
 // How many passes settle every answer.
 #[unsafe(no_mangle)]
 pub extern "C" fn qii_ceiling(model: &[i32], value: &mut u64) -> u32
-    ensures { record { code = result; value = value.new } ≡ ceiling_reply (ceiling_call model.now) }
+    ensures { record { code = result; value = value.new } ≡ count_reply (ceiling_call model.now) }
 {
     calls::qii_ceiling(model, value)
 }
