@@ -1,7 +1,9 @@
 // The delays from a part to a wall or into a range, and whether a part touches a box (document 01, "Delays").
 #![tactic(auto)]
 
-ghost use Rattle.std.specs.Prelude.{◌≡◌, true, false, cond, ◌+◌, ◌*◌, ◌<◌, ◌-ℤ◌, length};
+ghost use Rattle.std.specs.Prelude.{◌≡◌, true, false, cond, ◌+◌, ◌*◌, ◌<◌, ◌-ℤ◌, length, slice_set, FitsSigned};
+ghost use Rattle.std.specs.Int.{w32};
+ghost use Rattle.std.specs.Int.Signed.{lt_z};
 ghost use Rattle.integers.specs.Rounding.{max_z, min_z};
 ghost use Rattle.plant.specs.Box.{low, high};
 ghost use Rattle.plant.specs.Delays as D;
@@ -11,13 +13,6 @@ ghost use Rattle.delays.specs.Ranges.{Level, LevelAt, RateAt, Levels, Rates, InI
 ghost use Rattle.delays.specs.Windows.{WithinAt, up_to, WindowEnd};
 
 use plant::{End, Fraction, Interval};
-
-// From low to high: a variable's levels in a part, its rates, or the levels to be reached.
-#[derive(Clone, Copy)]
-struct Range {
-    low: i64,
-    high: i64,
-}
 
 // The low of variable i of a box.
 #[tactic(auto, unfolding(plant::specs::Box::low))]
@@ -37,14 +32,48 @@ pub fn high(words: &[i32], i: usize) -> i64
     integers::word(words, 2 * i + 1)
 }
 
-// Both.
-fn range_at(words: &[i32], i: usize) -> Range
-    requires { 2 * i + 1 < length words.now }
-    ensures { result ≡ record { low = low words.now i; high = high words.now i } }
-{
-    Range {
-        low: low(words, i),
-        high: high(words, i),
+// From low to high, ends included: a variable's levels in a box, its rates, or the levels to be reached.
+#[derive(Clone, Copy)]
+pub struct Range {
+    pub low: i64,
+    pub high: i64,
+}
+
+impl Range {
+    // That of variable i of a box.
+    pub fn at(words: &[i32], i: usize) -> Range
+        requires { 2 * i + 1 < length words.now }
+        ensures { result ≡ record { low = low words.now i; high = high words.now i } }
+    {
+        Range {
+            low: low(words, i),
+            high: high(words, i),
+        }
+    }
+
+    // Writes it as that of variable i of a box.
+    pub fn put(self, words: &mut [i32], i: usize)
+        requires { (2 * i + 1 < length words.old) × FitsSigned w32 self.low × FitsSigned w32 self.high }
+        ensures { words.new ≡ slice_set (slice_set words.old (2 * i) self.low) (2 * i + 1) self.high }
+    {
+        words[2 * i] = self.low as i32;
+        words[2 * i + 1] = self.high as i32;
+    }
+
+    // What it shares with another; it may be empty.
+    pub fn cut(self, other: Range) -> Range
+        ensures { result ≡ record { low = max_z self.low other.low; high = min_z self.high other.high } }
+    {
+        Range {
+            low: self.low.max(other.low),
+            high: self.high.min(other.high),
+        }
+    }
+
+    pub fn is_empty(self) -> bool
+        ensures { result ≡ lt_z self.high self.low }
+    {
+        self.high < self.low
     }
 }
 
@@ -119,7 +148,7 @@ fn variable_delays(rate: &[i32], part: &[i32], i: usize, into: Range) -> Option<
     ensures value { result ≡ delays_into (low part.now i) (high part.now i) (low rate.now i) (high rate.now i) into.low into.high }
     ensures small { SmallDelays result }
 {
-    delays_into(range_at(part, i), range_at(rate, i), into)
+    delays_into(Range::at(part, i), Range::at(rate, i), into)
 }
 
 // One delay is no later than another, compared exactly.
@@ -199,7 +228,7 @@ fn latest_inside(inv: &[i32], rate: &[i32], part: &[i32], i: usize) -> End
     requires { LevelAt inv.now i × RateAt rate.now i × LevelAt part.now i × WithinAt inv.now part.now i }
     ensures { result ≡ latest_into (low part.now i) (high part.now i) (low rate.now i) (high rate.now i) (low inv.now i) (high inv.now i) }
 {
-    let rates = range_at(rate, i);
+    let rates = Range::at(rate, i);
     if rates.high < 0 {
         End::At(delay(high(part, i), low(inv, i), rates.high))
     } else if 0 < rates.low {
@@ -222,33 +251,6 @@ pub fn window_end(n: usize, inv: &[i32], rate: &[i32], part: &[i32]) -> End
     end
 }
 
-// The low of variable i of the box a cut to the box b.
-pub fn cut_low(a: &[i32], b: &[i32], i: usize) -> i64
-    requires { LevelAt a.now i × LevelAt b.now i }
-    ensures { result ≡ max_z (low a.now i) (low b.now i) }
-{
-    low(a, i).max(low(b, i))
-}
-
-// The high of variable i of the box a cut to the box b.
-pub fn cut_high(a: &[i32], b: &[i32], i: usize) -> i64
-    requires { LevelAt a.now i × LevelAt b.now i }
-    ensures { result ≡ min_z (high a.now i) (high b.now i) }
-{
-    high(a, i).min(high(b, i))
-}
-
-// Both.
-fn cut_range(a: &[i32], b: &[i32], i: usize) -> Range
-    requires { LevelAt a.now i × LevelAt b.now i }
-    ensures { result ≡ record { low = max_z (low a.now i) (low b.now i); high = min_z (high a.now i) (high b.now i) } }
-{
-    Range {
-        low: cut_low(a, b, i),
-        high: cut_high(a, b, i),
-    }
-}
-
 // Some variable rules a touch out by itself: its cut is empty, or no delay leads into it. Comparisons alone, no products: most
 // parts end here.
 fn ruled_out(n: usize, inv: &[i32], rate: &[i32], part: &[i32], forbidden: &[i32]) -> bool
@@ -256,8 +258,8 @@ fn ruled_out(n: usize, inv: &[i32], rate: &[i32], part: &[i32], forbidden: &[i32
     ensures { result ≡ true → Steps.touches n inv.now rate.now part.now forbidden.now ≡ false }
 {
     for i in 0..n {
-        let into = cut_range(forbidden, inv, i);
-        if (into.high < into.low) | no_delay(range_at(part, i), range_at(rate, i), into) {
+        let into = Range::at(forbidden, i).cut(Range::at(inv, i));
+        if into.is_empty() | no_delay(Range::at(part, i), Range::at(rate, i), into) {
             return true;
         }
     }
@@ -277,8 +279,8 @@ pub fn touches(n: usize, inv: &[i32], rate: &[i32], part: &[i32], forbidden: &[i
         latest: End::Endless,
     };
     for i in 0..n {
-        let into = cut_range(forbidden, inv, i);
-        if into.high < into.low {
+        let into = Range::at(forbidden, i).cut(Range::at(inv, i));
+        if into.is_empty() {
             return false;
         }
         let Some(own) = variable_delays(rate, part, i, into) else {
