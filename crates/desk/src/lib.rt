@@ -3,26 +3,28 @@
 
 ghost use Rattle.std.specs.Prelude.{◌≡◌};
 ghost use Rattle.plant.specs.Calls.{passes_of};
-ghost use Rattle.orders.specs.Desks.{counters_ok, Served, desk_call};
+ghost use Rattle.plant.specs.Refusals.{asked, numbered};
+ghost use Rattle.orders.specs.Desks.{counters_ok, desk_questions, Served, desk_call};
 
 use orders::Desk;
-use plant::Answer;
+use plant::{Answer, Refusal};
 
 // What a desk call by value hands back: the desk after it, and its answer.
 #[derive(Clone, Copy)]
 pub struct Receipt {
     pub desk: Desk,
-    pub answer: Answer,
+    pub answer: Result<Answer, Refusal>,
 }
 
 // The counters can take one job more and the limit.
+#[tactic(auto, unfolding(orders::specs::Desks::counters_ok))]
 fn counters_ok(desk: Desk, limit: u32) -> bool
     ensures { result ≡ counters_ok desk limit }
 {
-    (desk.jobs < 4294967295) & (desk.passes <= 4294967295 - limit)
+    (desk.jobs < u32::MAX) & desk.passes.checked_add(limit).is_some()
 }
 
-// The number of passes that an answer made; a refusal made none.
+// The number of passes that an answer made.
 fn passes_of(answer: Answer) -> u32
     ensures { result ≡ passes_of answer }
 {
@@ -30,34 +32,47 @@ fn passes_of(answer: Answer) -> u32
         Answer::Safe(k) => k,
         Answer::Unknown(k) => k,
         Answer::Unfinished(k) => k,
-        Answer::Refused(_) => 0,
     }
 }
 
-// The desk call with the desk by value: the questions of an analysis, then 22, then the analysis. A refusal moves no counter and
-// changes nothing lent.
-pub fn serve(desk: Desk, model: &[i32], limit: u32, table: &mut [i32], work: &mut [i32]) -> Receipt
-    ensures { record { desk = result.desk; analysed = record { answer = result.answer; table = table.new; work = work.new } } ≡ desk_call desk model.now limit table.old work.old }
+// The questions of an analysis, then 22.
+#[tactic(auto, using(plant::proofs::Refusing::refused_first, plant::proofs::Refusing::passed_first), unfolding(orders::specs::Desks::desk_questions))]
+fn questions(
+    desk: Desk,
+    model: &[i32],
+    limit: u32,
+    table: &[i32],
+    work: &[i32],
+) -> Result<(), Refusal>
+    ensures { asked result ≡ desk_questions desk model.now limit table.now work.now }
 {
-    let q = analysis::questions(model, table, work);
-    if q != 0 {
-        return Receipt {
-            desk,
-            answer: Answer::Refused(q),
-        };
+    analysis::questions(model, table, work)?;
+    if counters_ok(desk, limit) {
+        Ok(())
+    } else {
+        Err(Refusal::Counters)
     }
-    if !counters_ok(desk, limit) {
+}
+
+// The desk call with the desk by value: its questions, then the analysis. A refusal moves no counter and changes nothing lent.
+#[tactic(auto, using(plant::proofs::Refusing::number_suc), unfolding(orders::specs::Desks::desk_call))]
+pub fn serve(desk: Desk, model: &[i32], limit: u32, table: &mut [i32], work: &mut [i32]) -> Receipt
+    ensures { record { desk = result.desk; analysed = record { answer = numbered result.answer; table = table.new; work = work.new } } ≡ desk_call desk model.now limit table.old work.old }
+{
+    if let Err(refusal) = questions(desk, model, limit, table, work) {
         return Receipt {
             desk,
-            answer: Answer::Refused(22),
+            answer: Err(refusal),
         };
     }
     let answer = analysis::analyse_passed(model, limit, table, work);
     let k = passes_of(answer);
     let jobs = desk.jobs + 1;
     let passes = desk.passes + k;
-    let desk = Desk { jobs, passes };
-    Receipt { desk, answer }
+    Receipt {
+        desk: Desk { jobs, passes },
+        answer: Ok(answer),
+    }
 }
 
 // The desk call with the desk lent.
@@ -67,8 +82,8 @@ pub fn desk_call(
     limit: u32,
     table: &mut [i32],
     work: &mut [i32],
-) -> Answer
-    ensures { record { desk = desk.new; analysed = record { answer = result; table = table.new; work = work.new } } ≡ desk_call desk.old model.now limit table.old work.old }
+) -> Result<Answer, Refusal>
+    ensures { record { desk = desk.new; analysed = record { answer = numbered result; table = table.new; work = work.new } } ≡ desk_call desk.old model.now limit table.old work.old }
 {
     let receipt = serve(*desk, model, limit, table, work);
     *desk = receipt.desk;
