@@ -1,20 +1,16 @@
 -- How many pieces stand before a location, and the sizes that follow.
 use mathlib.Core.Path.{◌≡◌, refl, sym, ap, ap₂, ◌∙◌}
-use mathlib.Core.Logic.{⊎_elim}
 use mathlib.Core.List.{List}
-use Prim.Native.Nat.{ℕ, ◌+◌, ◌*◌, ◌<◌, ◌≤◌}
+use Prim.Native.Nat.{ℕ, ◌+◌, ◌*◌, ◌≤◌}
 use native.Mathlib.Numerals.{add-one}
 use native.Mathlib.Omega.{arith}
 use lib.IntN.{ℤ}
-use lib.ListN.{length, get_or, set, length-set}
-use lib.Seq.{get_or-set_same, get_or-set_other}
 use Rattle.integers.specs.Counted.{sum_below}
-use Rattle.integers.proofs.Counted.{split, sum_times, sum_ext, sum_le, sum_same}
+use Rattle.integers.proofs.Counted.{sum_times, sum_ext, sum_le, sum_same}
 use Rattle.plant.specs.Model.{n#, L#}
 use Rattle.plant.specs.Pieces.{per_face, pieces}
 use Rattle.plant.specs.Tables.{words_per_location, face_size, pieces_before, piece_count, table_size}
 use Rattle.plant.proofs.Pieces.{per_face_most}
-use Rattle.plant.proofs.PieceCases.{before_none}
 use Rattle.plant.proofs.Tables.{pieces-most}
 use Rattle.plant.proofs.Whole.{Head}
 
@@ -53,24 +49,3 @@ module _ (m : List ℤ) where
     pub before_most : (l : ℕ) → l ≤ L# m → pieces_before m l ≤ 1536
     unfolding pieces_before
     before_most l u = omega (arith, sum_le l (pieces m) (λ i. 24) (λ i _. pieces-most m i h.n_small), sum_same l 24, h.L_small)
-
--- ---- the places of the locations up to k
-
-pub record PlacesTo (m : List ℤ) (k : ℕ) (places : List ℕ) : Type 0 where
-  pub long : length places ≡ 65
-  pub each : (l : ℕ) → l ≤ k → get_or places l 0 ≡ pieces_before m l
-
-pub places_none : (m : List ℤ) (places : List ℕ) → length places ≡ 65 → PlacesTo m 0 (set places 0 0)
-places_none m places e = record {
-  long = length-set places 0 0 ∙ e;
-  each = λ l u. let z : l ≡ 0 = omega arith in rw z (get_or-set_same places 0 0 0 (omega arith) ∙ sym (before_none m));
-}
-
-pub places_more : (m : List ℤ) (k before : ℕ) (places : List ℕ) → k < 64 → PlacesTo m k places → before ≡ pieces_before m (k + 1) → PlacesTo m (k + 1) (set places (k + 1) before)
-places_more m k before places h p e = record {
-  long = length-set places (k + 1) before ∙ p.long;
-  each = λ l u. ⊎_elim
-      (λ v. get_or-set_other places (k + 1) l before 0 (λ w. omega arith) ∙ p.each l (omega arith))
-      (λ v. rw v (get_or-set_same places (k + 1) before 0 (omega (arith, p.long)) ∙ e))
-      (split l (k + 1) (omega arith));
-}

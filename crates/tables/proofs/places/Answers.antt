@@ -1,13 +1,15 @@
 -- After l turns the places of the locations up to l are written.
-use Rattle.std.proofs.Common.{◌≡◌, ◌+◌, sym, arith}
-use Rattle.plant.specs.Tables.{pieces_before}
+use Rattle.std.proofs.Common.{sym, arith}
+use Rattle.std.proofs.lemmas.Grind.{common_steps}
 use Rattle.plant.proofs.PieceCases.{before_none, before_more}
 use Rattle.plant.proofs.Tables.{pieces-most}
-use Rattle.tables.proofs.Sizes.{before_most, places_none, places_more}
+use Rattle.tables.proofs.Sizes.{before_most}
 use Rattle.tables.proofs.places.Goals as goal
 
 pub loop-l-init : goal.loop-l-init
-loop-l-init c = let m = c.args.model.now in (sym (before_none m), places_none m c.args.places.now c.requires.1)
+loop-l-init c =
+    let none = before_none c.args.model.now in
+    record { long = grind (arith, common_steps); before_is = sym none; each = λ k h. grind (arith, common_steps, none) }
 
 pub overflow_add-before : goal.overflow_add-before
 overflow_add-before c =
@@ -17,7 +19,12 @@ overflow_add-before c =
 
 pub loop-l-preserved : goal.loop-l-preserved
 loop-l-preserved c =
-    let m = c.args.model.now in
-    let i = c.loop-l in
-    let e : i.before + c.pieces-before.result ≡ pieces_before m (i.l + 1) = omega (arith, before_more m i.l) in
-    (e, places_more m i.l _ i.places (omega arith) i.invariant.1 e)
+    let more = before_more c.args.model.now c.loop-l.l in
+    record {
+      long = grind (arith, common_steps);
+      before_is = omega (arith, more);
+      each = λ k h. grind (arith, common_steps, more, c.loop-l.invariant.each k);
+    }
+
+pub returns : goal.returns
+returns c = record { long = c.loop-l.invariant.long; each = λ k h. c.loop-l.invariant.each k (omega arith) }
