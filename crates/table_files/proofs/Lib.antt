@@ -1,2 +1,4 @@
+pub mod Asked
+pub mod Cuts
 pub mod TableWriting
 pub mod TableReading

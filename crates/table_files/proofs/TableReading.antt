@@ -4,17 +4,18 @@ use mathlib.Core.Path.{◌≡◌, refl, sym, ap, ap₂, ◌∙◌, subst}
 use mathlib.Core.Bool.{Bool, true, false, cond}
 use mathlib.Core.Logic.{◌⊎◌, inl, inr, ⊎_elim}
 use mathlib.Core.List.{List, [], ◌∷◌, ◌++◌}
-use Prim.Native.Nat.{ℕ, ◌+◌, ◌*◌, ◌-◌, ◌≤◌, ◌<◌}
+use Prim.Native.Nat.{ℕ, zero, suc, ◌+◌, ◌*◌, ◌-◌, ◌≤◌, ◌<◌}
 use native.Mathlib.Nat.{mul-le-mul}
 use native.Mathlib.Numerals.{add-one}
 use native.Mathlib.Omega.{arith}
-use borrow.Author.Tests.{le-leb, lt-leb, eq-eqb, ne_eqb}
+use borrow.Author.Tests.{le-leb, lt-leb, eq-eqb}
 use borrow.Rule.Slice.PartMut.{put_mid}
 use lib.Dec.{T, eqb, leb, le→leb}
 use lib.IntN.{ℤ, pos, nat_abs}
 use lib.Signed.{mag, le_z}
 use lib.ListN.{length, take, drop, replicate, set, get_or, length-append, length-drop}
-use lib.Seq.{get_or-take, get_or-drop, ext_get_or, take_at, length-take-le}
+use lib.Seq.{get_or-take, get_or-drop, ext_get_or, length-take-le}
+use Rattle.std.proofs.lemmas.List.{take-append-drop}
 use mir.Syntax.{w32, w64}
 use mir.Val.{to_z, of_z}
 use mir.Facts.{to_z-of_z}
@@ -33,9 +34,12 @@ use Rattle.plant.specs.Box.{box_at, present, face_words}
 use Rattle.plant.specs.Model.{n#, L#}
 use Rattle.plant.specs.Pieces.{any_cut, per_face, piece_number}
 use Rattle.plant.specs.Tables.{face_size, pieces_before, piece_count, table_size, piece_at, table_by, table_ok}
-use Rattle.plant.specs.declared.Count.TheVariants.{Done, Refused}
+use Rattle.std.specs.Prelude.{Option, Some, None, Ok, Err}
 use Rattle.plant.specs.Calls.{ReadOutcome, zeroed}
+use Rattle.plant.specs.declared.Refusal.{Refusal}
+use Rattle.plant.specs.Refusals.{number}
 use Rattle.plant.proofs.Asks.{or_left, go, halt, both}
+use Rattle.plant.proofs.Refusing.{number_not_0, refused_first}
 use Rattle.plant.proofs.Boxes.{length-box_at, box_ends}
 use Rattle.plant.proofs.Passed.{within_nonneg}
 use Rattle.plant.proofs.Pieces.{per_face_most, per_face_least, number_below}
@@ -44,27 +48,13 @@ use Rattle.plant.proofs.Reading.{refused_at, past}
 use Rattle.plant.proofs.Whole.{Whole}
 use Rattle.passes.proofs.Landing.{piece_put}
 use Rattle.files.specs.TableFile.{place_size, piece_field_size, piece_field_at, count_word, count_question, piece_field_words, piece_word, piece_named, piece_key, least_key, place_ok, piece_question, piece_questions, file_face, count#, file_table, fields_questions, table_file_questions, read_faces, room_questions, read_table_call}
-use Rattle.table_files.specs.TableRoom.{FieldsReady, CountAt, next_least, location_word, face_word, index_word, KeyAt}
+use Rattle.table_files.specs.TableRoom.{size_by, FieldsReady, CountAt, next_least, location_word, face_word, index_word, KeyAt}
+use Rattle.table_files.proofs.Cuts.{size_is}
 use Rattle.files.proofs.PieceKeys.{table_keys}
 use Rattle.files.proofs.PlaceWords.{place_least, place_most, place_with, place_without}
 use Rattle.files.proofs.Listed.{not_named, field_words, location_at, piece_named_at, box_at_field}
 use Rattle.files.proofs.TableAsked.{PlaceYes, named_below, FieldsYes, count_yes}
 use Rattle.files.proofs.TableSizes.{pieces_few}
-
--- ---- which piece of a face, by the word behind the face number
-
-module _ (s : List ℕ) (start : ℕ) {width : ℕ} where
-  pub index_three : width ≡ 3 → index_word s start width ≡ word_at s (start + 2 * word_size)
-  unfolding index_word
-  index_three e = rw (eq-eqb width 3 e) refl
-
-  pub index_none : (width ≡ 3 → ⊥) → index_word s start width ≡ pos 0
-  unfolding index_word
-  index_none h = rw (ne_eqb width 3 h) refl
-
--- 0 is a number from 0 on
-pub none_within : (most : ℕ) {z : ℤ} → z ≡ pos 0 → true ≡ within (pos 0) (pos most) z
-none_within most e = rw e (sym (is_true (and_intro (le_z (pos 0) (pos 0)) (le_z (pos 0) (pos most)) tt (le→leb 0 most (omega arith)))))
 
 -- ---- the words of a field by the position of its payload
 
@@ -78,36 +68,22 @@ module _ (m : List ℤ) (s : List ℕ) (start : ℕ) where
   pub face_at : word words_from 1 ≡ face_word s start
   face_at = words_nth s start (piece_field_size m) 1 (omega (arith, place_least m)) ∙ ap (word_at s) (omega arith)
 
-  pub index_at : {width : ℕ} → width ≡ place_size m → piece_word m words_from ≡ index_word s start width
+  pub index_at : {cut : Bool} → cut ≡ any_cut m → piece_word m words_from ≡ index_word s start cut
   unfolding piece_word
-  index_at {width} ep = by (any_cut m) refl
+  index_at {cut} ec = rw ec (by (any_cut m) refl)
     where
-      by : (b : Bool) → any_cut m ≡ b → cond (any_cut m) (word words_from 2) (pos 0) ≡ index_word s start width
-      by true e = rw e (words_nth s start (piece_field_size m) 2 (omega (arith, place_with m e)) ∙ sym (index_three s start (ep ∙ place_with m e)))
-      by false e = rw e (sym (index_none s start (λ h. omega (arith, place_without m e))))
+      by : (b : Bool) → any_cut m ≡ b → cond (any_cut m) (word words_from 2) (pos 0) ≡ index_word s start (any_cut m)
+      by true e = rw e (words_nth s start (piece_field_size m) 2 (omega (arith, place_with m e)))
+      by false e = rw e refl
 
   -- its key: so many pieces stand before the location l, of face f it is piece k, and a face has so many
-  pub key_made : {width l f k per before : ℕ} → width ≡ place_size m → l ≡ nat_abs (location_word s start) → f ≡ nat_abs (face_word s start) → k ≡ nat_abs (index_word s start width)
+  pub key_made : {cut : Bool} {l f k per before : ℕ} → cut ≡ any_cut m → l ≡ nat_abs (location_word s start) → f ≡ nat_abs (face_word s start) → k ≡ nat_abs (index_word s start cut)
       → per ≡ per_face m l → before ≡ pieces_before m l → before + (f * per + k) ≡ piece_key m words_from
   unfolding piece_named piece_number
-  key_made ep el ef ek er eb = rw (location_at_lem, face_at, index_at ep, ← el, ← ef, ← ek, er, eb) refl
+  key_made ec el ef ek er eb = rw (location_at_lem, face_at, index_at ec, ← el, ← ef, ← ek, er, eb) refl
 
--- ---- by the tests that the code makes
-
--- a word that a call gave, as a number
-pub natural_of : {k : ℕ} {r z : ℤ} → k ≡ nat_abs (to_z w32 (of_z w32 r)) → mag r < 2147483648 → r ≡ z → k ≡ nat_abs z
-natural_of {r = r} e ok er = e ∙ ap nat_abs (got32 r ok ∙ er)
-
--- a word that a call gave, in 64 bits, against a small number
-pub number_is : {b : Bool} {r z : ℤ} {most : ℕ} → b ≡ within (pos 0) (to_z w64 most) (to_z w64 (of_z w64 (to_z w32 (of_z w32 r)))) → mag r < 2147483648 → r ≡ z → most ≤ 1536 → b ≡ within (pos 0) (pos most) z
-number_is {r = r} {most = most} e ok er few =
-    e ∙ ap₂ (λ (hi x : ℤ). within (pos 0) hi x) (as_signed most (omega arith)) (ap (λ (x : ℤ). to_z w64 (of_z w64 x)) (got32 r ok) ∙ to_z-of_z (widened r ok) ∙ er)
-
--- a model, how many pieces stand before each location, and the width of places
-module _ {m : List ℤ} {places : List ℕ} {width : ℕ} (r : FieldsReady m places width) where
-  pub ready_size : width ≤ 3
-  ready_size = omega (arith, r.width_is, place_most m)
-
+-- a model, how many pieces stand before each location, and whether any is cut
+module _ {m : List ℤ} {places : List ℕ} {cut : Bool} (r : FieldsReady m places cut) where
   -- what stands before a location, as code has it
   pub before_is : (l : ℕ) → l < L# m → get_or places l 0 ≡ pieces_before m l
   before_is l u = r.are_places.each l (omega arith)
@@ -117,33 +93,32 @@ module _ {m : List ℤ} {places : List ℕ} {width : ℕ} (r : FieldsReady m pla
 
 -- the least key of the next field, by 37 of this one
 module _ (m w : List ℤ) (least : ℕ) where
-  pub least_no : false ≡ place_ok m w least → 0 ≡ next_least m w least
+  pub least_no : false ≡ place_ok m w least → None ≡ next_least m w least
   unfolding next_least
   least_no e = rw (← e) refl
 
   module _ {k : ℕ} (e : leb least k ≡ place_ok m w least) where
-    pub least_late : k < least → 0 ≡ next_least m w least
+    pub least_late : k < least → None ≡ next_least m w least
     least_late h = least_no (sym (lt-leb least k h) ∙ e)
 
-    pub least_made : least ≤ k → k ≡ piece_key m w → k + 1 ≡ next_least m w least
+    pub least_made : least ≤ k → k ≡ piece_key m w → Some (k + 1) ≡ next_least m w least
     unfolding next_least
     least_made h ek = rw (← e, le-leb least k h, ek) refl
 
   -- what code learns of it
-  module _ {r : ℕ} (e : r ≡ next_least m w least) where
-    by_place : (b : Bool) → r ≡ cond b (piece_key m w + 1) 0 → ((r ≡ 0) × (b ≡ false)) ⊎ ((r ≡ piece_key m w + 1) × (b ≡ true))
-    by_place true h = inr (h, refl)
-    by_place false h = inl (h, refl)
+  by_place : {P : Type 0} (o : Option ℕ) → o ≡ next_least m w least → (place_ok m w least ≡ false → o ≡ None → P) → (place_ok m w least ≡ true → o ≡ Some (piece_key m w + 1) → P) → P
+  unfolding next_least
+  by_place {P} o e refused passed = by (place_ok m w least) refl
+    where
+      by : (b : Bool) → place_ok m w least ≡ b → P
+      by true h = passed h (rw h at e)
+      by false h = refused h (rw h at e)
 
-    cases : ((r ≡ 0) × (place_ok m w least ≡ false)) ⊎ ((r ≡ piece_key m w + 1) × (place_ok m w least ≡ true))
-    unfolding next_least
-    cases = by_place (place_ok m w least) e
+  pub least_none : None ≡ next_least m w least → false ≡ place_ok m w least
+  least_none e = by_place None e (λ h _. sym h) (λ _ z. absurd (let k : ◌≡◌ {A = ℕ} 0 1 = cc in omega arith))
 
-    pub least_zero : r ≡ 0 → false ≡ place_ok m w least
-    least_zero z = ⊎_elim (λ c. sym c.1) (λ c. absurd (omega (arith, c.0))) cases
-
-    pub least_above : (r ≡ 0 → ⊥) → (true ≡ place_ok m w least) × (r ≡ piece_key m w + 1)
-    least_above n = ⊎_elim (λ c. absurd (n c.0)) (λ c. (sym c.1, c.0)) cases
+  pub least_some : {k : ℕ} → Some k ≡ next_least m w least → (true ≡ place_ok m w least) × (k ≡ piece_key m w + 1)
+  least_some {k} e = by_place (Some k) e (λ _ z. absurd (let k : ◌≡◌ {A = ℕ} 0 1 = cc in omega arith)) (λ h z. (sym h, cc))
 
 module _ (m : List ℤ) (s : List ℕ) where
   pub count_refused : is_field (field_at s 0) 6 4 ≡ false → 35 ≡ count_question m s
@@ -164,25 +139,25 @@ module _ (m : List ℤ) (s : List ℕ) where
 
     module _ (el : within (pos 0) (pos (L# m - 1)) (location_word s start) ≡ true) where
       module _ (ef : within (pos 0) (pos (2 * n# m - 1)) (face_word s start) ≡ true) where
-        module _ {width : ℕ} (ep : width ≡ place_size m) where
-          pub place_no_piece : within (pos 0) (pos (per_face m (nat_abs (location_word s start)) - 1)) (index_word s start width) ≡ false → false ≡ place_ok m named least
+        module _ {cut : Bool} (ec : cut ≡ any_cut m) where
+          pub place_no_piece : within (pos 0) (pos (per_face m (nat_abs (location_word s start)) - 1)) (index_word s start cut) ≡ false → false ≡ place_ok m named least
           unfolding place_ok
-          place_no_piece e = rw (location_at_lem m s start, face_at m s start, index_at m s start ep, el, ef, e) refl
+          place_no_piece e = rw (location_at_lem m s start, face_at m s start, index_at m s start ec, el, ef, e) refl
 
-          pub place_by_key : {k : ℕ} → within (pos 0) (pos (per_face m (nat_abs (location_word s start)) - 1)) (index_word s start width) ≡ true → k ≡ piece_key m named → leb least k ≡ place_ok m named least
+          pub place_by_key : {k : ℕ} → within (pos 0) (pos (per_face m (nat_abs (location_word s start)) - 1)) (index_word s start cut) ≡ true → k ≡ piece_key m named → leb least k ≡ place_ok m named least
           unfolding place_ok
-          place_by_key e ek = rw (ek, location_at_lem m s start, face_at m s start, index_at m s start ep, el, ef, e) refl
+          place_by_key e ek = rw (ek, location_at_lem m s start, face_at m s start, index_at m s start ec, el, ef, e) refl
 
-          pub key_there : {places : List ℕ} → FieldsReady m places width → start + payload_length width ≤ length s
-              → within (pos 0) (pos (per_face m (nat_abs (location_word s start)) - 1)) (index_word s start width) ≡ true → KeyAt m places s start width
+          pub key_there : {places : List ℕ} → FieldsReady m places cut → start + payload_length (size_by cut) ≤ length s
+              → within (pos 0) (pos (per_face m (nat_abs (location_word s start)) - 1)) (index_word s start cut) ≡ true → KeyAt m places cut s start
           key_there r there ei = record {
             ready = r;
-            index = record { there = there; natural = within_nonneg (per_face m (nat_abs (location_word s start)) - 1) (index_word s start width) (true_is ei) };
+            index = record { there = there; natural = within_nonneg (per_face m (nat_abs (location_word s start)) - 1) (index_word s start cut) (true_is ei) };
             location_natural = within_nonneg (L# m - 1) (location_word s start) (true_is el);
             face_natural = within_nonneg (2 * n# m - 1) (face_word s start) (true_is ef);
             location_below = omega (arith, within_abs (location_word s start) (L# m - 1) (true_is el), r.whole.head.L_positive);
             face_below = omega (arith, within_abs (face_word s start) (2 * n# m - 1) (true_is ef), r.whole.head.n_positive);
-            index_below = omega (arith, within_abs (index_word s start width) (per_face m (nat_abs (location_word s start)) - 1) (true_is ei), per_face_least m (nat_abs (location_word s start)));
+            index_below = omega (arith, within_abs (index_word s start cut) (per_face m (nat_abs (location_word s start)) - 1) (true_is ei), per_face_least m (nat_abs (location_word s start)));
           }
 
       pub place_no_face : within (pos 0) (pos (2 * n# m - 1)) (face_word s start) ≡ false → false ≡ place_ok m named least
@@ -194,11 +169,11 @@ module _ (m : List ℤ) (s : List ℕ) where
     place_no_location e = rw (location_at_lem m s start, e) refl
 
   -- a place that passes 37 names a piece
-  pub key_passed : {places : List ℕ} {width start least : ℕ} → FieldsReady m places width → start + payload_length width ≤ length s → PlaceYes m (words_from m s start) least → KeyAt m places s start width
-  key_passed {width = width} {start} r there y =
+  pub key_passed : {places : List ℕ} {cut : Bool} {start least : ℕ} → FieldsReady m places cut → start + payload_length (size_by cut) ≤ length s → PlaceYes m (words_from m s start) least → KeyAt m places cut s start
+  key_passed {cut = cut} {start} r there y =
       let lw : location_word s start ≡ pos (num (words_from m s start) 0) = sym (location_at_lem m s start) ∙ y.location_natural in
       let fw : face_word s start ≡ pos (num (words_from m s start) 1) = sym (face_at m s start) ∙ y.face_natural in
-      let iw : index_word s start width ≡ pos (nat_abs (piece_word m (words_from m s start))) = sym (index_at m s start r.width_is) ∙ y.piece_natural in
+      let iw : index_word s start cut ≡ pos (nat_abs (piece_word m (words_from m s start))) = sym (index_at m s start r.cut_is) ∙ y.piece_natural in
       record {
         ready = r;
         index = record { there = there; natural = rw iw tt };
@@ -215,13 +190,13 @@ module _ (m : List ℤ) (s : List ℕ) where
     abbrev len : ℕ
     len = payload_length (piece_field_size m)
 
-    pub piece_refused : is_field (field_at s at) 5 len ≡ false → 36 ≡ piece_question m s at least
-    unfolding piece_question ◌then◌
-    piece_refused e = rw e refl
+    pub field_refused : (r : Refusal) → number r ≡ ask (is_field (field_at s at) 5 len) 36 → number r ≡ piece_question m s at least
+    unfolding piece_question
+    field_refused r e = refused_first r _ e
 
     module _ (whole : T (is_field (field_at s at) 5 len)) {start : ℕ} (es : start ≡ at + header_size) where
-      pub field_there : {width : ℕ} → width ≡ place_size m → start + payload_length width ≤ length s
-      field_there ep = omega (arith, (due s at 5 len whole).there)
+      pub field_there : {cut : Bool} → cut ≡ any_cut m → start + payload_length (size_by cut) ≤ length s
+      field_there ec = omega (arith, (due s at 5 len whole).there, size_is m ec)
 
       pub piece_answered : {b : Bool} → b ≡ place_ok m (words_from m s start) least → piece_question m s at least ≡ ask b 37
       unfolding piece_question ◌then◌
@@ -238,7 +213,7 @@ module _ (m : List ℤ) (s : List ℕ) where
   least_next i e es ek = rw (add-one i, ek, es, e) refl
 
 -- the numbers stay small
-module _ {m : List ℤ} {places s : List ℕ} {start width : ℕ} (k : KeyAt m places s start width) where
+module _ {m : List ℤ} {places s : List ℕ} {cut : Bool} {start : ℕ} (k : KeyAt m places cut s start) where
   -- the number of the piece, from its face f, the pieces of a face, and which of them it is
   pub number_few : {f per : ℕ} (l : ℕ) → f ≡ nat_abs (face_word s start) → per ≡ per_face m l → f * per ≤ 24
   number_few {f} {per} l ef ep =
@@ -248,8 +223,8 @@ module _ {m : List ℤ} {places s : List ℕ} {start width : ℕ} (k : KeyAt m p
 
   pub key_below : piece_key m (words_from m s start) < piece_count m
   unfolding piece_named
-  key_below = rw (location_at_lem m s start, face_at m s start, index_at m s start k.ready.width_is)
-      (piece_counted m l _ k.location_below (number_below m l (nat_abs (face_word s start)) (nat_abs (index_word s start width)) k.face_below k.index_below))
+  key_below = rw (location_at_lem m s start, face_at m s start, index_at m s start k.ready.cut_is)
+      (piece_counted m l _ k.location_below (number_below m l (nat_abs (face_word s start)) (nat_abs (index_word s start cut)) k.face_below k.index_below))
     where
       l : ℕ
       l = nat_abs (location_word s start)
@@ -275,15 +250,15 @@ module _ (m : List ℤ) (w : Whole m) (s : List ℕ) (y : FieldsYes m s) where
     field_due = rw e (whole_is _ 5 _ _ _ (y.fields i counted))
 
     module _ {start : ℕ} (es : start ≡ at + header_size) where
-      pub field_ends : {width n : ℕ} → width ≡ place_size m → n ≡ n# m → start + payload_length width + payload_length (2 * n) ≤ length s
-      field_ends ep en = omega (arith, ep, en, (due s at 5 (payload_length (piece_field_size m)) field_due).there)
+      pub field_ends : {cut : Bool} {n : ℕ} → cut ≡ any_cut m → n ≡ n# m → start + payload_length (size_by cut) + payload_length (2 * n) ≤ length s
+      field_ends ec en = omega (arith, size_is m ec, en, (due s at 5 (payload_length (piece_field_size m)) field_due).there)
 
       words_are : words_from m s start ≡ field_words m s i
       unfolding piece_field_words
       words_are = rw (es, e) refl
 
-      pub field_key : {places : List ℕ} {width : ℕ} → FieldsReady m places width → KeyAt m places s start width
-      field_key r = key_passed m s r (omega (arith, field_ends r.width_is refl)) (subst (λ (x : List ℤ). PlaceYes m x (least_key m s i)) (sym words_are) place_yes_at)
+      pub field_key : {places : List ℕ} {cut : Bool} → FieldsReady m places cut → KeyAt m places cut s start
+      field_key r = key_passed m s r (omega (arith, field_ends r.cut_is refl)) (subst (λ (x : List ℤ). PlaceYes m x (least_key m s i)) (sym words_are) place_yes_at)
 
       -- its key k, and where the words of the piece stand in the table
       module _ {k size : ℕ} (ek : k ≡ piece_key m (words_from m s start)) (ez : size ≡ face_size (n# m)) where
@@ -308,11 +283,6 @@ module _ (m : List ℤ) (s : List ℕ) (e : count_question m s ≡ 0) where
 
   pub counted_few : Whole m → {c : ℕ} → c ≡ count# s → c ≤ 1536
   counted_few w ec = omega (arith, ec, within_abs (count_word s) (piece_count m) (count_yes m s e).1, pieces_few m w)
-
-pub fields_made : (m : List ℤ) (s : List ℕ) {c q r e r38 : ℕ} → c ≡ count# s → r ≡ first c (piece_questions m s) → e ≡ piece_field_at m c → r38 ≡ ask (eqb (length s) e) 38
-    → q ≡ (r then r38) → q ≡ (first (count# s) (piece_questions m s) then ask (eqb (length s) (piece_field_at m (count# s))) 38)
-fields_made m s ec er ee e38 eq =
-    both eq (er ∙ ap (λ (k : ℕ). first k (piece_questions m s)) ec) (e38 ∙ ap (λ (k : ℕ). ask (eqb (length s) k) 38) (ee ∙ ap (piece_field_at m) ec))
 
 -- ---- filling the table
 
@@ -394,31 +364,6 @@ module _ (m : List ℤ) (s : List ℕ) where
   unfolding file_table
   table_end i e = rw e refl
 
-  -- the front of the words d is the table x
-  module _ (d x : List ℤ) {k : ℕ} (ek : k ≡ table_size m) (room : table_size m ≤ length d) (ex : x ≡ file_table m s) where
-    x_length : length x ≡ k
-    unfolding file_table
-    x_length = rw (ex, ek) (table_length m (file_face m s (count# s)))
-
-    pub table_front : take k (x ++ drop k d) ≡ file_table m s
-    table_front = take_at x (drop k d) k x_length ∙ ex
-
-    pub front_length : length (take k (x ++ drop k d)) ≡ k
-    front_length = ap length (take_at x (drop k d) k x_length) ∙ x_length
-
-    pub table_onto : x ++ drop k d ≡ onto (file_table m s) d
-    unfolding onto
-    table_onto = ap (λ (j : ℕ). x ++ drop j d) (sym x_length) ∙ ap (λ (y : List ℤ). y ++ drop (length y) d) ex
-
-    pub table_zeroed : {z : List ℤ} → z ≡ zeroed (x ++ drop k d) → z ≡ zeroed d
-    table_zeroed e = e ∙ ap (λ (j : ℕ). replicate j (pos 0)) (length-append x (drop k d) ∙ omega_length)
-      where
-        omega_length : length x + length (drop k d) ≡ length d
-        omega_length = omega (arith, x_length, length-drop k d)
-
-pub prefix_length : (d : List ℤ) {k j : ℕ} → k ≡ j → j ≤ length d → length (take k d) ≡ k
-prefix_length d {k} e h = length-take-le k d (omega arith)
-
 pub row_length : (x : List ℤ) (a w : ℕ) → a + w ≤ length x → length (take (a + w - a) (drop a x)) ≡ w
 row_length x a w h = length-take-le (a + w - a) (drop a x) (omega (arith, length-drop a x)) ∙ omega arith
 
@@ -428,32 +373,23 @@ pub piece_filled : (d y z : List ℤ) (k : ℕ) → length d ≡ 1 + k → lengt
 piece_filled [] y z k e f h = absurd (omega arith)
 piece_filled (x ∷ d) y z k e f h = h ∙ onto_all (pos 1 ∷ z) (pos 1 ∷ d) (omega arith)
 
--- ---- how the call ends
+-- ---- how the call ends, where the first k words of d became x
 
-module _ (m : List ℤ) (s : List ℕ) (d : List ℤ) where
-  pub fields_refused : {q : ℕ} {x : List ℤ} → q ≡ fields_questions m s → (q ≡ 0 → ⊥) → x ≡ zeroed d → record { count = Refused q; words = x } ≡ read_faces m s d
-  unfolding table_file_questions
-  fields_refused {q} {x} e h ex =
-      let f : q ≡ table_file_questions m s = halt (ask (table_ok m (file_table m s)) 32) e h in
-      refused_at _ f h ex
+module _ (m : List ℤ) (s : List ℕ) (d x : List ℤ) (k : ℕ) where
+  -- all words are zeroed
+  pub faces_refused : (r : Refusal) {z : List ℤ} → number r ≡ table_file_questions m s → length x ≡ length (take k d) → z ≡ replicate (length (x ++ drop k d)) (pos 0) → record { count = Err (number r); words = z } ≡ read_faces m s d
+  faces_refused r e ex ez = refused_at _ e (number_not_0 r) (ez ∙ ap (λ (j : ℕ). replicate j (pos 0)) long)
+    where
+      long : length (x ++ drop k d) ≡ length d
+      long = length-append x (drop k d) ∙ ap (λ (j : ℕ). j + length (drop k d)) ex ∙ sym (length-append (take k d) (drop k d)) ∙ ap length (take-append-drop k d)
 
-  pub table_refused : {q : ℕ} {x : List ℤ} → q ≡ fields_questions m s → q ≡ 0 → table_ok m (file_table m s) ≡ false → x ≡ zeroed d → record { count = Refused 32; words = x } ≡ read_faces m s d
-  unfolding table_file_questions
-  table_refused {q} {x} e z b ex =
-      let f : 32 ≡ table_file_questions m s = go e z (rw b refl) in
-      refused_at _ f (λ k. omega arith) ex
+  -- x is the table
+  pub faces_read : 0 ≡ table_file_questions m s → k ≡ table_size m → x ≡ file_table m s → record { count = Ok k; words = x ++ drop k d } ≡ read_faces m s d
+  unfolding onto
+  faces_read e ek ex = past (zeroed d) (sym e) (ap₂ (λ (n : ℕ) (w : List ℤ). record { count = Ok n; words = w }) ek front)
+    where
+      long : length x ≡ k
+      long = table_size_lem m s (count# s) (ex ∙ sym (table_end m s (count# s) refl)) ∙ sym ek
 
-  pub table_read : {q k : ℕ} {x : List ℤ} → q ≡ fields_questions m s → q ≡ 0 → table_ok m (file_table m s) ≡ true → k ≡ table_size m → x ≡ onto (file_table m s) d
-      → record { count = Done k; words = x } ≡ read_faces m s d
-  unfolding table_file_questions
-  table_read {q} {k} {x} e z b ek ex =
-      let f : 0 ≡ table_file_questions m s = go e z (rw b refl) in
-      past (zeroed d) (sym f) (rw (ek, ex) refl)
-
-  pub room_refused : {q : ℕ} → q ≡ room_questions m (length d) → (q ≡ 0 → ⊥) → record { count = Refused q; words = d } ≡ read_table_call m s d
-  unfolding read_table_call
-  room_refused e h = refused_at _ e h refl
-
-  pub room_passed : {q : ℕ} {o : ReadOutcome} → q ≡ room_questions m (length d) → q ≡ 0 → o ≡ read_faces m s d → o ≡ read_table_call m s d
-  unfolding read_table_call
-  room_passed e z f = past d (sym e ∙ z) f
+      front : x ++ drop k d ≡ onto (file_table m s) d
+      front = ap (λ (j : ℕ). x ++ drop j d) (sym long) ∙ ap (λ (y : List ℤ). y ++ drop (length y) d) ex

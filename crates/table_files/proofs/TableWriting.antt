@@ -2,7 +2,7 @@
 -- a piece is put together.
 use mathlib.Core.Path.{◌≡◌, refl, sym, ap, ap₂, ◌∙◌}
 use mathlib.Core.Bool.{Bool, true, false, cond}
-use mathlib.Core.List.{List, ◌++◌, append_assoc, append-nil}
+use mathlib.Core.List.{List, [], ◌∷◌, ◌++◌, append_assoc}
 use Prim.Native.Nat.{ℕ, zero, suc, ◌+◌, ◌*◌, ◌/◌, ◌%◌, ◌≤◌, ◌<◌}
 use native.Mathlib.Nat.{mul-le-mul_right}
 use native.Mathlib.Numerals.{add-one}
@@ -25,15 +25,21 @@ use Rattle.plant.specs.Model.{n#, L#}
 use Rattle.plant.specs.Questions.{model_questions}
 use Rattle.plant.specs.Pieces.{any_cut, per_face, pieces, piece_face, piece_index}
 use Rattle.plant.specs.Tables.{face_size, pieces_before, piece_count, table_size, piece_at, longest_table_file, face_read, piece_of, table_ok}
+use Rattle.plant.specs.declared.Refusal.{Refusal}
+use Rattle.plant.specs.Refusals.{number}
 use Rattle.plant.proofs.Asks.{ask_yes, then_both}
+use Rattle.plant.proofs.Refusing.{number_not_0}
+use Rattle.plant.proofs.Writing.{write_refused, write_done}
+use Rattle.std.specs.Prelude.{Ok, Err}
 use Rattle.plant.proofs.Boxes.{length-box_at, box_ends}
 use Rattle.plant.proofs.Whole.{Whole}
 use Rattle.plant.proofs.Positions.{row_within}
 use Rattle.plant.proofs.Passing.{whole}
 use Rattle.passes.proofs.PartWords.{place_is}
 use Rattle.tables.proofs.Faces.{table_most}
-use Rattle.files.specs.TableFile.{count_field_size, place_size, piece_field_size, place_words, piece_field, presence, present_pieces, location_fields, piece_fields, table_file, pieces_from, room_questions, write_questions}
-use Rattle.table_files.specs.TableRoom.{WriteReady, PieceRoom, LocationRoom}
+use Rattle.files.specs.TableFile.{count_field_size, place_size, piece_field_size, place_words, piece_field, presence, present_pieces, location_fields, piece_fields, table_file, pieces_from, room_questions, write_questions, write_table_call}
+use Rattle.table_files.specs.TableRoom.{size_by, WriteReady, PieceRoom, LocationRoom}
+use Rattle.table_files.proofs.Cuts.{count_most, size_is}
 use Rattle.files.proofs.PieceKeys.{key_at, at_key}
 use Rattle.files.proofs.PlaceWords.{place_most, longest_is, length_place}
 use Rattle.files.proofs.Listed.{present_keys}
@@ -43,19 +49,16 @@ use Rattle.files.proofs.TableSizes.{location_counted, before_le, piece_bytes, lo
 -- ---- sizes
 
 module _ (m : List ℤ) (w : Whole m) where
-  -- as the code computes them, from the width of places and n variables
-  module _ {width n : ℕ} (ep : width ≡ place_size m) (en : n ≡ n# m) where
-    pub sizes_fit : (width ≤ 3) × (n ≤ 6)
-    sizes_fit = (omega (arith, place_most m), omega (arith, w.head.n_small))
+  -- as the code computes them, from whether any location is cut and n variables
+  module _ {cut : Bool} {n size : ℕ} (ec : cut ≡ any_cut m) (en : n ≡ n# m) (es : size ≡ size_by cut + 2 * n) where
+    pub field_size_is : size ≡ piece_field_size m
+    field_size_is = omega (arith, size_is m ec)
 
-    pub size_is : {size : ℕ} → size ≡ width + 2 * n → size ≡ piece_field_size m
-    size_is es = omega arith
+    pub size_few : size ≤ 15
+    size_few = omega (arith, field_size_is, place_most m, w.head.n_small)
 
-    pub size_few : {size : ℕ} → size ≡ width + 2 * n → size ≤ 15
-    size_few es = omega (arith, sizes_fit)
-
-    pub longest_made : {from size k r : ℕ} → from ≡ pieces_from → size ≡ width + 2 * n → k ≡ piece_count m → r ≡ field_place from size k → r ≡ longest_table_file m
-    longest_made ef es ek er = er ∙ rw (ef, size_is es, ek) (sym (longest_is m))
+    pub longest_made : {from k r : ℕ} → from ≡ pieces_from → k ≡ piece_count m → r ≡ field_place from size k → r ≡ longest_table_file m
+    longest_made ef ek er = er ∙ rw (ef, field_size_is, ek) (sym (longest_is m))
 
 -- ---- one piece, by its flag
 
@@ -79,54 +82,27 @@ pub presence_le : (g : Face) → presence g ≤ 1
 presence_le absent = omega arith
 presence_le (present b) = omega arith
 
--- ---- the loop that counts
+-- ---- the pieces that are present, by their flags
 
--- the pieces whose keys are below k
-abbrev pub counted_below : (n : ℕ) (t : List ℤ) (k : ℕ) → ℕ
-counted_below n t k = sum_below k (λ j. presence (face_read n t (j * face_size n)))
+-- piece k lies in the table
+pub key_inside : (m : List ℤ) {n size pieces k : ℕ} → Whole m → n ≡ n# m → size ≡ face_size n → pieces ≡ piece_count m → k < pieces → k * size < table_size m
+unfolding table_size
+key_inside m {n} {size} {pieces} {k} w en es ep u =
+    let e : size ≡ face_size (n# m) = rw en at es in
+    let v : k < piece_count m = omega arith in
+    rw e (omega (arith, row_within (face_size (n# m)) v))
 
-pub counted_none : (n : ℕ) (t : List ℤ) → 0 ≡ counted_below n t 0
-unfolding sum_below
-counted_none n t = refl
+pub key_small : (m : List ℤ) {n size pieces k : ℕ} → Whole m → n ≡ n# m → size ≡ face_size n → pieces ≡ piece_count m → k < pieces → k * size < 19968
+key_small m w en es ep u = omega (arith, key_inside m w en es ep u, table_most m w.head)
 
-counted_le : (n : ℕ) (t : List ℤ) (k : ℕ) → counted_below n t k ≤ k
-unfolding sum_below
-counted_le n t zero = omega arith
-counted_le n t (suc k) = omega (arith, counted_le n t k, presence_le (face_read n t (k * face_size n)))
-
-pub counted_more : (n : ℕ) (t : List ℤ) (k : ℕ) {at count p : ℕ} → at ≡ k * face_size n → count ≡ counted_below n t k → p ≡ cond (eq_z (word t at) (pos 1)) 1 0 → count + p ≡ counted_below n t (k + 1)
-unfolding sum_below
-counted_more n t k {at} e ec ep = ap₂ ◌+◌ ec (ep ∙ presence_read n t at ∙ ap (λ (x : ℕ). presence (face_read n t x)) e) ∙ rw (add-one k) refl
-
-counted_keys : (m t : List ℤ) → counted_below (n# m) t (piece_count m) ≡ present_pieces m t
+-- by key, as the code counts them
+pub present_counted : (m t : List ℤ) → sum_below (piece_count m) (λ k. cond (eq_z (word t (k * face_size (n# m))) (pos 1)) 1 0) ≡ present_pieces m t
 unfolding piece_of
-counted_keys m t = sum_ext (piece_count m) (λ j. presence (face_read (n# m) t (j * face_size (n# m)))) (λ j. presence (at_key m (piece_of m t) j))
-    (λ j u. ap (λ (at : ℕ). presence (face_read (n# m) t at)) (sym (key_at m j u))) ∙ sym (present_keys m t)
-
-module _ (m : List ℤ) (w : Whole m) {n pieces : ℕ} (en : n ≡ n# m) (ep : pieces ≡ piece_count m) where
-  -- piece k lies in the table
-  pub row_inside : {k at : ℕ} → k < pieces → at ≡ k * face_size n → at + face_size n ≤ table_size m
-  unfolding table_size
-  row_inside {k} u e =
-      let v : k < piece_count m = omega arith in
-      rw en (omega (arith, row_within (face_size (n# m)) v, rw en at e))
-
-  pub row_few : {k at : ℕ} → k < pieces → at ≡ k * face_size n → at + face_size n ≤ 19968
-  row_few u e = omega (arith, row_inside u e, table_most m w.head)
-
-  pub count_few : (t : List ℤ) {k count p : ℕ} → k < pieces → count ≡ counted_below n t k → p ≤ 1 → count + p ≤ 1536
-  count_few t {k} u e v = omega (arith, counted_le n t k, pieces_few m w)
-
-  pub counted_all : (t : List ℤ) {k count : ℕ} → k ≤ pieces → pieces ≤ k → count ≡ counted_below n t k → count ≡ present_pieces m t
-  counted_all t {k} u v e =
-      let ek : k ≡ piece_count m = omega arith in
-      e ∙ ap₂ (λ (a b : ℕ). counted_below a t b) en ek ∙ counted_keys m t
-
-pub next_row : (n k : ℕ) {at size : ℕ} → size ≡ face_size n → at ≡ k * face_size n → at + size ≡ (k + 1) * face_size n
-next_row n k es e = omega arith
+present_counted m t = sum_ext (piece_count m) (λ k. cond (eq_z (word t (k * face_size (n# m))) (pos 1)) 1 0) (λ k. presence (at_key m (piece_of m t) k))
+    (λ k u. presence_read (n# m) t (k * face_size (n# m)) ∙ ap (λ (at : ℕ). presence (face_read (n# m) t at)) (sym (key_at m k u))) ∙ sym (present_keys m t)
 
 pub present_few : (m t : List ℤ) → Whole m → present_pieces m t ≤ 1536
-present_few m t w = omega (arith, counted_keys m t, counted_le (n# m) t (piece_count m), pieces_few m w)
+present_few m t w = omega (arith, present_counted m t, count_most (λ k. eq_z (word t (k * face_size (n# m))) (pos 1)) (piece_count m), pieces_few m w)
 
 -- ---- the field of a piece
 
@@ -140,26 +116,13 @@ module _ (m : List ℤ) (l q : ℕ) {per : ℕ} (ep : per ≡ per_face m l) wher
   unfolding piece_index
   index_is = ap (λ (k : ℕ). q % k) ep
 
-  module _ (d x y : List ℕ) (to : ℕ) (room : to ≤ length d) (ex : x ≡ onto (take to d ++ word_bytes (pos l)) d) (ey : y ≡ onto (take (to + word_size) x ++ word_bytes (pos (q / per))) x) where
-    abbrev two : List ℕ
-    two = word_bytes (pos l) ++ word_bytes (pos (q / per))
-
-    two_put : y ≡ onto (take to d ++ two) d
-    two_put = ey ∙ onto_then (word_bytes (pos l)) (word_bytes (pos (q / per))) d x to (to + word_size) ex room (omega (arith, length-word (pos l)))
-
-    pub place_put_two : any_cut m ≡ false → y ≡ onto (take to d ++ words_bytes (place_words m l q)) d
-    unfolding place_words words_bytes
-    place_put_two e = two_put ∙ rw (e, ← face_is) (ap (λ (s : List ℕ). onto (take to d ++ (word_bytes (pos l) ++ s)) d) (sym (append-nil (word_bytes (pos (q / per))))))
-
-    pub place_put_three : any_cut m ≡ true → {z : List ℕ} → z ≡ onto (take (to + 2 * word_size) y ++ word_bytes (pos (q % per))) y → z ≡ onto (take to d ++ words_bytes (place_words m l q)) d
-    unfolding place_words words_bytes
-    place_put_three e {z} ez =
-        let k : List ℕ = word_bytes (pos (q % per)) in
-        let ez' : z ≡ onto (take to d ++ (two ++ k)) d = ez ∙ onto_then two k d y to (to + 2 * word_size) two_put room
-        (omega (arith, length-append (word_bytes (pos l)) (word_bytes (pos (q / per))), length-word (pos l), length-word (pos (q / per)))) in
-        ez' ∙ rw (e, ← face_is, ← index_is) (ap (λ (s : List ℕ). onto (take to d ++ s) d)
-        (append_assoc (word_bytes (pos l)) (word_bytes (pos (q / per))) k
-        ∙ ap (λ (s : List ℕ). word_bytes (pos l) ++ (word_bytes (pos (q / per)) ++ s)) (sym (append-nil k))))
+  pub place_is_part : {cut : Bool} {size : ℕ} → cut ≡ any_cut m → size ≡ size_by cut → part (pos l ∷ pos (q / per) ∷ pos (q % per) ∷ []) 0 size ≡ place_words m l q
+  unfolding place_words
+  place_is_part {cut} {size} ec es = rw (es, face_is, index_is) (by cut ec)
+    where
+      by : (b : Bool) → b ≡ any_cut m → part (pos l ∷ pos (piece_face m l q) ∷ pos (piece_index m l q) ∷ []) 0 (size_by b) ≡ pos l ∷ pos (piece_face m l q) ∷ cond (any_cut m) (pos (piece_index m l q) ∷ []) []
+      by true e = rw (← e) refl
+      by false e = rw (← e) refl
 
 -- the words of piece q of location l stand at a place of the table
 module _ (m t : List ℤ) {at : ℕ} (l q : ℕ) (at_is : at ≡ piece_at m l q) (there : at + face_size (n# m) ≤ length t) where
@@ -216,7 +179,7 @@ module _ (m t : List ℤ) {at : ℕ} (l q : ℕ) (at_is : at ≡ piece_at m l q)
 
 -- ---- the loops that write them
 
-module _ (m t : List ℤ) (d : List ℕ) {width before l to : ℕ} (r : LocationRoom m width before t l d to) where
+module _ (m t : List ℤ) (d : List ℕ) {cut : Bool} {before l to : ℕ} (r : LocationRoom m cut before t l d to) where
   -- there is room for one more
   pub location_room : {q next : ℕ} {x : List ℕ} → q ≤ pieces m l → Written (fields_of m t l) d to q next x → (length x ≡ length d) × (next ≤ to + q * piece_bytes m)
   location_room {q} {next} {x} u w =
@@ -224,13 +187,13 @@ module _ (m t : List ℤ) (d : List ℕ) {width before l to : ℕ} (r : Location
       let b : next ≤ to + q * piece_bytes m = omega (arith, w.to_is, fields_le m t l q) in
       (length_written (fields_of m t l) d to (omega (arith, r.room)) w (omega (arith, r.room)), b)
 
-  pub piece_room : {q at next n : ℕ} {x : List ℕ} → q < pieces m l → n ≡ n# m → at ≡ (before + q) * face_size n → Written (fields_of m t l) d to q next x → PieceRoom m width t at l q x next
+  pub piece_room : {q at next n : ℕ} {x : List ℕ} → q < pieces m l → n ≡ n# m → at ≡ (before + q) * face_size n → Written (fields_of m t l) d to q next x → PieceRoom m cut t at l q x next
   unfolding piece_at
   piece_room {q} {at} {next} {n} {x} u en ea w =
       let lw : (length x ≡ length d) × (next ≤ to + q * piece_bytes m) = location_room (omega arith) w in
       let k : q * piece_bytes m + piece_bytes m ≤ pieces m l * piece_bytes m = row_within (piece_bytes m) u in
       record {
-        is_piece = record { whole = r.whole; width_is = r.width_is; location = r.location; piece = u };
+        is_piece = record { whole = r.whole; cut_is = r.cut_is; location = r.location; piece = u };
         at_is = place_is m l q en r.before_is ea;
         there = r.there;
         room = omega (arith, lw, r.room);
@@ -250,13 +213,13 @@ module _ (m t : List ℤ) (d : List ℕ) (r : WriteReady m t d) where
       let k : pieces_before m l * piece_bytes m ≤ piece_count m * piece_bytes m = mul-le-mul_right (piece_bytes m) (before_le m l u) in
       (length_written (location_fields m t) d 7 head_room w (omega (arith, longest_is m, r.bytes)), b)
 
-  pub room_of_location : {l width before to : ℕ} {x : List ℕ} → l < L# m → width ≡ place_size m → before ≡ pieces_before m l → Written (location_fields m t) d 7 l to x → LocationRoom m width before t l x to
-  room_of_location {l} {width} {before} {to} {x} u ep eb w =
+  pub room_of_location : {cut : Bool} {l before to : ℕ} {x : List ℕ} → l < L# m → cut ≡ any_cut m → before ≡ pieces_before m l → Written (location_fields m t) d 7 l to x → LocationRoom m cut before t l x to
+  room_of_location {cut} {l} {before} {to} {x} u ec eb w =
       let lw : (length x ≡ length d) × (to ≤ 7 + pieces_before m l * piece_bytes m) = pieces_room (omega arith) w in
       let k : (pieces_before m l + pieces m l) * piece_bytes m ≤ piece_count m * piece_bytes m = mul-le-mul_right (piece_bytes m) (location_counted m l u) in
       record {
         whole = r.whole;
-        width_is = ep;
+        cut_is = ec;
         location = u;
         before_is = eb;
         there = r.room;
@@ -286,10 +249,19 @@ file_put m t d x y z el ex' ey ez =
 
 -- ---- how the call ends
 
-pub write_yes : (m t : List ℤ) (d : List ℕ) → write_questions m t (length d) ≡ 0 → WriteReady m t d
-unfolding write_questions
-write_yes m t d e =
-    let a : (room_questions m (length t) ≡ 0) × _ = then_both (room_questions m (length t)) _ e in
-    let b : _ × (ask (leb (longest_table_file m) (length d)) 39 ≡ 0) = then_both (ask (table_ok m t) 32) (ask (leb (longest_table_file m) (length d)) 39) a.1 in
-    let r : (model_questions m ≡ 0) × (table_size m ≤ length t) = room_yes m (length t) a.0 in
-    record { whole = whole m r.0; room = r.1; bytes = leb→le (longest_table_file m) (length d) (ask_yes (leb (longest_table_file m) (length d)) 39 (omega arith) b.1) }
+module _ (m t : List ℤ) (d : List ℕ) where
+  pub write_asked : 0 ≡ write_questions m t (length d) → WriteReady m t d
+  unfolding write_questions
+  write_asked e =
+      let a : (room_questions m (length t) ≡ 0) × _ = then_both (room_questions m (length t)) _ (sym e) in
+      let b : _ × (ask (leb (longest_table_file m) (length d)) 39 ≡ 0) = then_both (ask (table_ok m t) 32) (ask (leb (longest_table_file m) (length d)) 39) a.1 in
+      let r : (model_questions m ≡ 0) × (table_size m ≤ length t) = room_yes m (length t) a.0 in
+      record { whole = whole m r.0; room = r.1; bytes = leb→le (longest_table_file m) (length d) (ask_yes (leb (longest_table_file m) (length d)) 39 (omega arith) b.1) }
+
+  pub table_refused : (r : Refusal) → number r ≡ write_questions m t (length d) → record { count = Err (number r); file = d } ≡ write_table_call m t d
+  unfolding write_table_call
+  table_refused r e = write_refused (table_file m t) d e (number_not_0 r)
+
+  pub table_done : {n : ℕ} {x : List ℕ} → 0 ≡ write_questions m t (length d) → x ≡ onto (table_file m t) d → n ≡ length (table_file m t) → record { count = Ok n; file = x } ≡ write_table_call m t d
+  unfolding write_table_call
+  table_done e ex en = write_done (table_file m t) d e refl en ex

@@ -4,9 +4,13 @@
 
 ghost use Rattle.std.specs.Prelude.{◌≡◌, ◌+◌, ◌*◌, ◌≤◌, ◌<◌};
 ghost use Rattle.plant.specs.Model.{L#};
-ghost use Rattle.plant.specs.Pieces.{per_face};
+ghost use Rattle.plant.specs.Pieces as P;
+ghost use Rattle.plant.specs.Refusals.{asked};
 ghost use Rattle.plant.proofs.Whole.{Whole};
-ghost use Rattle.files.specs.TableFile.{place_size, pieces_from, room_questions};
+ghost use Rattle.files.specs.TableFile.{pieces_from, room_questions};
+ghost use Rattle.table_files.specs.TableRoom.{size_by};
+
+use plant::Refusal;
 
 mod reading;
 mod writing;
@@ -17,45 +21,39 @@ pub use writing::{bytes_question, longest_file, put_table, write_table};
 // How many words the head field has.
 const COUNT_FIELD_SIZE: usize = 1;
 
-// How many words a piece's place has: location, face number; in a model with any cut also the piece.
-const PLACE_SIZE: usize = 2;
-
-const CUT_PLACE_SIZE: usize = 3;
-
-// The width of a place in the fields of this model: how many words it has.
-fn place_size(model: &[i32]) -> usize
+// Any location is cut, so that the places in the model's table files name the piece.
+fn any_cut(model: &[i32]) -> bool
     requires { Whole model.now }
-    ensures { result ≡ place_size model.now }
+    ensures { result ≡ P.any_cut model.now }
 {
-    let locations = records::locations(model);
-    let mut l: usize = 0;
-    while l < locations {
-        if tables::per_face(model, l) == 2 {
-            return CUT_PLACE_SIZE;
-        }
-        l = l + 1;
-    }
-    PLACE_SIZE
+    (0..records::locations(model)).any(|l| tables::per_face(model, l) == 2)
 }
 
-// How many pieces a face of location l has: one where the places, by their width, don't name the piece.
-fn per_face(model: &[i32], width: usize, l: usize) -> usize
-    requires { Whole model.now × (width ≡ place_size model.now) × (l < L# model.now) }
-    ensures { result ≡ per_face model.now l }
+// How many words a piece's place has: location, face number; with any cut also the piece.
+fn place_size(any_cut: bool) -> usize
+    ensures { result ≡ size_by any_cut }
 {
-    if width == CUT_PLACE_SIZE {
+    if any_cut { 3 } else { 2 }
+}
+
+// How many words a piece's field has: its place, and a box of n variables.
+fn field_size(any_cut: bool, n: usize) -> usize
+    requires { n ≤ 6 }
+    ensures { result ≡ size_by any_cut + 2 * n }
+{
+    place_size(any_cut) + 2 * n
+}
+
+// How many pieces a face of location l has: one where places don't name the piece.
+fn per_face(model: &[i32], any_cut: bool, l: usize) -> usize
+    requires { Whole model.now × (any_cut ≡ P.any_cut model.now) × (l < L# model.now) }
+    ensures { result ≡ P.per_face model.now l }
+{
+    if any_cut {
         tables::per_face(model, l)
     } else {
         1
     }
-}
-
-// How many words a piece's field has: its place, and a box of n variables.
-fn field_size(width: usize, n: usize) -> usize
-    requires { (width ≤ 3) × (n ≤ 6) }
-    ensures { result ≡ width + 2 * n }
-{
-    width + 2 * n
 }
 
 // Where the pieces' fields begin.
@@ -66,12 +64,10 @@ fn pieces_from() -> usize
 }
 
 // The model's questions; then: table buffer or list long enough? 20
-fn room_questions(model: &[i32], room: usize) -> u32
-    ensures { result ≡ room_questions model.now room }
+#[tactic(auto, using(plant::proofs::Refusing::refused_first, plant::proofs::Refusing::passed_first, crate::proofs::Asked::whole_asked), unfolding(files::specs::TableFile::room_questions))]
+fn room_questions(model: &[i32], room: usize) -> Result<(), Refusal>
+    ensures { asked result ≡ room_questions model.now room }
 {
-    let q = model::questions(model);
-    if q != 0 {
-        return q;
-    }
-    model::ask(tables::table_size(model) <= room, 20)
+    model::questions(model)?;
+    model::ask(tables::table_size(model) <= room, Refusal::TableWords)
 }

@@ -1,8 +1,7 @@
--- Places that don't name the piece are those of a model without cuts.
+-- In a model without cuts a face has one piece.
 use mathlib.Core.Path.{sym, ◌∙◌}
 use Rattle.plant.proofs.Pieces.{one_piece}
-use Rattle.files.proofs.PlaceWords.{uncut_by_size}
 use Rattle.table_files.proofs.per_face.Goals as goal
 
-pub returns-else-width-eq-CUT_PLACE_SIZE : goal.returns-else-width-eq-CUT_PLACE_SIZE
-returns-else-width-eq-CUT_PLACE_SIZE c = sym (one_piece _ _ (uncut_by_size _ (λ h. c.if-width-eq-CUT_PLACE_SIZE.false (c.requires.1 ∙ h))) c.requires.2)
+pub returns-else-any_cut : goal.returns-else-any_cut
+returns-else-any_cut c = sym (one_piece _ _ (sym c.requires.1 ∙ c.if-any_cut.false) c.requires.2)

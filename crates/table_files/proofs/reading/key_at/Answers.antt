@@ -5,21 +5,14 @@ use native.Mathlib.Omega.{arith}
 use lib.ListN.{get_or}
 use Rattle.files.specs.Bytes.{words_at}
 use Rattle.files.specs.TableFile.{piece_field_size, piece_key}
-use Rattle.files.proofs.PlaceWords.{place_least}
 use Rattle.table_files.proofs.TableReading.{before_is, number_few, key_made, key_few}
 use Rattle.table_files.proofs.reading.key_at.Goals as goal
 use Rattle.table_files.proofs.reading.key_at.Goals.{After-per_face}
 
 made : (c : After-per_face) → let a = c.args in get_or a.places.now c.number_at-l.result 0 + (c.number_at-f.result * c.per_face.result + c.index_at-k.result) ≡ piece_key a.model.now (words_at a.file.now a.start (piece_field_size a.model.now))
 made c = let r = c.requires in
-    key_made _ _ _ r.ready.width_is c.number_at-l.ensures c.number_at-f.ensures c.index_at-k.ensures c.per_face.ensures
+    key_made _ _ _ r.ready.cut_is c.number_at-l.ensures c.number_at-f.ensures c.index_at-k.ensures c.per_face.ensures
     (before_is r.ready _ (omega (arith, c.number_at-l.ensures, r.location_below)))
-
-pub number_at-l-requires : goal.number_at-l-requires
-number_at-l-requires c = (omega (arith, c.requires.index.there, c.requires.ready.width_is, place_least c.args.model.now), c.requires.location_natural)
-
-pub number_at-f-requires : goal.number_at-f-requires
-number_at-f-requires c = (omega (arith, c.requires.index.there, c.requires.ready.width_is, place_least c.args.model.now), c.requires.face_natural)
 
 pub overflow_mul-result : goal.overflow_mul-result
 overflow_mul-result c = record { fits = omega (arith, number_few c.requires _ c.number_at-f.ensures c.per_face.ensures) }

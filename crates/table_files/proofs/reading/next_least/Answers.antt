@@ -26,53 +26,35 @@ module _ (m : List ℤ) (s : List ℕ) (start : ℕ) {x : ℕ} {r : Bool} where
   face_tested : x ≡ n# m → r ≡ within (pos 0) (pos (2 * x - 1)) (face_word s start) → within (pos 0) (pos (2 * n# m - 1)) (face_word s start) ≡ r
   face_tested e h = sym (h ∙ ap (λ (x : ℕ). within (pos 0) (pos (2 * x - 1)) (face_word s start)) e)
 
-  piece_tested : (width : ℕ) {l : ℕ} → x ≡ per_face m l → l ≡ nat_abs (location_word s start) → r ≡ within (pos 0) (pos (x - 1)) (index_word s start width)
-      → within (pos 0) (pos (per_face m (nat_abs (location_word s start)) - 1)) (index_word s start width) ≡ r
-  piece_tested width e el h = sym (h ∙ ap (λ (x : ℕ). within (pos 0) (pos (x - 1)) (index_word s start width)) (e ∙ ap (per_face m) el))
+  piece_tested : (cut : Bool) {l : ℕ} → x ≡ per_face m l → l ≡ nat_abs (location_word s start) → r ≡ within (pos 0) (pos (x - 1)) (index_word s start cut)
+      → within (pos 0) (pos (per_face m (nat_abs (location_word s start)) - 1)) (index_word s start cut) ≡ r
+  piece_tested cut e el h = sym (h ∙ ap (λ (x : ℕ). within (pos 0) (pos (x - 1)) (index_word s start cut)) (e ∙ ap (per_face m) el))
 
 -- all three said yes
 named : (c : Else-not-index_within) → let a = c.args in
     (within (pos 0) (pos (L# a.model.now - 1)) (location_word a.file.now a.start) ≡ true)
     × (within (pos 0) (pos (2 * n# a.model.now - 1)) (face_word a.file.now a.start) ≡ true)
-    × (within (pos 0) (pos (per_face a.model.now (nat_abs (location_word a.file.now a.start)) - 1)) (index_word a.file.now a.start a.width) ≡ true)
+    × (within (pos 0) (pos (per_face a.model.now (nat_abs (location_word a.file.now a.start)) - 1)) (index_word a.file.now a.start a.any_cut) ≡ true)
 named c = let a = c.args in (
   location_tested a.model.now a.file.now a.start c.locations.ensures c.number_within.ensures ∙ c.if-not-number_within.false,
   face_tested a.model.now a.file.now a.start c.variables-faces.ensures c.number_within-2.ensures ∙ c.if-not-number_within-2.false,
-  piece_tested a.model.now a.file.now a.start a.width c.per_face-per.ensures c.number_at.ensures c.index_within.ensures ∙ c.if-not-index_within.false,
+  piece_tested a.model.now a.file.now a.start a.any_cut c.per_face-per.ensures c.number_at.ensures c.index_within.ensures ∙ c.if-not-index_within.false,
 )
 
 -- so the place names a piece
-is_key : (c : Else-not-index_within) → let a = c.args in KeyAt a.model.now a.places.now a.file.now a.start a.width
-is_key c = let y = named c in key_there _ _ _ c.args.least y.0 y.1 c.requires.0.width_is c.requires.0 c.requires.1 y.2
-
-pub number_within-requires : goal.number_within-requires
-number_within-requires c = (omega (arith, c.requires.1, c.requires.0.width_is, place_least c.args.model.now), omega (arith, c.locations.ensures, c.requires.0.whole.head.L_small))
+is_key : (c : Else-not-index_within) → let a = c.args in KeyAt a.model.now a.places.now a.any_cut a.file.now a.start
+is_key c = let y = named c in key_there _ _ _ c.args.least y.0 y.1 c.requires.0.cut_is c.requires.0 c.requires.1 y.2
 
 pub returns-then-not-number_within : goal.returns-then-not-number_within
 returns-then-not-number_within c =
     let a = c.args in
     least_no _ _ _ (place_no_location _ _ _ _ (location_tested a.model.now a.file.now a.start c.locations.ensures c.number_within.ensures ∙ c.if-not-number_within.true))
 
-pub number_within-requires-2 : goal.number_within-requires-2
-number_within-requires-2 c = (omega (arith, c.requires.1, c.requires.0.width_is, place_least c.args.model.now), omega (arith, c.variables-faces.ensures, c.requires.0.whole.head.n_small))
-
 pub returns-then-not-number_within-2 : goal.returns-then-not-number_within-2
 returns-then-not-number_within-2 c =
     let a = c.args in
     let l = location_tested a.model.now a.file.now a.start c.locations.ensures c.number_within.ensures ∙ c.if-not-number_within.false in
     least_no _ _ _ (place_no_face _ _ _ _ l (face_tested a.model.now a.file.now a.start c.variables-faces.ensures c.number_within-2.ensures ∙ c.if-not-number_within-2.true))
-
-pub number_at-requires : goal.number_at-requires
-number_at-requires c =
-    let a = c.args in
-    let l = location_tested a.model.now a.file.now a.start c.locations.ensures c.number_within.ensures ∙ c.if-not-number_within.false in
-    (omega (arith, c.requires.1, c.requires.0.width_is, place_least a.model.now), within_nonneg (L# a.model.now - 1) (location_word a.file.now a.start) (true_is l))
-
-pub per_face-per-requires : goal.per_face-per-requires
-per_face-per-requires c =
-    let a = c.args in
-    let l = location_tested a.model.now a.file.now a.start c.locations.ensures c.number_within.ensures ∙ c.if-not-number_within.false in
-    (c.requires.0.whole, c.requires.0.width_is, omega (arith, c.number_at.ensures, within_abs (location_word a.file.now a.start) (L# a.model.now - 1) (true_is l), c.requires.0.whole.head.L_positive))
 
 pub overflow_sub-per : goal.overflow_sub-per
 overflow_sub-per c = omega (arith, c.per_face-per.ensures, per_face_least c.args.model.now c.number_at.result)
@@ -85,7 +67,7 @@ returns-then-not-index_within c =
     let a = c.args in
     let l = location_tested a.model.now a.file.now a.start c.locations.ensures c.number_within.ensures ∙ c.if-not-number_within.false in
     let f = face_tested a.model.now a.file.now a.start c.variables-faces.ensures c.number_within-2.ensures ∙ c.if-not-number_within-2.false in
-    least_no _ _ _ (place_no_piece _ _ _ _ l f c.requires.0.width_is (piece_tested a.model.now a.file.now a.start a.width c.per_face-per.ensures c.number_at.ensures c.index_within.ensures ∙ c.if-not-index_within.true))
+    least_no _ _ _ (place_no_piece _ _ _ _ l f c.requires.0.cut_is (piece_tested a.model.now a.file.now a.start a.any_cut c.per_face-per.ensures c.number_at.ensures c.index_within.ensures ∙ c.if-not-index_within.true))
 
 pub key_at-key-requires : goal.key_at-key-requires
 key_at-key-requires c = is_key (goal.at.key_at-key-requires c).Else-not-index_within
@@ -94,7 +76,7 @@ key_at-key-requires c = is_key (goal.at.key_at-key-requires c).Else-not-index_wi
 pub returns-then-key-least : goal.returns-then-key-least
 returns-then-key-least c =
     let y = named (goal.at.returns-then-key-least c).Else-not-index_within in
-    least_late _ _ _ (place_by_key _ _ _ _ y.0 y.1 c.requires.0.width_is y.2 c.key_at-key.ensures) c.if-key-least.true
+    least_late _ _ _ (place_by_key _ _ _ _ y.0 y.1 c.requires.0.cut_is y.2 c.key_at-key.ensures) c.if-key-least.true
 
 pub overflow_add-result : goal.overflow_add-result
 overflow_add-result c = record { fits = omega (arith, c.key_at-key.ensures, key_few (is_key (goal.at.overflow_add-result c).Else-not-index_within)) }
@@ -102,4 +84,4 @@ overflow_add-result c = record { fits = omega (arith, c.key_at-key.ensures, key_
 pub returns : goal.returns
 returns c =
     let y = named (goal.at.returns c).Else-not-index_within in
-    least_made _ _ _ (place_by_key _ _ _ _ y.0 y.1 c.requires.0.width_is y.2 c.key_at-key.ensures) c.if-key-least.false c.key_at-key.ensures
+    least_made _ _ _ (place_by_key _ _ _ _ y.0 y.1 c.requires.0.cut_is y.2 c.key_at-key.ensures) c.if-key-least.false c.key_at-key.ensures

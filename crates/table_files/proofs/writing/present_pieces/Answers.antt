@@ -1,44 +1,43 @@
--- The invariant: the count is that of the pieces passed, by key.
-use mathlib.Core.Path.{refl, ap, ◌∙◌}
+-- The pieces by key.
+use mathlib.Core.Path.{◌≡◌, refl, sym, ap, ◌∙◌}
+use Prim.Native.Nat.{ℕ, ◌*◌, ◌<◌}
 use native.Mathlib.Omega.{arith}
-use borrow.Author.Rules.{rules}
+use lib.Dec.{eqb}
 use lib.IntN.{pos}
-use lib.ListN.{get_or}
 use mir.Syntax.{w32}
-use mir.Val.{SFits}
-use Rattle.integers.proofs.Signed.{got32}
-use Rattle.plant.specs.Tables.{face_size}
-use Rattle.files.proofs.TableSizes.{pieces_few}
-use Rattle.table_files.proofs.TableWriting.{row_inside, row_few, count_few, next_row, counted_none, counted_more, counted_all}
+use mir.Val.{SFits, of_z}
+use Rattle.std.proofs.Common.{rules, tests}
+use Rattle.std.specs.declared.ops.Range.{Range}
+use Rattle.std.proofs.lemmas.Int.{ints}
+use Rattle.std.proofs.lemmas.Iterator.{serves_from_Range, YieldsList-from_range}
+use Rattle.std.proofs.lemmas.Iterator.Consumers.{count_from_yields_List, YieldsList-from_filter}
+use Rattle.integers.specs.Words.{word, eq_z}
+use Rattle.integers.proofs.Signed.{bits_eq}
+use Rattle.plant.specs.Model.{n#}
+use Rattle.plant.specs.Tables.{face_size, piece_count}
+use Rattle.table_files.proofs.Cuts.{count_listed}
+use Rattle.table_files.proofs.TableWriting.{key_inside, key_small, present_counted}
 use Rattle.table_files.proofs.writing.present_pieces.Goals as goal
+use Rattle.table_files.proofs.writing.present_pieces.Goals.{After-filter}
 
-pub loop-k-init : goal.loop-k-init
-loop-k-init c = (omega arith, omega arith, counted_none _ _)
-
-pub offset_bounds-table-at : goal.offset_bounds-table-at
-offset_bounds-table-at c = record { fits = omega (arith, row_few _ c.requires.0 refl c.piece_count-pieces.ensures c.loop-k-test.true c.loop-k.invariant.1) }
-
-pub bounds-table-at : goal.bounds-table-at
-bounds-table-at c = omega (arith, row_inside _ c.requires.0 refl c.piece_count-pieces.ensures c.loop-k-test.true c.loop-k.invariant.1, c.requires.1)
-
-pub presence-count-requires : goal.presence-count-requires
-presence-count-requires c = tt
-
-pub overflow_add-count : goal.overflow_add-count
-overflow_add-count c = record { fits = omega (arith, count_few _ c.requires.0 refl c.piece_count-pieces.ensures c.args.table.now c.loop-k-test.true c.loop-k.invariant.2 c.presence-count.ensures.1) }
-
-pub overflow_add-at : goal.overflow_add-at
-overflow_add-at c = record { fits = omega (arith, c.face_size-size.ensures, c.variables.ensures, row_few _ c.requires.0 refl c.piece_count-pieces.ensures c.loop-k-test.true c.loop-k.invariant.1) }
-
-pub overflow_add-k : goal.overflow_add-k
-overflow_add-k c = record { fits = omega (arith, pieces_few _ c.requires.0, c.piece_count-pieces.ensures) }
-
-pub loop-k-preserved : goal.loop-k-preserved
-loop-k-preserved c =
-    let p = c.loop-k in
-    let size = c.face_size-size.ensures ∙ ap face_size c.variables.ensures in
-    let f : SFits w32 (get_or c.args.table.now p.at (pos 0)) = search rules in
-    (omega arith, next_row _ _ size p.invariant.1, counted_more _ _ _ p.invariant.1 p.invariant.2 (rw (got32 _ f.sfits) at c.presence-count.ensures.0))
+pub count-requires-clause-can : goal.count-requires-clause-can
+count-requires-clause-can c = (
+  tt,
+  tt,
+  serves_from_Range (λ x q r. search (rules, tests)) (λ k a b.
+      let below : k < c.piece_count.result = omega (arith, ap (λ (r : Range ℕ). r.end) c.filter.ensures.source, b) in
+      let inside = key_inside c.args.model.now c.requires.0 c.variables.ensures c.face_size-size.ensures c.piece_count.ensures below in
+      let small = key_small c.args.model.now c.requires.0 c.variables.ensures c.face_size-size.ensures c.piece_count.ensures below in
+      search (rules, tests)),
+)
 
 pub returns : goal.returns
-returns c = counted_all _ c.requires.0 refl c.piece_count-pieces.ensures _ c.loop-k.invariant.0 c.loop-k-test.false c.loop-k.invariant.2
+returns c =
+    let a = c.args in
+    count_from_yields_List _ c.count.result c.count.ensures.ran
+    (YieldsList-from_filter _ (λ k. eq_z (word a.table.now (k * face_size (n# a.model.now))) (pos 1)) (YieldsList-from_range 0 c.piece_count.result (piece_count a.model.now) c.filter.ensures.source (omega (arith, c.piece_count.ensures))) c.filter.ensures.closure (λ k b q h.
+    let fits : SFits w32 (word a.table.now (k * face_size (n# a.model.now))) = search rules in
+    let size = c.face_size-size.ensures ∙ ap face_size c.variables.ensures in
+    let flag : b ≡ eqb (of_z w32 (word a.table.now (k * c.face_size-size.result))) 1 = search (rules, tests) in
+    (search (rules, tests), flag ∙ ap (λ (w : ℕ). eqb (of_z w32 (word a.table.now (k * w))) 1) size ∙ bits_eq _ (pos 1) fits (search rules))))
+    ∙ count_listed _ _ ∙ present_counted _ _
