@@ -45,43 +45,21 @@ fn read_full(input: &mut impl Read, buffer: &mut [u8]) -> io::Result<usize>
         if n == 0 {
             break;
         }
-        done = done + n;
+        done += n;
     }
     Ok(done)
 }
 
 // ---- what is written
 
-fn print(out: &impl Print, text: &[u8]) -> io::Result<()> {
-    out.write_all(text)
-}
-
-fn print_number(out: &impl Print, n: u64) -> io::Result<()> {
-    print!(out; "{n}")
-}
-
-fn print_word(out: &impl Print, z: i32) -> io::Result<()> {
-    print!(out; "{z}")
-}
-
-// What follows a word: a space, or the end of its line.
-fn print_end(out: &impl Print, last: bool) -> io::Result<()> {
-    if last {
-        print(out, b"\n")
-    } else {
-        print(out, b" ")
-    }
-}
-
 // A line of as many words, from a position of the file on.
 fn print_line(out: &impl Print, file: &[u8], from: usize, count: usize) -> io::Result<()>
     requires { from + payload_length count ≤ length file.now }
 {
-    let mut i: usize = 0;
-    while i < count {
-        print_word(out, wire::word_at(file, from + wire::WORD_SIZE * i))?;
-        i = i + 1;
-        print_end(out, i == count)?;
+    for i in 0..count {
+        let word = wire::word_at(file, from + wire::WORD_SIZE * i);
+        let end = if i + 1 == count { '\n' } else { ' ' };
+        print!(out; "{word}{end}")?;
     }
     Ok(())
 }
@@ -90,10 +68,9 @@ fn print_line(out: &impl Print, file: &[u8], from: usize, count: usize) -> io::R
 const COUNT_SIZE: usize = 1;
 
 // A line for each of as many fields of a table's file behind the first.
-fn print_pieces(out: &impl Print, file: &[u8], count: u64) -> io::Result<()> {
+fn print_pieces(out: &impl Print, file: &[u8], count: u32) -> io::Result<()> {
     let mut at = wire::field_length(COUNT_SIZE);
-    let mut i: u64 = 0;
-    while i < count {
+    for _ in 0..count {
         let field = wire::next_field(file, at);
         let files::Field::Whole {
             start,
@@ -106,7 +83,6 @@ fn print_pieces(out: &impl Print, file: &[u8], count: u64) -> io::Result<()> {
         };
         print_line(out, file, start, len / wire::WORD_SIZE)?;
         at = next;
-        i = i + 1;
     }
     Ok(())
 }
@@ -115,17 +91,17 @@ fn print_pieces(out: &impl Print, file: &[u8], count: u64) -> io::Result<()> {
 fn print_table(out: &impl Print, file: &[u8]) -> io::Result<()>
     requires { field_length 1 ≤ length file.now }
 {
-    print_line(out, file, wire::HEADER_SIZE, COUNT_SIZE)?;
-    let pieces = integers::magnitude(wire::word_at(file, wire::HEADER_SIZE) as i64);
+    let pieces = wire::word_at(file, wire::HEADER_SIZE).unsigned_abs();
+    println!(out; "{pieces}")?;
     print_pieces(out, file, pieces)
 }
 
 // The word for an answer's code.
-fn print_answer(out: &impl Print, code: u64) -> io::Result<()> {
+fn answer(code: u64) -> &'static str {
     match code {
-        100 => print(out, b"safe "),
-        101 => print(out, b"unknown "),
-        _ => print(out, b"unfinished "),
+        100 => "safe",
+        101 => "unknown",
+        _ => "unfinished",
     }
 }
 
@@ -134,13 +110,11 @@ fn print_listing(out: &impl Print, number: u64, table: &[u8]) -> io::Result<()>
 {
     let code = code(number);
     if code < 100 {
-        print(out, b"refused ")?;
-        print_number(out, code)?;
-        return print(out, b"\n");
+        return println!(out; "refused {code}");
     }
-    print_answer(out, code)?;
-    print_number(out, passes(number))?;
-    print(out, b" ")?;
+    let answer = answer(code);
+    let passes = passes(number);
+    print!(out; "{answer} {passes} ")?;
     print_table(out, table)
 }
 

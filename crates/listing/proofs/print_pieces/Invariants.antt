@@ -1,9 +1,0 @@
--- It ends, since each turn leaves fewer pieces.
-use Prim.Native.Nat.{◌-◌, ◌≤◌}
-use Rattle.listing.proofs.print_pieces.Given as goal
-
-abbrev pub invariant-loop-i : goal.invariant-loop-i
-invariant-loop-i g l = l.i ≤ l.count
-
-abbrev pub decreases-loop-i : goal.decreases-loop-i
-decreases-loop-i g l = l.count - l.i
