@@ -16,21 +16,22 @@ use Rattle.plant.specs.Steps.{low_after, high_after, box_after}
 use Rattle.plant.proofs.Boxes.{low-box_by, high-box_by}
 use Rattle.delays.proofs.Small.{in_levels}
 use Rattle.steps.proofs.Bounds.{low_after_word, high_after_word}
-use Rattle.passes.specs.Joining.{AfterJoin}
+use Rattle.passes.specs.declared.walls.Place.{Place}
+use Rattle.passes.specs.Placing.{AfterJoin, after}
 
-module _ (n : ℕ) (inv rate bounds : List ℤ) (d : ℕ) (b : ℤ) (t : Interval) (i : ℕ) (l : i < n) (ok : AfterJoin n inv rate bounds b t) {z : ℤ} where
-  module _ (is_low : z ≡ low_after n inv rate bounds d b t i) where
+module _ (p : Place) (bounds : List ℤ) (d : ℕ) (b : ℤ) (t : Interval) (i : ℕ) (l : i < p.n) (ok : AfterJoin p bounds b t) {z : ℤ} where
+  module _ (is_low : z ≡ low_after p.n p.invariant.now p.rate.now bounds d b t i) where
     pub low_fits : SFits w32 z
-    low_fits = rw is_low (fits32 (omega (arith, low_after_word n inv rate bounds d b t i (ok.inv_in i l) (ok.rate_in i l) (in_levels ok.inv_in ok.bounds_in i l) ok.wall_in ok.small)))
+    low_fits = rw is_low (fits32 (omega (arith, low_after_word p.n p.invariant.now p.rate.now bounds d b t i (p.levels i l) (p.rates i l) (in_levels p.levels ok.bounds_in i l) ok.wall_in ok.small)))
 
-    pub low_word : mag z < 9223372036854775808 → to_z w32 (of_z w32 (to_z w64 (of_z w64 z))) ≡ word (box_after n inv rate bounds d b t) (2 * i)
+    pub low_word : mag z < 9223372036854775808 → to_z w32 (of_z w32 (to_z w64 (of_z w64 z))) ≡ word (after p bounds d b t) (2 * i)
     unfolding low box_after
-    low_word u = rw (got64 z u, to_z-of_z low_fits) (is_low ∙ sym (low-box_by n (low_after n inv rate bounds d b t) (high_after n inv rate bounds d b t) i l))
+    low_word u = rw (got64 z u, to_z-of_z low_fits) (is_low ∙ sym (low-box_by p.n (low_after p.n p.invariant.now p.rate.now bounds d b t) (high_after p.n p.invariant.now p.rate.now bounds d b t) i l))
 
-  module _ (is_high : z ≡ high_after n inv rate bounds d b t i) where
+  module _ (is_high : z ≡ high_after p.n p.invariant.now p.rate.now bounds d b t i) where
     pub high_fits : SFits w32 z
-    high_fits = rw is_high (fits32 (omega (arith, high_after_word n inv rate bounds d b t i (ok.inv_in i l) (ok.rate_in i l) (in_levels ok.inv_in ok.bounds_in i l) ok.wall_in ok.small)))
+    high_fits = rw is_high (fits32 (omega (arith, high_after_word p.n p.invariant.now p.rate.now bounds d b t i (p.levels i l) (p.rates i l) (in_levels p.levels ok.bounds_in i l) ok.wall_in ok.small)))
 
-    pub high_word : mag z < 9223372036854775808 → to_z w32 (of_z w32 (to_z w64 (of_z w64 z))) ≡ word (box_after n inv rate bounds d b t) (2 * i + 1)
+    pub high_word : mag z < 9223372036854775808 → to_z w32 (of_z w32 (to_z w64 (of_z w64 z))) ≡ word (after p bounds d b t) (2 * i + 1)
     unfolding high box_after
-    high_word u = rw (got64 z u, to_z-of_z high_fits) (is_high ∙ sym (high-box_by n (low_after n inv rate bounds d b t) (high_after n inv rate bounds d b t) i l))
+    high_word u = rw (got64 z u, to_z-of_z high_fits) (is_high ∙ sym (high-box_by p.n (low_after p.n p.invariant.now p.rate.now bounds d b t) (high_after p.n p.invariant.now p.rate.now bounds d b t) i l))

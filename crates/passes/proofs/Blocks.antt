@@ -9,7 +9,7 @@ use lib.Seq.{take_at, drop_at, drop-drop}
 use borrow.Rule.Slice.PartMut.{mid_of, put_mid}
 use Rattle.integers.specs.Words.{onto}
 use Rattle.integers.specs.Counted.{cat, sum_below}
-use Rattle.integers.proofs.Buffers.{onto_none, onto_all, length-onto, cat_none, cat_more, length_cat_sum, cat_ext}
+use Rattle.integers.proofs.Buffers.{onto_none, onto_all, cat_none, cat_more, length_cat_sum, cat_ext}
 use Rattle.integers.proofs.Rows.{cat_add}
 
 -- a part in a list that is put together
@@ -71,9 +71,6 @@ module _ (w : ℕ → ℕ) (g : ℕ → List ℤ) (sized : (i : ℕ) → length 
 
   pub none_put : d ≡ onto (cat 0 g) d
   none_put = onto_none d ∙ ap (λ (s : List ℤ). onto s d) (sym (cat_none g))
-
-  pub put_length : (i : ℕ) {ws : List ℤ} → ws ≡ onto (cat i g) d → sum_below i w ≤ length d → length ws ≡ length d
-  put_length i e h = ap length e ∙ length-onto (cat i g) d (omega (arith, filled_length i))
 
   module _ (i : ℕ) {at end : ℕ} {ws : List ℤ} (filled : ws ≡ onto (cat i g) d) (at_is : at ≡ sum_below i w) (end_is : end ≡ at + w i) (inside : end ≤ length d) where
     -- the next one's place has still the words of d

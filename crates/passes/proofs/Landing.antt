@@ -17,15 +17,15 @@ use Rattle.integers.proofs.Counted.{sum_part}
 use Rattle.integers.proofs.Buffers.{length_cat_sum, cat_ext}
 use Rattle.plant.specs.Box.{Face, absent, on_box, face_words, join, joins}
 use Rattle.plant.specs.declared.Cut.{Cut}
-use Rattle.plant.specs.Model.{n#, L#, E#, source, target, wall_variable, target_side, uncut, cut_by, cut_of, variable_of}
+use Rattle.plant.specs.Model.{n#, L#, E#, source, target, wall_variable, target_side, cut_of, variable_of}
 use Rattle.plant.specs.Pieces.{Extent, extent_by, cut_to_extent, pieces_per_face, per_face, pieces, piece_number, piece_face}
 use Rattle.plant.specs.Steps.{switch_step}
 use Rattle.plant.specs.Tables.{face_size, piece_count, table_size, piece_at, table_by, piece_of, part_of, source_piece, target_face, switch_step_at, to_piece, switch_onto, walls_joined, switches_joined, new_piece, pass}
 use Rattle.plant.proofs.Pieces.{per_face_most, number_face, extent_number}
 use Rattle.plant.proofs.Tables.{location_words, words_before, piece_place, location_length, words_ends, begins_itself, piece_read, table_ext, table_length}
-use Rattle.tables.specs.Room.{faces_by, AreFaces, cut_each}
+use Rattle.tables.specs.Room.{faces_by, AreFaces, joined_each, cut_each}
 use Rattle.tables.proofs.Faces.{join_absent}
-use Rattle.passes.specs.Joining.{IsTable, location_by, landing, landed_on, with_switch, joined_below}
+use Rattle.passes.specs.Joining.{IsTable, location_by, landed_on, with_landed, with_switch, joined_below}
 use Rattle.passes.proofs.Joined.{join_ends}
 use Rattle.passes.proofs.Blocks.{put_between, mid_between, cat_one, Differ, differ}
 use Rattle.passes.proofs.Locations.{faces_length, are_faces, each_joined}
@@ -115,17 +115,17 @@ first_small m e u v =
     let b : target_first m e ≤ 12 * 2 = mul-le-mul a (per_face_most m (target m e)) in
     omega arith
 
-module _ (m t : List ℤ) (e k : ℕ) where
-  lands_there : target_side m e ≤ 1 → (j : ℕ) → j < per_face m (target m e) → cut_each (n# m) (cut_of m (target m e)) (wall_variable m e) (landing m t e k) j ≡ switch_onto m t (target m e) (target_first m e + j) e k
-  unfolding switch_onto to_piece piece_number
+module _ (m : List ℤ) (e : ℕ) (g : Face) where
+  lands_there : target_side m e ≤ 1 → (j : ℕ) → j < per_face m (target m e) → cut_each (n# m) (cut_of m (target m e)) (wall_variable m e) (g) j ≡ landed_on m e g (target m e) (target_first m e + j)
+  unfolding to_piece piece_number
   lands_there s j u = sym (
       ap (λ (b : Bool). cond (b && eqb (target_face m e) (piece_face m (target m e) (target_first m e + j))) onto absent) (eq-eqb (target m e) (target m e) refl)
       ∙ ap (λ (b : Bool). cond b onto absent) (eq-eqb (target_face m e) (piece_face m (target m e) (target_first m e + j)) (sym (number_face m (target m e) (target_face m e) j u)))
-      ∙ ap (λ (x : Extent). on_box (landing m t e k) (cut_to_extent (n# m) x)) (extent_number m (target m e) (target_face m e) j u)
-      ∙ ap (λ (d : ℕ). on_box (landing m t e k) (cut_to_extent (n# m) (extent_by (cut_of m (target m e)) d j))) half)
+      ∙ ap (λ (x : Extent). on_box (g) (cut_to_extent (n# m) x)) (extent_number m (target m e) (target_face m e) j u)
+      ∙ ap (λ (d : ℕ). on_box (g) (cut_to_extent (n# m) (extent_by (cut_of m (target m e)) d j))) half)
     where
       onto : Face
-      onto = to_piece m (target m e) (target_first m e + j) (landing m t e k)
+      onto = to_piece m (target m e) (target_first m e + j) (g)
 
       half : variable_of (target_face m e) ≡ wall_variable m e
       half = omega arith
@@ -135,8 +135,8 @@ module _ (m t : List ℤ) (e k : ℕ) where
   by_tests true false x h = refl
   by_tests false b x h = refl
 
-  lands_nowhere_else : (l q : ℕ) → (l ≡ target m e → target_first m e ≤ q → q < target_first m e + per_face m (target m e) → ⊥) → switch_onto m t l q e k ≡ absent
-  unfolding switch_onto piece_face per_face
+  lands_nowhere_else : (l q : ℕ) → (l ≡ target m e → target_first m e ≤ q → q < target_first m e + per_face m (target m e) → ⊥) → landed_on m e g l q ≡ absent
+  unfolding piece_face per_face
   lands_nowhere_else l q h = by_tests (eqb (target m e) l) (eqb (target_face m e) (piece_face m l q)) _ (λ a b. not_there (sym (eqb→eq (target m e) l a)) (sym (eqb→eq (target_face m e) (piece_face m l q) b)))
     where
       not_there : l ≡ target m e → piece_face m l q ≡ target_face m e → ⊥
@@ -145,12 +145,12 @@ module _ (m t : List ℤ) (e k : ℕ) where
           h a r.0 r.1
 
 -- a table whose words are those of its pieces, of which some words at a place are the pieces on which switch e lands
-module _ (m t : List ℤ) (e k : ℕ) (u : target m e < L# m) (v : target_face m e < 2 * n# m) (s : target_side m e ≤ 1) (out : List ℤ) (table : IsTable m out) where
+module _ (m : List ℤ) (e : ℕ) (g : Face) (u : target m e < L# m) (v : target_face m e < 2 * n# m) (s : target_side m e ≤ 1) (out : List ℤ) (table : IsTable m out) where
   abbrev landed_piece : ℕ → ℕ → Face
-  landed_piece l q = join (n# m) (piece_of m out l q) (switch_onto m t l q e k)
+  landed_piece l q = join (n# m) (piece_of m out l q) (landed_on m e g l q)
 
   elsewhere : (l q : ℕ) → (l ≡ target m e → target_first m e ≤ q → q < target_first m e + per_face m (target m e) → ⊥) → piece_of m out l q ≡ landed_piece l q
-  elsewhere l q h = sym (ap (join (n# m) (piece_of m out l q)) (lands_nowhere_else m t e k l q h) ∙ join_absent (n# m) (piece_of m out l q))
+  elsewhere l q h = sym (ap (join (n# m) (piece_of m out l q)) (lands_nowhere_else m e g l q h) ∙ join_absent (n# m) (piece_of m out l q))
 
   there : target_first m e + per_face m (target m e) ≤ pieces m (target m e)
   unfolding pieces
@@ -172,12 +172,12 @@ module _ (m t : List ℤ) (e k : ℕ) (u : target m e < L# m) (v : target_face m
     pub target_are_pieces : AreFaces (n# m) (per_face m (target m e)) (mid_of at w out)
     target_are_pieces = are_faces (n# m) (per_face m (target m e)) (λ j. piece_of m out (target m e) (target_first m e + j)) target_words
 
-    landed_words : landed_on m t e k (mid_of at w out) ≡ faces_by (n# m) (per_face m (target m e)) (λ j. landed_piece (target m e) (target_first m e + j))
+    landed_words : joined_each (n# m) (per_face m (target m e)) (mid_of at w out) (cut_each (n# m) (cut_of m (target m e)) (wall_variable m e) g) ≡ faces_by (n# m) (per_face m (target m e)) (λ j. landed_piece (target m e) (target_first m e + j))
     landed_words =
-        each_joined (n# m) (per_face m (target m e)) (λ j. piece_of m out (target m e) (target_first m e + j)) target_words (cut_each (n# m) (cut_of m (target m e)) (wall_variable m e) (landing m t e k))
-        ∙ cat_ext (per_face m (target m e)) _ _ (λ j x. ap (λ (y : Face). face_words (n# m) (join (n# m) (piece_of m out (target m e) (target_first m e + j)) y)) (lands_there m t e k s j x))
+        each_joined (n# m) (per_face m (target m e)) (λ j. piece_of m out (target m e) (target_first m e + j)) target_words (cut_each (n# m) (cut_of m (target m e)) (wall_variable m e) (g))
+        ∙ cat_ext (per_face m (target m e)) _ _ (λ j x. ap (λ (y : Face). face_words (n# m) (join (n# m) (piece_of m out (target m e) (target_first m e + j)) y)) (lands_there m e g s j x))
 
-    pub landed : {words : List ℤ} → words ≡ landed_on m t e k (mid_of at w out) → put_mid at w out words ≡ with_switch m t e k out
+    pub landed : {words : List ℤ} → words ≡ joined_each (n# m) (per_face m (target m e)) (mid_of at w out) (cut_each (n# m) (cut_of m (target m e)) (wall_variable m e) g) → put_mid at w out words ≡ with_landed m e g out
     landed h = rw (h, landed_words, at_is, w-is)
         (ap (λ (x : List ℤ). put_mid (piece_at m (target m e) (target_first m e)) (per_face m (target m e) * face_size (n# m)) x (faces_by (n# m) (per_face m (target m e)) (λ j. landed_piece (target m e) (target_first m e + j)))) (sym table)
         ∙ pieces_put m (piece_of m out) landed_piece (target m e) (target_first m e) (per_face m (target m e)) u there elsewhere)
@@ -223,25 +223,28 @@ module _ (m t : List ℤ) where
       all : 0 + 1 ≡ per_face m (source m e)
       all = omega (arith, one)
 
--- ---- an absent piece lands nothing
+-- ---- a step that gives nothing lands nothing
 
-module _ (m t : List ℤ) (e k : ℕ) (gone : part_of m t (source m e) (source_piece m e k + 1) ≡ absent) where
-  piece_gone : piece_of m t (source m e) (source_piece m e k) ≡ absent
-  unfolding part_of
-  piece_gone = ap (part_of m t (source m e)) (sym (add-one (source_piece m e k))) ∙ gone
+pub nothing_landed : (m : List ℤ) (e : ℕ) {g : Face} → g ≡ absent → {out : List ℤ} → IsTable m out → out ≡ with_landed m e g out
+unfolding to_piece
+nothing_landed m e {g} gone {out} is =
+    sym is
+    ∙ table_ext m (piece_of m out) (λ l q. join (n# m) (piece_of m out l q) (landed_on m e g l q))
+    (λ l q u v. ap (face_words (n# m)) (sym (ap (join (n# m) (piece_of m out l q)) (nothing l q) ∙ join_absent (n# m) (piece_of m out l q))))
+  where
+    either : (b : Bool) (l q : ℕ) → cond b (to_piece m l q absent) absent ≡ absent
+    either true l q = refl
+    either false l q = refl
 
-  onto_gone : (l q : ℕ) → switch_onto m t l q e k ≡ absent
-  unfolding switch_onto switch_step_at switch_step to_piece
-  onto_gone l q =
-      ap (λ (g : Face). cond (eqb (target m e) l && eqb (target_face m e) (piece_face m l q)) (to_piece m l q (switch_step_at m e g)) absent) piece_gone
-      ∙ either (eqb (target m e) l && eqb (target_face m e) (piece_face m l q))
-    where
-      either : (b : Bool) → cond b (to_piece m l q (switch_step_at m e absent)) absent ≡ absent
-      either true = refl
-      either false = refl
+    nothing : (l q : ℕ) → landed_on m e g l q ≡ absent
+    nothing l q = ap (λ (g : Face). landed_on m e g l q) gone ∙ either (eqb (target m e) l && eqb (target_face m e) (piece_face m l q)) l q
 
-  pub nothing_landed : {out : List ℤ} → IsTable m out → out ≡ with_switch m t e k out
-  nothing_landed {out} is =
-      sym is
-      ∙ table_ext m (piece_of m out) (λ l q. join (n# m) (piece_of m out l q) (switch_onto m t l q e k))
-      (λ l q u v. ap (face_words (n# m)) (sym (ap (join (n# m) (piece_of m out l q)) (onto_gone l q) ∙ join_absent (n# m) (piece_of m out l q))))
+-- what switch e lands from piece k of its source's face
+module _ (m t : List ℤ) (e k : ℕ) where
+  pub landed_from : {g : Face} → g ≡ part_of m t (source m e) (source_piece m e k + 1) → (out : List ℤ) {exit : List ℤ} → exit ≡ with_landed m e (switch_step_at m e g) out → exit ≡ with_switch m t e k out
+  unfolding switch_onto part_of
+  landed_from part_is out h = h ∙ rw (part_is, add-one (source_piece m e k)) refl
+
+  pub step_none : {g : Face} → g ≡ absent → switch_step_at m e g ≡ absent
+  unfolding switch_step_at switch_step
+  step_none gone = rw gone refl

@@ -16,7 +16,6 @@ use Rattle.integers.proofs.Buffers.{cat_at, length-cat, cat_ext}
 use Rattle.integers.proofs.Rows.{cat_groups}
 use Rattle.plant.specs.Box.{Face, face_words, join}
 use Rattle.plant.specs.declared.Cut.{Cut}
-use Rattle.plant.specs.Model.{uncut, cut_by}
 use Rattle.plant.specs.Pieces.{pieces_per_face}
 use Rattle.plant.specs.Tables.{face_size, face_read}
 use Rattle.plant.proofs.Boxes.{length_face}

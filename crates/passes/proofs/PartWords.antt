@@ -131,9 +131,8 @@ module _ (m : List ℤ) (l : ℕ) where
   start_gone e = rw (not_one e) refl
 
 -- words that give a part whose box has P
-pub is_part_ok : (n : ℕ) (P : List ℤ → Type 0) (words : List ℤ) (part : Face) → n ≤ 6 → IsPart n words part → FaceAll P part → PartOk n P words
-is_part_ok n P words part small p h = record {
-  n_small = small;
+pub is_part_ok : (n : ℕ) (P : List ℤ → Type 0) (words : List ℤ) (part : Face) → IsPart n words part → FaceAll P part → PartOk n P words
+is_part_ok n P words part p h = record {
   sized = p.sized;
   has = λ e. subst (FaceAll P) (sym p.gives ∙ part_there n words e) h;
 }

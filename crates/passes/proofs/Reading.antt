@@ -2,32 +2,29 @@
 -- in their words.
 use Rattle.std.specs.Prelude.{Option, Some, None}
 use mathlib.Core.Path.{◌≡◌, refl, sym, ap, ◌∙◌}
-use mathlib.Core.Logic.{inl, inr, ⊎_elim}
 use mathlib.Core.List.{List}
-use Prim.Native.Nat.{ℕ, ◌+◌, ◌*◌, ◌<◌, ◌≤◌}
+use Prim.Native.Nat.{ℕ, ◌+◌, ◌*◌, ◌/◌, ◌%◌, ◌<◌, ◌≤◌}
 use native.Mathlib.Numerals.{add-one}
 use native.Mathlib.Omega.{arith}
-use lib.IntN.{ℤ, pos, negsuc}
+use lib.IntN.{ℤ}
 use lib.ListN.{length, take, drop, get_or}
 use Rattle.integers.specs.Words.{word}
 use Rattle.integers.specs.Counted.{cat, sum_below}
 use Rattle.integers.proofs.Tests.{true_is}
 use Rattle.integers.proofs.Counted.{sum_back, sum_part, sum_same}
 use Rattle.integers.proofs.Buffers.{cat_parts, cat_ext}
-use Rattle.integers.proofs.Rows.{sum_upto}
-use Rattle.plant.specs.Box.{Face, face_words, join, joins}
+use Rattle.plant.specs.Box.{Face, face_words, join, joins, on_box}
 use Rattle.plant.specs.declared.Cut.{Cut}
-use Rattle.plant.specs.Model.{n#, L#, E#, invariant, rate, source, target, wall_variable, reset_mask, guard, reset, variable_of, side_of, face_wall, cut_of}
+use Rattle.plant.specs.Model.{n#, L#, E#, invariant, rate, source, target, guard, reset, variable_of, side_of, face_wall, cut_of}
 use Rattle.plant.specs.Pieces.{pieces_per_face, per_face, pieces, piece_face, piece_index, piece_variable, piece_extent}
-use Rattle.plant.specs.Steps.{switch_step}
-use Rattle.plant.specs.Tables.{face_size, pieces_before, piece_count, table_size, piece_at, table_by, face_read, piece_of, start_part, part_of, to_piece, wall_step_at, wall_from, walls_joined, switch_step_at, source_face, source_piece, target_face}
+use Rattle.plant.specs.Steps.{wall_step}
+use Rattle.plant.specs.Tables.{face_size, pieces_before, piece_count, table_size, piece_at, table_by, face_read, piece_of, start_part, part_of, to_piece, wall_step_at, wall_from, walls_joined, source_face, source_piece, target_face}
 use Rattle.plant.proofs.Passed.{SwitchPassed, CutInside, Passed, passed}
-use Rattle.plant.proofs.PieceCases.{cut_some, two_per_face, before_more}
+use Rattle.plant.proofs.PieceCases.{before_more}
 use Rattle.plant.proofs.Pieces.{number_below}
 use Rattle.plant.proofs.Tables.{location_words, words_before, piece_place, location_length, words_of}
 use Rattle.delays.specs.Ranges.{Levels, InInvariant}
-use Rattle.tables.specs.Places.{Places}
-use Rattle.tables.specs.Room.{AreFaces, joined_each, cut_each, CutBelow}
+use Rattle.tables.specs.Room.{cut_each, CutBelow}
 use Rattle.tables.proofs.Faces.{table_most}
 use Rattle.tables.proofs.Sizes.{before_most}
 use Rattle.plant.proofs.Whole.{Whole, Placed}
@@ -36,8 +33,12 @@ use Rattle.records.proofs.Walls.{wall_at}
 use Rattle.plant.proofs.Passing.{whole_passed, switch_placed}
 use Rattle.passes.specs.Checked.{Checked}
 use Rattle.passes.specs.Parts.{IsPart}
-use Rattle.passes.specs.Joining.{PartOk, Located, NoCut, pieces_with, PartJoin, StartJoin, SwitchJoin, walls_from, location_by, landed_on}
-use Rattle.passes.proofs.PartWords.{levels_from, invariant_in, rate_in, piece_part, part-within, part_levels, is_part_ok}
+use Rattle.passes.specs.declared.given.Given.{Given}
+use Rattle.passes.specs.declared.walls.Place.{Place}
+use Rattle.passes.specs.Joining.{PartOk, Located, NoCut, location_by}
+use Rattle.passes.specs.Placing.{IsPlace, IsBlock, with_walls}
+use Rattle.steps.specs.Ready.{SwitchReady}
+use Rattle.passes.proofs.PartWords.{place_is, levels_from, invariant_in, piece_part, part-within, part_levels, is_part_ok}
 use Rattle.plant.proofs.FaceWords.{piece_words_lem}
 use Rattle.passes.proofs.Locations.{are_faces, each_joined}
 
@@ -46,13 +47,6 @@ pub wall-word : (m : List ℤ) (l f : ℕ) → face_wall m l f ≡ word (invaria
 unfolding face_wall
 wall-word m l f = sym (wall_at (invariant m l) (variable_of f) (side_of f) (omega arith)) ∙ ap (word (invariant m l)) (omega arith)
 
--- what was read of location l: the number of variables, invariant, rate and cut
-pub record LocationRead (m : List ℤ) (l n : ℕ) (inv rates : List ℤ) (cut : Option Cut) : Type 0 where
-  pub n_is : n ≡ n# m
-  pub inv_is : inv ≡ invariant m l
-  pub rate_is : rates ≡ rate m l
-  pub cut_is : cut ≡ cut_of m l
-
 -- a cut by its number of pieces, and by its place inside the invariant
 
 none_of : (c : Option Cut) → pieces_per_face c ≡ 1 → c ≡ None
@@ -60,7 +54,7 @@ unfolding pieces_per_face
 none_of None e = refl
 none_of (Some cut) e = absurd (omega arith)
 
-below_of : (n : ℕ) (inv : List ℤ) (c : Option Cut) → CutInside n inv c → CutBelow n c
+pub below_of : (n : ℕ) (inv : List ℤ) (c : Option Cut) → CutInside n inv c → CutBelow n c
 below_of n inv None h = tt
 below_of n inv (Some cut) h = h.0
 
@@ -98,17 +92,14 @@ module _ (m t : List ℤ) (ok : Checked m t) where
   pub placed : (e : ℕ) → e < E# m → Placed m e
   placed e l = switch_placed m model_passed e l
 
-  cut_below : (l : ℕ) → l < L# m → CutBelow (n# m) (cut_of m l)
-  cut_below l u = below_of (n# m) (invariant m l) (cut_of m l) (model_passed.of_cut l u).inside
-
   -- ---- the parts of a location
 
   module _ (l p : ℕ) (u : l < L# m) (v : p ≤ pieces m l) {words : List ℤ} (h : IsPart (n# m) words (part_of m t l p)) where
-    part_inside : PartOk (n# m) (InInvariant (n# m) (invariant m l)) words
-    part_inside = is_part_ok (n# m) (InInvariant (n# m) (invariant m l)) words (part_of m t l p) model_passed.n_small h (part-within m model_passed l u t ok.ready.room (true_is ok.valid) p v)
+    pub part_inside : PartOk (n# m) (InInvariant (n# m) (invariant m l)) words
+    part_inside = is_part_ok (n# m) (InInvariant (n# m) (invariant m l)) words (part_of m t l p) h (part-within m model_passed l u t ok.ready.room (true_is ok.valid) p v)
 
-    part_ok : PartOk (n# m) (Levels (n# m)) words
-    part_ok = is_part_ok (n# m) (Levels (n# m)) words (part_of m t l p) model_passed.n_small h (part_levels m model_passed l u t ok.ready.room (true_is ok.valid) p v)
+    pub part_ok : PartOk (n# m) (Levels (n# m)) words
+    part_ok = is_part_ok (n# m) (Levels (n# m)) words (part_of m t l p) h (part_levels m model_passed l u t ok.ready.room (true_is ok.valid) p v)
 
   -- piece q of location l, whose words code has
   pub piece_is_part : (l q : ℕ) → l < L# m → q < pieces m l → {n at : ℕ} → n ≡ n# m → at ≡ piece_at m l q → {words : List ℤ} → words ≡ take (face_size n) (drop at t) → IsPart (n# m) words (part_of m t l (q + 1))
@@ -143,58 +134,36 @@ module _ (m t : List ℤ) (ok : Checked m t) where
     unfolding walls_joined
     joined_all = rw (add-one (pieces m l))
 
-    pub joined_length : (p : ℕ) → length (joined_to p) ≡ location_words m l
-    joined_length p = location_length m (λ l q. joins (n# m) p (wall_from m t l q) (piece_of m t l q)) l
+    module _ {p : Place} (r : IsPlace m l p) where
+      -- part k, once its steps are joined
+      module _ (k : ℕ) {block : List ℤ} (block-is : block ≡ joined_to k) where
+        pub is_block : IsBlock p block
+        unfolding pieces per_face
+        is_block = rw (r.n_is, r.cut_is) (are_faces (n# m) (pieces m l) (λ q. joins (n# m) k (wall_from m t l q) (piece_of m t l q)) block-is)
 
-    module _ {n : ℕ} {inv rates : List ℤ} {cut : Option Cut} (r : LocationRead m l n inv rates cut) where
-      -- part p, once its steps are joined
-      module _ (p : ℕ) {block : List ℤ} (block-is : block ≡ joined_to p) (g : Face) (part_is : g ≡ part_of m t l p) where
-        walls_are : (q : ℕ) → walls_from (n# m) (invariant m l) (rate m l) (cut_of m l) g q ≡ wall_from m t l q p
-        unfolding wall_from to_piece wall_step_at piece_extent piece_variable piece_face piece_index per_face
-        walls_are q = rw (← (wall-word m l (piece_face m l q)), part_is) refl
+        module _ {g : Face} (part_is : g ≡ part_of m t l k) where
+          walls_are : (q : ℕ) → cut_each (n# m) (cut_of m l) (variable_of (q / per_face m l)) (on_box g (λ b. wall_step (n# m) (invariant m l) (rate m l) b (variable_of (q / per_face m l)) (word (invariant m l) (q / per_face m l)))) (q % per_face m l) ≡ wall_from m t l q k
+          unfolding wall_from to_piece wall_step_at piece_extent piece_variable piece_face piece_index per_face
+          walls_are q = rw (← (wall-word m l (piece_face m l q)), part_is) refl
 
-        joined_next : {exit : List ℤ} → exit ≡ joined_each n (pieces_with n cut) block (walls_from n inv rates cut g) → exit ≡ joined_to (p + 1)
-        unfolding joins pieces per_face
-        joined_next k = rw (add-one p)
-            (k ∙ rw (r.n_is, r.inv_is, r.rate_is, r.cut_is) (each_joined (n# m) (pieces m l) (λ q. joins (n# m) p (wall_from m t l q) (piece_of m t l q)) block-is (walls_from (n# m) (invariant m l) (rate m l) (cut_of m l) g))
-            ∙ cat_ext (pieces m l) _ _ (λ q v. ap (λ (x : Face). face_words (n# m) (join (n# m) (joins (n# m) p (wall_from m t l q) (piece_of m t l q)) x)) (walls_are q)))
+          pub joined_next : {exit : List ℤ} → exit ≡ with_walls p g block → exit ≡ joined_to (k + 1)
+          unfolding joins pieces per_face
+          joined_next e = rw (add-one k)
+              (e ∙ rw (r.n_is, r.invariant_is, r.rate_is, r.cut_is) (each_joined (n# m) (pieces m l) (λ q. joins (n# m) k (wall_from m t l q) (piece_of m t l q)) block-is _)
+              ∙ cat_ext (pieces m l) _ _ (λ q v. ap (λ (x : Face). face_words (n# m) (join (n# m) (joins (n# m) k (wall_from m t l q) (piece_of m t l q)) x)) (walls_are q)))
 
       -- the start part, before all others
-      module _ {block : List ℤ} (block-is : block ≡ location_by m l (piece_of m t l)) where
-        pub start_join : StartJoin m l n inv rates cut block
-        unfolding pieces per_face
-        start_join = rw (r.n_is, r.inv_is, r.rate_is, r.cut_is) (record {
-          passes = ok.ready.passes;
-          below = u;
-          n_is = refl;
-          n_small = model_passed.n_small;
-          inv_is = refl;
-          inv_in = invariant_in m model_passed l u;
-          rate_in = rate_in m model_passed l u;
-          rate_ordered = (model_passed.of_location l u).rate_ordered;
-          cut_below = cut_below l u;
-          are_pieces = are_faces (n# m) (pieces m l) (piece_of m t l) block-is;
-        })
-
-        pub start_joined : {exit : List ℤ} → exit ≡ joined_each n (pieces_with n cut) block (walls_from n inv rates cut (start_part m l)) → exit ≡ joined_to 1
-        unfolding part_of
-        start_joined = joined_next 0 (joined_none block-is) (start_part m l) refl
+      pub start_joined : {block exit : List ℤ} → block ≡ location_by m l (piece_of m t l) → exit ≡ with_walls p (start_part m l) block → exit ≡ joined_to 1
+      unfolding part_of
+      start_joined e = joined_next 0 (joined_none e) refl
 
       -- a part whose words code has
-      module _ (p : ℕ) {part block : List ℤ} (part_is : IsPart (n# m) part (part_of m t l p)) (block-is : block ≡ joined_to p) where
-        pub part_join : p ≤ pieces m l → PartJoin n inv rates part cut block
-        unfolding pieces per_face
-        part_join w = rw (r.n_is, r.inv_is, r.rate_is, r.cut_is) (record {
-          inv_in = invariant_in m model_passed l u;
-          rate_in = rate_in m model_passed l u;
-          rate_ordered = (model_passed.of_location l u).rate_ordered;
-          part_ok = part_inside l p u w part_is;
-          cut_below = cut_below l u;
-          are_pieces = are_faces (n# m) (pieces m l) (λ q. joins (n# m) p (wall_from m t l q) (piece_of m t l q)) block-is;
-        })
+      module _ (k : ℕ) (v : k ≤ pieces m l) {part : List ℤ} (part_is : IsPart (n# m) part (part_of m t l k)) where
+        pub part_lies : PartOk p.n (InInvariant p.n p.invariant.now) part
+        part_lies = rw (r.n_is, r.invariant_is) (part_inside l k u v part_is)
 
-        pub joined_more : {exit : List ℤ} → exit ≡ joined_each n (pieces_with n cut) block (walls_from n inv rates cut (face_read n part 0)) → exit ≡ joined_to (p + 1)
-        joined_more = joined_next p block-is (face_read n part 0) (rw r.n_is part_is.gives)
+        pub joined_more : {block exit : List ℤ} → block ≡ joined_to k → exit ≡ with_walls p (face_read p.n part 0) block → exit ≡ joined_to (k + 1)
+        joined_more e = joined_next k e (rw r.n_is part_is.gives)
 
   -- ---- the step of switch e
 
@@ -214,25 +183,21 @@ module _ (m t : List ℤ) (ok : Checked m t) where
   unfolding per_face
   lands_uncut none e u = sym (none_of (cut_of m (target m e)) (none.one_each (target m e) (placed e u).target_is))
 
-  module _ (e k : ℕ) (u : e < E# m) (v : k < per_face m (source m e)) {n : ℕ} {gs rs inv from : List ℤ} {cut : Option Cut} (n_is : n ≡ n# m) (guard-is : gs ≡ guard m e) (reset-is : rs ≡ reset m e) (inv_is : inv ≡ invariant m (target m e))
-      (from_is : IsPart (n# m) from (part_of m t (source m e) (source_piece m e k + 1))) (cut_is : cut ≡ cut_of m (target m e)) where
-    pub switch_join : {words : List ℤ} → AreFaces (n# m) (per_face m (target m e)) words → SwitchJoin n gs rs inv from cut words
-    unfolding per_face
-    switch_join w =
-        let p : Placed m e = placed e u in
-        let s : SwitchPassed m e = model_passed.of_switch e u in
-        rw (n_is, guard-is, reset-is, inv_is, cut_is) (record {
-          guard_in = levels_from (n# m) (guard m e) (length-guard m whole e u) s.guard_levels;
-          reset_in = levels_from (n# m) (reset m e) (length-reset m whole e u) s.reset_levels;
-          inv_in = invariant_in m model_passed (target m e) p.target_is;
-          from_ok = part_ok (source m e) (source_piece m e k + 1) p.source_is (omega (arith, source_below e k u v)) from_is;
-          cut_below = cut_below (target m e) p.target_is;
-          are_pieces = w;
-        })
+  -- the box of a piece of its source's face
+  pub source_levels : (e k : ℕ) → e < E# m → k < per_face m (source m e) → {from : List ℤ} → IsPart (n# m) from (part_of m t (source m e) (source_piece m e k + 1)) → PartOk (n# m) (Levels (n# m)) from
+  source_levels e k u v = part_ok (source m e) (source_piece m e k + 1) (placed e u).source_is (omega (arith, source_below e k u v))
 
-    pub step_joined : {mask d : ℕ} → mask ≡ reset_mask m e → d ≡ wall_variable m e → (words : List ℤ) {exit : List ℤ} → exit ≡ joined_each n (pieces_per_face cut) words (cut_each n cut d (switch_step n mask gs rs inv (face_read n from 0))) → exit ≡ landed_on m t e k words
-    unfolding switch_step_at part_of per_face
-    step_joined mask_is d-is words h = h ∙ rw (n_is, mask_is, d-is, guard-is, reset-is, inv_is, cut_is, from_is.gives, add-one (source_piece m e k)) refl
+  -- its records are boxes of levels
+  pub switch_ready : (e : ℕ) → e < E# m → {bounds out : List ℤ} → Levels (n# m) bounds → 2 * n# m ≤ length out → SwitchReady (n# m) (guard m e) (reset m e) (invariant m (target m e)) bounds out
+  switch_ready e u b room =
+      let s : SwitchPassed m e = model_passed.of_switch e u in
+      record {
+        guard_in = levels_from (n# m) (guard m e) (length-guard m whole e u) s.guard_levels;
+        reset_in = levels_from (n# m) (reset m e) (length-reset m whole e u) s.reset_levels;
+        inv_in = invariant_in m model_passed (target m e) (placed e u).target_is;
+        from_in = b;
+        room = room;
+      }
 
 -- ---- the locations, one after the other
 
@@ -250,13 +215,16 @@ module _ (m t : List ℤ) (ok : Checked m t) where
   pub table_small : table_size m ≤ 19968
   table_small = table_most m (whole m t ok).head
 
--- how many pieces stand before location l, as code has it
-module _ (m t : List ℤ) (ok : Checked m t) (places : List ℕ) (p : Places m places) (l : ℕ) (u : l ≤ L# m) where
-  pub place_there : l < length places
-  place_there = omega (arith, p.long, (whole m t ok).head.L_small)
+-- how many pieces stand before location k, and where a piece of it begins, as code has it
+module _ (g : Given) {l k : ℕ} (l_is : l ≡ k) (u : k ≤ L# g.model.now) where
+  pub before_is : get_or g.places.now l 0 ≡ pieces_before g.model.now k
+  before_is = rw l_is (g.counted.each k u)
 
-  pub place_small : get_or places l 0 ≤ 1536
-  place_small = omega (arith, p.each l u, before_most m (whole m t ok).head l u)
+  pub before_small : get_or g.places.now l 0 ≤ 1536
+  before_small = omega (arith, before_is, before_most g.model.now g.whole.head k u)
+
+  pub piece_begins : {n q p at : ℕ} → n ≡ n# g.model.now → q ≡ p → at ≡ (get_or g.places.now l 0 + q) * face_size n → at ≡ piece_at g.model.now k p
+  piece_begins {n} {q} {p} n_is q_is h = place_is g.model.now k q n_is before_is h ∙ ap (piece_at g.model.now k) q_is
 
 module _ (m : List ℤ) where
   -- the words of location l: where they begin and end, by what code has
@@ -275,6 +243,3 @@ module _ (m : List ℤ) where
   pub table_sized : {k : ℕ} → k ≡ table_size m → k ≡ sum_below (L# m) (location_words m)
   unfolding table_size piece_count
   table_sized h = h ∙ sym (words_before m (L# m))
-
-  pub table_within : (l : ℕ) → l ≤ L# m → {k : ℕ} → k ≡ table_size m → sum_below l (location_words m) ≤ k
-  table_within l u h = omega (arith, table_sized h, sum_upto (L# m) (location_words m) l u)

@@ -7,10 +7,12 @@ ghost use Rattle.plant.specs.Tables as T;
 ghost use Rattle.tables.specs.Places.{Places};
 ghost use Rattle.passes.specs.Checked.{Checked};
 
+mod given;
 mod parts;
 mod switches;
 mod walls;
 
+use given::Given;
 pub use parts::start_part;
 
 // A pass: writes to `out` the table after it, each piece joined with every wall step and every switch step from `table`, cut to
@@ -19,6 +21,11 @@ pub fn pass<'a>(model: &'a [i32], places: &[usize], table: &'a [i32], out: &mut 
     requires { Checked model.now table.now × Places model.now places.now × (length out.old ≡ T.table_size model.now) }
     ensures { out.new ≡ T.pass model.now table.now }
 {
-    walls::walls(model, places, table, out);
-    switches::switches(model, places, table, out);
+    let given = Given {
+        model,
+        places,
+        table,
+    };
+    given.walls(out);
+    given.switches(out);
 }

@@ -1,174 +1,129 @@
 // The switch steps of a pass: each from a piece of the source's face of the table before the pass, given to the pieces of the
 // target's face.
-ghost use Rattle.std.specs.Prelude.{◌≡◌, ◌+◌, ◌<◌};
+ghost use Rattle.std.specs.Prelude.{◌≡◌, ◌+◌, ◌*◌, ◌<◌, ◌≤◌, length};
+ghost use Rattle.plant.specs.Box.{Ordered, present};
 ghost use Rattle.plant.specs.Model.{n#, E#, source, target, cut_of};
-ghost use Rattle.plant.specs.Pieces.{pieces_per_face, per_face};
-ghost use Rattle.plant.specs.Steps.{switch_step};
 ghost use Rattle.plant.specs.Tables as T;
-ghost use Rattle.plant.specs.Tables.{table_by, face_read, source_piece, walls_joined};
-ghost use Rattle.tables.specs.Places.{Places};
-ghost use Rattle.tables.specs.Room.{AreFaces, joined_each, cut_each};
-ghost use Rattle.passes.specs.Checked.{Checked};
+ghost use Rattle.plant.specs.Tables.{table_by, source_piece, switch_step_at, walls_joined};
+ghost use Rattle.delays.specs.Ranges.{Levels};
+ghost use Rattle.steps.specs.Handing.{Handed};
 ghost use Rattle.passes.specs.Parts.{IsPart};
-ghost use Rattle.passes.specs.Joining.{SwitchJoin, Leaves, NoCut, IsTable, landed_on, with_switch, joined_below};
+ghost use Rattle.passes.specs.Joining.{Leaves, NoCut, IsTable, with_landed, with_switch, joined_below};
 
+use super::given::Given;
 use plant::Cut;
 
-// Joins to the pieces of a face of wall variable d the switch step from a piece of the source's face.
-fn join_switch(
-    n: usize,
-    mask: usize,
-    guard: &[i32],
-    reset: &[i32],
-    inv: &[i32],
-    from: &[i32],
-    d: usize,
-    cut: Option<Cut>,
-    pieces: &mut [i32],
-)
-    requires { SwitchJoin n guard.now reset.now inv.now from.now cut pieces.old }
-    ensures { pieces.new ≡ joined_each n (pieces_per_face cut) pieces.old (cut_each n cut d (switch_step n mask guard.now reset.now inv.now (face_read n from.now 0))) }
-{
-    if from[0] == 1 {
+impl<'a> Given<'a> {
+    // The step of switch e from a box of its source's face: writes the box on which it lands, and answers whether there is one.
+    fn step(&self, e: usize, bounds: &[i32], out: &mut [i32]) -> bool
+        requires { (e < E# self.now.model.now) × Levels (n# self.now.model.now) bounds.now × (2 * n# self.now.model.now ≤ length out.old) }
+        ensures { Handed (n# self.now.model.now) result out.new out.old (switch_step_at self.now.model.now e (present bounds.now)) }
+    {
+        let model = self.model;
+        let n = records::variables(model);
+        let mask = records::reset_mask(model, e);
+        let guard = records::guard(model, e);
+        let reset = records::reset(model, e);
+        let inv = records::invariant(model, records::target(model, e));
+        steps::switch_step(n, mask, guard, reset, inv, bounds, out)
+    }
+
+    // Joins a box to the pieces of the face on which switch e lands, in a location with this cut.
+    fn join_landed(&self, e: usize, cut: Option<Cut>, part: &[i32], out: &mut [i32])
+        requires { (e < E# self.now.model.now) × (cut ≡ cut_of self.now.model.now (target self.now.model.now e)) × (length part.now ≡ 2 * n# self.now.model.now) × Ordered (n# self.now.model.now) part.now × IsTable self.now.model.now out.old }
+        ensures { out.new ≡ with_landed self.now.model.now e (present part.now) out.old }
+    {
+        let model = self.model;
+        let n = records::variables(model);
+        let l = records::target(model, e);
+        let d = records::wall_variable(model, e);
+        let f = 2 * d + records::target_side(model, e);
+        let each = tables::pieces_per_face(cut);
+        let at = tables::piece_at(self.places[l], f * each, n);
+        let end = at + each * tables::face_size(n);
+        tables::join_pieces(n, d, cut, part, &mut out[at..end]);
+    }
+
+    // Joins the step of switch e from a box of its source's face to the pieces of the face on which it lands.
+    fn land(&self, e: usize, cut: Option<Cut>, bounds: &[i32], out: &mut [i32])
+        requires { (e < E# self.now.model.now) × (cut ≡ cut_of self.now.model.now (target self.now.model.now e)) × Levels (n# self.now.model.now) bounds.now × IsTable self.now.model.now out.old }
+        ensures { out.new ≡ with_landed self.now.model.now e (switch_step_at self.now.model.now e (present bounds.now)) out.old }
+    {
         let mut after = [0i32; 12];
-        let end = 2 * n;
-        let bounds = records::box_at(from, 1, n);
-        if steps::switch_step(n, mask, guard, reset, inv, bounds, &mut after) {
-            tables::join_pieces(n, d, cut, &after[..end], pieces);
+        let end = 2 * records::variables(self.model);
+        if self.step(e, bounds, &mut after) {
+            self.join_landed(e, cut, &after[..end], out);
         }
     }
-}
 
-// The words of piece k of the face that switch e leaves, which has `count` pieces.
-fn source_piece<'a>(
-    model: &'a [i32],
-    places: &[usize],
-    table: &'a [i32],
-    e: usize,
-    count: usize,
-    k: usize,
-) -> &'a [i32]
-    requires { Checked model.now table.now × Places model.now places.now × Leaves model.now e count k }
-    ensures { IsPart (n# model.now) result.now (T.part_of model.now table.now (source model.now e) (source_piece model.now e k + 1)) }
-{
-    let n = records::variables(model);
-    let l = records::source(model, e);
-    let f = 2 * records::wall_variable(model, e) + records::source_side(model, e);
-    let q = f * count + k;
-    tables::face(table, tables::piece_at(places[l], q, n), n)
-}
-
-// Joins to the pieces of the face on which switch e lands, in a location with this cut, its step from piece k of its source's face.
-fn join_from<'a>(
-    model: &'a [i32],
-    places: &[usize],
-    table: &'a [i32],
-    e: usize,
-    count: usize,
-    k: usize,
-    cut: Option<Cut>,
-    pieces: &mut [i32],
-)
-    requires { Checked model.now table.now × Places model.now places.now × Leaves model.now e count k × (cut ≡ cut_of model.now (target model.now e)) × AreFaces (n# model.now) (per_face model.now (target model.now e)) pieces.old }
-    ensures { pieces.new ≡ landed_on model.now table.now e k pieces.old }
-{
-    let n = records::variables(model);
-    let from = source_piece(model, places, table, e, count, k);
-    let inv = records::invariant(model, records::target(model, e));
-    let d = records::wall_variable(model, e);
-    let mask = records::reset_mask(model, e);
-    let guard = records::guard(model, e);
-    let reset = records::reset(model, e);
-    join_switch(n, mask, guard, reset, inv, from, d, cut, pieces);
-}
-
-// Joins the step of switch e from piece k of its source's face to the pieces of the face on which it lands.
-fn land_present<'a>(
-    model: &'a [i32],
-    places: &[usize],
-    table: &'a [i32],
-    e: usize,
-    count: usize,
-    k: usize,
-    cut: Option<Cut>,
-    out: &mut [i32],
-)
-    requires { Checked model.now table.now × Places model.now places.now × Leaves model.now e count k × (cut ≡ cut_of model.now (target model.now e)) × IsTable model.now out.old }
-    ensures { out.new ≡ with_switch model.now table.now e k out.old }
-{
-    let n = records::variables(model);
-    let l = records::target(model, e);
-    let f = 2 * records::wall_variable(model, e) + records::target_side(model, e);
-    let each = tables::pieces_per_face(cut);
-    let at = tables::piece_at(places[l], f * each, n);
-    let end = at + each * tables::face_size(n);
-    join_from(model, places, table, e, count, k, cut, &mut out[at..end]);
-}
-
-// The same, if the piece is there: an absent one lands nothing, and nothing more is looked at.
-fn land<'a>(
-    model: &'a [i32],
-    places: &[usize],
-    table: &'a [i32],
-    e: usize,
-    count: usize,
-    k: usize,
-    cut: Option<Cut>,
-    out: &mut [i32],
-)
-    requires { Checked model.now table.now × Places model.now places.now × Leaves model.now e count k × (cut ≡ cut_of model.now (target model.now e)) × IsTable model.now out.old }
-    ensures { out.new ≡ with_switch model.now table.now e k out.old }
-{
-    let from = source_piece(model, places, table, e, count, k);
-    if from[0] == 1 {
-        land_present(model, places, table, e, count, k, cut, out);
+    // The words of piece k of the face that switch e leaves, which has `count` pieces.
+    fn source_piece(&self, e: usize, count: usize, k: usize) -> &'a [i32]
+        requires { Leaves self.now.model.now e count k }
+        ensures { IsPart (n# self.now.model.now) result.now (T.part_of self.now.model.now self.now.table.now (source self.now.model.now e) (source_piece self.now.model.now e k + 1)) }
+    {
+        let model = self.model;
+        let n = records::variables(model);
+        let l = records::source(model, e);
+        let f = 2 * records::wall_variable(model, e) + records::source_side(model, e);
+        let q = f * count + k;
+        tables::face(self.table, tables::piece_at(self.places[l], q, n), n)
     }
-}
 
-// Joins the steps of switch e from all pieces of its source's face.
-fn land_each<'a>(model: &'a [i32], places: &[usize], table: &'a [i32], e: usize, out: &mut [i32])
-    requires { Checked model.now table.now × Places model.now places.now × (e < E# model.now) × (out.old ≡ table_by model.now (joined_below model.now table.now e)) }
-    ensures { out.new ≡ table_by model.now (joined_below model.now table.now (e + 1)) }
-{
-    let l = records::target(model, e);
-    let cut = records::cut(model, l);
-    let count = tables::per_face(model, records::source(model, e));
-    for k in 0..count {
-        land(model, places, table, e, count, k, cut, out);
+    // Joins the step of switch e from piece k of its source's face, if it is there: an absent one lands nothing, and nothing more is
+    // looked at.
+    fn land_from(&self, e: usize, count: usize, k: usize, cut: Option<Cut>, out: &mut [i32])
+        requires { Leaves self.now.model.now e count k × (cut ≡ cut_of self.now.model.now (target self.now.model.now e)) × IsTable self.now.model.now out.old }
+        ensures { out.new ≡ with_switch self.now.model.now self.now.table.now e k out.old }
+    {
+        let from = self.source_piece(e, count, k);
+        if from[0] == 1 {
+            let n = records::variables(self.model);
+            self.land(e, cut, records::box_at(from, 1, n), out);
+        }
     }
-}
 
-// Joins all switch steps in a model with cuts.
-fn switches_cut<'a>(model: &'a [i32], places: &[usize], table: &'a [i32], out: &mut [i32])
-    requires { Checked model.now table.now × Places model.now places.now × (out.old ≡ table_by model.now (walls_joined model.now table.now)) }
-    ensures { out.new ≡ T.pass model.now table.now }
-{
-    let count = records::switches(model);
-    for e in 0..count {
-        land_each(model, places, table, e, out);
+    // Joins the steps of switch e from all pieces of its source's face.
+    fn land_each(&self, e: usize, out: &mut [i32])
+        requires { (e < E# self.now.model.now) × (out.old ≡ table_by self.now.model.now (joined_below self.now.model.now self.now.table.now e)) }
+        ensures { out.new ≡ table_by self.now.model.now (joined_below self.now.model.now self.now.table.now (e + 1)) }
+    {
+        let cut = records::cut(self.model, records::target(self.model, e));
+        let count = tables::per_face(self.model, records::source(self.model, e));
+        for k in 0..count {
+            self.land_from(e, count, k, cut, out);
+        }
     }
-}
 
-// Joins all switch steps in a model without a cut: each face has one piece, and no cut is read.
-fn switches_uncut<'a>(model: &'a [i32], places: &[usize], table: &'a [i32], out: &mut [i32])
-    requires { Checked model.now table.now × Places model.now places.now × (out.old ≡ table_by model.now (walls_joined model.now table.now)) × NoCut model.now }
-    ensures { out.new ≡ T.pass model.now table.now }
-{
-    let count = records::switches(model);
-    for e in 0..count {
-        land(model, places, table, e, 1, 0, None, out);
+    // Joins all switch steps in a model with cuts.
+    fn switches_cut(&self, out: &mut [i32])
+        requires { out.old ≡ table_by self.now.model.now (walls_joined self.now.model.now self.now.table.now) }
+        ensures { out.new ≡ T.pass self.now.model.now self.now.table.now }
+    {
+        for e in 0..records::switches(self.model) {
+            self.land_each(e, out);
+        }
     }
-}
 
-// Joins all switch steps to the pieces that have their wall steps.
-pub fn switches<'a>(model: &'a [i32], places: &[usize], table: &'a [i32], out: &mut [i32])
-    requires { Checked model.now table.now × Places model.now places.now × (out.old ≡ table_by model.now (walls_joined model.now table.now)) }
-    ensures { out.new ≡ T.pass model.now table.now }
-{
-    let locations = records::locations(model);
-    if places[locations] == 2 * records::variables(model) * locations {
-        switches_uncut(model, places, table, out);
-    } else {
-        switches_cut(model, places, table, out);
+    // Joins all switch steps in a model without a cut: each face has one piece, and no cut is read.
+    fn switches_uncut(&self, out: &mut [i32])
+        requires { (out.old ≡ table_by self.now.model.now (walls_joined self.now.model.now self.now.table.now)) × NoCut self.now.model.now }
+        ensures { out.new ≡ T.pass self.now.model.now self.now.table.now }
+    {
+        for e in 0..records::switches(self.model) {
+            self.land_from(e, 1, 0, None, out);
+        }
+    }
+
+    // Joins all switch steps to the pieces that have their wall steps.
+    pub(crate) fn switches(&self, out: &mut [i32])
+        requires { out.old ≡ table_by self.now.model.now (walls_joined self.now.model.now self.now.table.now) }
+        ensures { out.new ≡ T.pass self.now.model.now self.now.table.now }
+    {
+        let locations = records::locations(self.model);
+        if self.places[locations] == 2 * records::variables(self.model) * locations {
+            self.switches_uncut(out);
+        } else {
+            self.switches_cut(out);
+        }
     }
 }

@@ -1,0 +1,9 @@
+-- After e turns each piece is joined with its wall steps and the steps of the switches below e, each from the one piece of its
+-- source's face.
+use mathlib.Core.Path.{◌≡◌}
+use Rattle.plant.specs.Tables.{table_by}
+use Rattle.passes.specs.Joining.{joined_below}
+use Rattle.passes.proofs.given.Given.switches_uncut.Given as goal
+
+abbrev pub invariant-loop-e : goal.invariant-loop-e
+invariant-loop-e l = l.out ≡ table_by l.self.model.now (joined_below l.self.model.now l.self.table.now l.e)
