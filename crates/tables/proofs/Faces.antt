@@ -4,6 +4,7 @@ use mathlib.Core.Path.{◌≡◌, refl, sym, ap, ap₂, ◌∙◌}
 use mathlib.Core.Bool.{true, false, cond}
 use mathlib.Core.List.{List, [], ◌∷◌, ◌++◌, append-nil}
 use Prim.Native.Nat.{ℕ, ◌+◌, ◌*◌, ◌-◌, ◌<◌, ◌≤◌}
+use native.Mathlib.Nat.{mul-le-mul}
 use native.Mathlib.Omega.{arith}
 use lib.IntN.{ℤ, pos}
 use lib.Signed.{mag, lt_z}
@@ -18,7 +19,7 @@ use Rattle.integers.specs.Rounding.{max_z, min_z}
 use Rattle.integers.proofs.Signed.{cond_case}
 use Rattle.integers.proofs.Buffers.{onto_two, onto_all, cat_more}
 use Rattle.plant.specs.Box.{low, high, box_by, box_at, hull, Face, absent, present, face_words, join}
-use Rattle.plant.specs.Tables.{face_size, table_size, face_read}
+use Rattle.plant.specs.Tables.{words_per_location, face_size, table_size, face_read}
 use Rattle.plant.proofs.Boxes.{low-box_by, high-box_by, length-box_by, box_ext, low-box_at, high-box_at, length-box_at, box_ends, length_face, length-hull}
 use Rattle.plant.proofs.Tables as P
 use Rattle.plant.proofs.Whole.{Head}
@@ -177,6 +178,11 @@ pub nothing_joined : (n : ℕ) (g : Face) {s : List ℤ} → IsFace n s → g �
 nothing_joined n g {s} f e = sym (ap (joined_with n s) e ∙ ap (face_words n) (join_absent n (face_read n s 0)) ∙ f)
 
 -- ---- how many words
+
+-- words per location grow with the number of variables
+pub words_grow : (n k : ℕ) → n ≤ k → words_per_location n ≤ words_per_location k
+unfolding words_per_location
+words_grow n k h = let a : 2 * n ≤ 2 * k = omega arith in let b : face_size n ≤ face_size k = omega arith in mul-le-mul a b
 
 -- the largest table: 64 locations of 6 variables, all cut
 pub table_most : (m : List ℤ) → Head m → table_size m ≤ 19968
