@@ -1,22 +1,18 @@
 -- The search for a touch, by its three loops: the locations passed, the parts passed and the forbidden boxes passed. A part is
 -- asked of its own location's boxes alone, from the last to the first.
-use mathlib.Core.Path.{◌≡◌, refl, sym, ap, ◌∙◌, subst}
-use mathlib.Core.Bool.{Bool, true, false, cond, or-false}
+use mathlib.Core.Path.{◌≡◌, refl, sym, ap, ◌∙◌}
+use mathlib.Core.Bool.{Bool, true, false, or-false}
 use mathlib.Core.List.{List}
 use Prim.Native.Nat.{ℕ, zero, suc, ◌+◌, ◌-◌, ◌<◌, ◌≤◌}
 use native.Mathlib.Omega.{arith}
-use lib.Dec.{eqb, eqb→eq}
-use lib.IntN.{ℤ, pos}
-use Rattle.integers.specs.Words.{word, eq_z}
+use lib.Dec.{eqb}
+use lib.IntN.{ℤ}
 use Rattle.integers.specs.Counted.{any_below}
-use Rattle.integers.proofs.Tests.{by_test, is_true, is_false}
-use Rattle.plant.specs.Box.{box_at, Face, absent, present}
-use Rattle.plant.specs.Model.{n#, L#, B#, forbidden_location}
+use Rattle.integers.proofs.Tests.{by_test, is_false}
+use Rattle.plant.specs.Box.{Face, absent, present}
+use Rattle.plant.specs.Model.{L#, B#, forbidden_location}
 use Rattle.plant.specs.Pieces.{pieces}
-use Rattle.plant.specs.Tables.{pieces_before, part_of, part_touches, touching}
-use Rattle.plant.proofs.PieceCases.{before_more}
-use Rattle.passes.specs.Parts.{IsPart}
-use Rattle.plant.proofs.FaceWords.{read_present, read_absent}
+use Rattle.plant.specs.Tables.{part_of, part_touches, touching}
 use Rattle.checks.specs.Links.{last_box}
 use Rattle.checks.proofs.Linking.{last_within, last_own}
 use Rattle.checks.proofs.Loops.{any_none, any_more, any_found}
@@ -63,7 +59,7 @@ module _ (m t : List ℤ) where
   location_more l e h = any_more (λ l. parts_touch l (suc (pieces m l))) l e h
 
   -- an absent part touches nothing, and no part a box of another location
-  none_absent : (l p k : ℕ) → part_of m t l p ≡ absent → boxes_touched l p k ≡ false
+  pub none_absent : (l p k : ℕ) → part_of m t l p ≡ absent → boxes_touched l p k ≡ false
   unfolding boxes_touched any_below part_touches
   none_absent l p zero e = refl
   none_absent l p (suc k) e = rw (none_absent l p k e, e) refl
@@ -82,61 +78,31 @@ module _ (m t : List ℤ) where
       (λ u. up_to_last l p k ∙ sym (box_less l p k (elsewhere l k (part_of m t l p) (is_false u))))
 
   -- so that no part of a location without boxes touches one
-  no_boxes : (l : ℕ) → last_box m l (B# m) ≡ 0 → (k : ℕ) → parts_touch l k ≡ false
+  pub no_boxes : (l : ℕ) → last_box m l (B# m) ≡ 0 → (k : ℕ) → parts_touch l k ≡ false
   unfolding parts_touch any_below
   no_boxes l e zero = refl
   no_boxes l e (suc k) = rw (no_boxes l e k, sym (up_to_last l k (B# m)) ∙ ap (boxes_touched l k) e ∙ no_box l k) refl
 
-  -- the parts that are asked: all, or none in a location without boxes
-  module _ (l : ℕ) {earlier next last parts : ℕ} (earlier_is : earlier ≡ pieces_before m l) (next_is : next ≡ pieces_before m (l + 1)) (last_is : last ≡ last_box m l (B# m)) (parts_is : parts ≡ cond (eqb last 0) 0 (next - earlier + 1)) where
-    every : next - earlier + 1 ≡ suc (pieces m l)
-    every = omega (arith, before_more m l)
-
-    pub parts_few : parts ≤ suc (pieces m l)
-    parts_few = subst (λ (k : ℕ). k ≤ suc (pieces m l)) (sym parts_is) (by_test (λ (k : ℕ). k ≤ suc (pieces m l)) (eqb last 0) (λ _. omega arith) (λ _. omega (arith, every)))
-
-    pub all_asked : (p : ℕ) → p ≤ parts → parts ≤ p → parts_touch l p ≡ false → parts_touch l (suc (pieces m l)) ≡ false
-    all_asked p u v e = subst (λ (k : ℕ). p ≤ k → k ≤ p → parts_touch l (suc (pieces m l)) ≡ false) (sym parts_is) by_last u v
-      where
-        by_last : p ≤ cond (eqb last 0) 0 (next - earlier + 1) → cond (eqb last 0) 0 (next - earlier + 1) ≤ p → parts_touch l (suc (pieces m l)) ≡ false
-        by_last = by_test (λ (k : ℕ). p ≤ k → k ≤ p → parts_touch l (suc (pieces m l)) ≡ false) (eqb last 0)
-            (λ w _ _. no_boxes l (sym last_is ∙ eqb→eq last 0 w) (suc (pieces m l)))
-            (λ _ x y. let all : p ≡ suc (pieces m l) = omega (arith, every) in subst (λ (k : ℕ). parts_touch l k ≡ false) all e)
-
-  -- of the boxes of location l, box b - 1 and those before it are left to be asked of part p, or none at 0; while one is left,
-  -- the part is there, and bounds is its box
-  pub record BoxesLeft (l p : ℕ) (bounds : List ℤ) (b : ℕ) : Type 0 where
+  -- of the boxes of location l, box b - 1 and those before it are left to be asked of part p, or none at 0
+  pub record BoxesLeft (l p b : ℕ) : Type 0 where
     pub within : b ≤ B# m
     pub own : 0 < b → forbidden_location m (b - 1) ≡ l
-    pub there : 0 < b → part_of m t l p ≡ present bounds
     pub passed : boxes_touched l p b ≡ boxes_touched l p (B# m)
 
-  module _ (l p : ℕ) {bounds : List ℤ} where
-    left_below : (k : ℕ) → k ≤ B# m → part_of m t l p ≡ present bounds → boxes_touched l p k ≡ boxes_touched l p (B# m) → BoxesLeft l p bounds (last_box m l k)
-    left_below k u h e = record { within = omega (arith, last_within m l k); own = last_own m l k; there = λ _. h; passed = up_to_last l p k ∙ e }
+  module _ (l p : ℕ) where
+    left_below : (k : ℕ) → k ≤ B# m → boxes_touched l p k ≡ boxes_touched l p (B# m) → BoxesLeft l p (last_box m l k)
+    left_below k u e = record { within = omega (arith, last_within m l k); own = last_own m l k; passed = up_to_last l p k ∙ e }
 
-    -- all of a part that is there, none of an absent one
-    all_left : part_of m t l p ≡ present bounds → BoxesLeft l p bounds (last_box m l (B# m))
-    all_left h = left_below (B# m) (omega arith) h refl
+    pub all_left : BoxesLeft l p (last_box m l (B# m))
+    all_left = left_below (B# m) (omega arith) refl
 
-    no_left : part_of m t l p ≡ absent → BoxesLeft l p bounds 0
-    no_left h = record { within = omega arith; own = λ u. absurd (omega arith); there = λ u. absurd (omega arith); passed = no_box l p ∙ sym (none_absent l p (B# m) h) }
-
-    pub asked_left : {part : List ℤ} {last b : ℕ} → IsPart (n# m) part (part_of m t l p) → bounds ≡ box_at (n# m) part 1 → last ≡ last_box m l (B# m) → b ≡ cond (eq_z (word part 0) (pos 1)) last 0 → BoxesLeft l p bounds b
-    asked_left {part} {last} {b} is h e d =
-        subst (BoxesLeft l p bounds) (sym d)
-        (by_test (BoxesLeft l p bounds) (eq_z (word part 0) (pos 1))
-        (λ u. subst (BoxesLeft l p bounds) (sym e) (all_left (sym is.gives ∙ read_present (n# m) part (is_true u) ∙ ap present (sym h))))
-        (λ u. no_left (sym is.gives ∙ read_absent (n# m) part (is_false u))))
-
-    pub one_less : {b c : ℕ} → BoxesLeft l p bounds b → 0 < b → part_touches m l (b - 1) (part_of m t l p) ≡ false → c ≡ last_box m (forbidden_location m (b - 1)) (b - 1) → BoxesLeft l p bounds c
+    pub one_less : {b c : ℕ} → BoxesLeft l p b → 0 < b → part_touches m l (b - 1) (part_of m t l p) ≡ false → c ≡ last_box m (forbidden_location m (b - 1)) (b - 1) → BoxesLeft l p c
     one_less {b} h u e d =
         let is : suc (b - 1) ≡ b = omega arith in
-        subst (BoxesLeft l p bounds) (sym (d ∙ ap (λ (x : ℕ). last_box m x (b - 1)) (h.own u)))
-        (left_below (b - 1) (omega (arith, h.within)) (h.there u) (sym (box_less l p (b - 1) e) ∙ ap (boxes_touched l p) is ∙ h.passed))
+        rw (d, h.own u) (left_below (b - 1) (omega (arith, h.within)) (sym (box_less l p (b - 1) e) ∙ ap (boxes_touched l p) is ∙ h.passed))
 
-    pub none_left : {b : ℕ} → BoxesLeft l p bounds b → b ≤ 0 → boxes_touched l p (B# m) ≡ false
-    none_left {b} h u = let is : b ≡ 0 = omega arith in sym h.passed ∙ ap (boxes_touched l p) is ∙ no_box l p
+    pub none_left : BoxesLeft l p 0 → boxes_touched l p (B# m) ≡ false
+    none_left h = sym h.passed ∙ no_box l p
 
   -- the first touch
   pub found : (l p b : ℕ) → l < L# m → p < suc (pieces m l) → b < B# m → part_touches m l b (part_of m t l p) ≡ true → touching m t ≡ true

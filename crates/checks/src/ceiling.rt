@@ -28,11 +28,8 @@ fn uncut_ceiling(n: usize, widths: u64) -> u64
     requires { (n ≤ 6) × (widths ≤ 12000000) }
     ensures { (result ≡ uncut_ceiling n widths) × (result ≤ 120000012) }
 {
-    if n == 0 {
-        return 0;
-    }
-    let walls = 2 * (n as u64);
-    walls + (walls - 2) * widths
+    let n = n as u64;
+    2 * n + 2 * n.saturating_sub(1) * widths
 }
 
 // What location l adds: with a cut as much again as a location of the other variables.

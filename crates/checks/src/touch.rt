@@ -1,6 +1,5 @@
 // Whether a part of a location touches a forbidden box of it.
-ghost use Rattle.std.specs.Prelude.{◌≡◌, true, cond, ◌+◌, ◌-◌, ◌<◌, ◌≤◌, eqb, pos, length};
-ghost use Rattle.integers.specs.Words.{word, eq_z};
+ghost use Rattle.std.specs.Prelude.{◌≡◌, true, ◌<◌, length};
 ghost use Rattle.plant.specs.Model.{n#, L#, B#};
 ghost use Rattle.plant.specs.Questions.{model_questions};
 ghost use Rattle.plant.specs.Tables as T;
@@ -32,24 +31,13 @@ pub fn link(model: &[i32]) -> Links
     Links { last, before }
 }
 
-// How many parts of a location are asked, whose pieces are numbered from `earlier` to before `next` in the table: none where it
-// has no forbidden box.
-fn parts_asked(earlier: usize, next: usize, last: usize) -> usize
-    requires { (earlier ≤ next) × (next ≤ 1536) }
-    ensures { result ≡ cond (eqb last 0) 0 (next - earlier + 1) }
-{
-    if last == 0 { 0 } else { next - earlier + 1 }
-}
-
-// Writes the words of the start part of location l, a flag and a box of up to six variables, if parts of the location are asked.
-fn start_words(model: &[i32], l: usize, parts: usize, words: &mut [i32])
+// Writes the words of the start part of location l, a flag and a box of up to six variables.
+fn start_words(model: &[i32], l: usize, words: &mut [i32])
     requires { (model_questions model.now ≡ 0) × (l < L# model.now) × (length words.old ≡ 13) }
-    ensures { 0 < parts → face_read (n# model.now) words.new 0 ≡ start_part model.now l }
+    ensures { face_read (n# model.now) words.new 0 ≡ start_part model.now l }
 {
-    if 0 < parts {
-        let there = passes::start_part(model, l, &mut words[1..]);
-        words[0] = there as i32;
-    }
+    let there = passes::start_part(model, l, &mut words[1..]);
+    words[0] = there as i32;
 }
 
 // The words of part p of a location of n variables, whose pieces stand behind the earlier ones in the table: part 0 is its start
@@ -65,15 +53,8 @@ fn part_at<'a>(start: &'a [i32], table: &'a [i32], n: usize, earlier: usize, p: 
     }
 }
 
-// The first box to ask of a part: none of an absent one.
-fn first_asked(part: &[i32], last: usize) -> usize
-    requires { 0 < length part.now }
-    ensures { result ≡ cond (eq_z (word part.now 0) (pos 1)) last 0 }
-{
-    if part[0] == 1 { last } else { 0 }
-}
-
-// A part of a location touches a forbidden box of it: the search is left at the first such part.
+// A part of a location touches a forbidden box of it: the search is left at the first such part. In a location without forbidden
+// boxes no part is looked at, and no box is asked of an absent part.
 pub fn touching(model: &[i32], places: &[usize], links: &Links, table: &[i32]) -> bool
     requires { TableReady model.now table.now × Places model.now places.now × (table_ok model.now table.now ≡ true) × Linked model.now (B# model.now) links.now.last links.now.before }
     ensures { result ≡ T.touching model.now table.now }
@@ -81,16 +62,22 @@ pub fn touching(model: &[i32], places: &[usize], links: &Links, table: &[i32]) -
     let n = records::variables(model);
     let mut start = [0i32; 13];
     'search: for l in 0..records::locations(model) {
+        let last = links.last[l];
+        if last == 0 {
+            continue 'search;
+        }
         let inv = records::invariant(model, l);
         let rate = records::rate(model, l);
         let earlier = places[l];
-        let last = links.last[l];
-        let parts = parts_asked(earlier, places[l + 1], last);
-        start_words(model, l, parts, &mut start);
-        'parts: for p in 0..parts {
+        let next = places[l + 1];
+        start_words(model, l, &mut start);
+        'parts: for p in 0..next - earlier + 1 {
             let part = part_at(&start, table, n, earlier, p);
+            if part[0] != 1 {
+                continue 'parts;
+            }
             let bounds = records::box_at(part, 1, n);
-            let mut b = first_asked(part, last);
+            let mut b = last;
             'boxes: while 0 < b {
                 if delays::touches(n, inv, rate, bounds, records::forbidden_box(model, b - 1)) {
                     return true;

@@ -5,7 +5,7 @@ use Rattle.plant.specs.Model.{n#}
 use Rattle.checks.proofs.Parts.{flag_put}
 use Rattle.checks.proofs.touch.start_words.Goals as goal
 
-pub returns-then-parts-gt0 : goal.returns-then-parts-gt0
-returns-then-parts-gt0 c =
+pub returns : goal.returns
+returns c =
     let r = c.start_part-there in
-    λ _. flag_put (n# c.args.model.now) _ r.result r.new.out c.args.words.now (grind (arith, common_steps)) (omega arith) ∙ sym r.ensures.is_face
+    flag_put (n# c.args.model.now) _ r.result r.new.out c.args.words.now (grind (arith, common_steps)) (omega arith) ∙ sym r.ensures.is_face

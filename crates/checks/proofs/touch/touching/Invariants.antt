@@ -4,7 +4,7 @@ use Rattle.checks.proofs.Search.{parts_touch, locations_touch, BoxesLeft}
 use Rattle.checks.proofs.touch.touching.Given as goal
 
 abbrev pub invariant-boxes : goal.invariant-boxes
-invariant-boxes l = BoxesLeft l.model l.table l.l l.p l.bounds l.b
+invariant-boxes l = BoxesLeft l.model l.table l.l l.p l.b
 
 abbrev pub decreases-boxes : goal.decreases-boxes
 decreases-boxes l = l.b
