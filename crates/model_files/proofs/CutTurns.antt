@@ -25,10 +25,13 @@ use Rattle.files.specs.Fields.{field_at, is_field}
 use Rattle.files.proofs.Words.{words_nth}
 use Rattle.files.proofs.Fields.{due}
 use Rattle.plant.specs.Ask.{ask, ◌then◌, first}
-use Rattle.plant.proofs.Asks.{first_none, first_more, first_each, first_intro, run_stop}
+use Rattle.plant.proofs.Asks.{ask_yes, first_none, first_each, first_intro}
+use Rattle.plant.specs.declared.Refusal.{Refusal}
+use Rattle.plant.specs.Refusals.{number}
+use Rattle.plant.proofs.Refusing.{refused_at, passed_more}
 use Rattle.files.specs.ModelFile.{cut_place, cut_field_words, least_location, cut_words_ok, cut_field_questions, end_questions, cuts_questions, names_location, file_cut, cut_words}
-use Rattle.model_files.specs.Room.{CutThere, CutsReady}
-use Rattle.files.proofs.Cuts.{CutYes, is_named, length_cut, each, Reached, reached_none, reached_more, reached_same, words_named, words_not_named}
+use Rattle.model_files.specs.Room.{CutThere, CutsReady, filled_cut}
+use Rattle.files.proofs.Cuts.{CutYes, cut_yes, is_named, length_cut, each, Reached, reached_none, reached_more, reached_same, words_named, words_not_named}
 use Rattle.files.proofs.CutsBack.{end_yes}
 
 -- ---- the words of the field at a position
@@ -53,38 +56,15 @@ module _ (s : List ℕ) (at : ℕ) where
   pub by_location : {k : ℕ} (l : ℕ) → at < length s → k ≡ num (cut_field_words s at) 0 → eqb k l ≡ names_location s at l
   by_location l h e = rw (lt-leb (length s) at h, e) refl
 
-  -- the tests of the words, as code makes them
-  pub words_asked : {a b : Bool} {r z : ℤ} {least count : ℕ} → a ≡ within (to_z w64 least) (to_z w64 (count - 1)) (to_z w64 (of_z w64 (to_z w32 (of_z w32 r)))) → b ≡ eq_z (to_z w32 (of_z w32 z)) (negsuc 0)
-      → mag r < 2147483648 → r ≡ word_at s (at + 3) → mag z < 2147483648 → z ≡ word_at s (at + 3 + 4) → least ≤ 64 → count ≤ 64 → (a && not b) ≡ cut_words_ok (cut_field_words s at) least count
-  unfolding cut_words_ok
-  words_asked {r = r} {z = z} {least = least} {count = count} ea eb or er oz ez few most =
-      ap₂ (λ (x y : Bool). x && not y)
-      (ea ∙ ap₂ (λ (lo hi : ℤ). within lo hi (to_z w64 (of_z w64 (to_z w32 (of_z w32 r))))) (as_signed least (omega arith)) (as_signed (count - 1) (omega arith))
-      ∙ ap (within (pos least) (pos (count - 1))) (ap (λ (x : ℤ). to_z w64 (of_z w64 x)) (got32 r or) ∙ to_z-of_z (widened r or) ∙ er ∙ sym location_word))
-      (eb ∙ ap (λ (x : ℤ). eq_z x (negsuc 0)) (got32 z oz ∙ ez ∙ sym variable_word))
-
   -- ---- its questions
 
-  module _ (least L : ℕ) where
-    pub no_tag : (get_or s at 0 ≡ 8 → ⊥) → 8 ≡ cut_field_questions s at least L
-    unfolding cut_field_questions ◌then◌
-    no_tag h = rw (ne_eqb (get_or s at 0) 8 h) refl
+  pub whole_there : {t : Bool} → t ≡ is_field (field_at s at) 8 12 → 0 ≡ ask t 46 → at + 15 ≤ length s
+  whole_there {t} e h = omega (arith, (due s at 8 12 (rw (← e) (ask_yes t 46 (omega arith) (sym h)))).there)
 
-    pub not_whole : {t : Bool} → get_or s at 0 ≡ 8 → t ≡ is_field (field_at s at) 8 12 → not t ≡ true → 46 ≡ cut_field_questions s at least L
-    unfolding cut_field_questions ◌then◌
-    not_whole {t = true} e f n = no_true n
-    not_whole {t = false} e f n = rw (eq-eqb (get_or s at 0) 8 e, ← f) refl
+  -- what a yes tells, for reading it too
+  pub cut_passed : {least L : ℕ} → 1 ≤ L → 0 ≡ cut_field_questions s at least L → CutYes s at least L
+  cut_passed {least} {L} some e = cut_yes s at least L some (sym e)
 
-    pub words_decide : {t b : Bool} {r : ℕ} → get_or s at 0 ≡ 8 → t ≡ is_field (field_at s at) 8 12 → not t ≡ false → b ≡ cut_words_ok (cut_field_words s at) least L → r ≡ ask b 46 → r ≡ cut_field_questions s at least L
-    unfolding cut_field_questions ◌then◌
-    words_decide {t = true} e f n eb er = rw (eq-eqb (get_or s at 0) 8 e, ← f) (er ∙ ap (λ (t : Bool). ask t 46) eb)
-    words_decide {t = false} e f n eb er = no_true (sym n)
-
-  pub whole_there : {t : Bool} → t ≡ is_field (field_at s at) 8 12 → not t ≡ false → at + 15 ≤ length s
-  whole_there {t = true} e n = omega (arith, (due s at 8 12 (rw (← e) tt)).there)
-  whole_there {t = false} e n = no_true (sym n)
-
-  -- what a yes tells for reading it
   pub is_there : {least L : ℕ} → CutYes s at least L → CutThere s at
   is_there y = record { there = omega (arith, y.whole.there); natural = rw y.natural tt }
 
@@ -108,18 +88,18 @@ module _ (s : List ℕ) (from L : ℕ) where
     unfolding end_questions
     question h e = rw (lt-leb (length s) (cut_place from p.i) (omega (arith, p.is_at)), ← p.is_at, ← p.is_least) e
 
-    pub asked_stop : {r : ℕ} → at < length s → r ≡ cut_field_questions s at least L → (r ≡ 0 → ⊥) → r ≡ cuts_questions s from L
+    pub asked_stop : (r : Refusal) → at < length s → number r ≡ cut_field_questions s at least L → number r ≡ cuts_questions s from L
     unfolding cuts_questions
-    asked_stop h e n = run_stop (end_questions s from L) (suc L) p.i (question h e) n p.asked (omega (arith, p.few, p.most))
+    asked_stop r h e = refused_at (end_questions s from L) r (suc L) p.i p.asked (omega (arith, p.few, p.most)) (question h e)
 
-    pub asked_more : {r k next : ℕ} → at < length s → r ≡ cut_field_questions s at least L → r ≡ 0 → CutYes s at least L → k ≡ num (cut_field_words s at) 0 → next ≡ at + 15 → CutsAsked s from L (k + 1) next
-    asked_more h e z y ek en = record {
+    pub asked_more : {k next : ℕ} → at < length s → 0 ≡ cut_field_questions s at least L → CutYes s at least L → k ≡ num (cut_field_words s at) 0 → next ≡ at + 15 → CutsAsked s from L (k + 1) next
+    asked_more h e y ek en = record {
       i = p.i + 1;
       few = omega (arith, ek, y.above, p.few);
       most = omega (arith, ek, y.below);
       is_least = rw (add-one p.i, ek, p.is_at) refl;
       is_at = omega (arith, en, p.is_at);
-      asked = first_more (end_questions s from L) p.i p.asked (sym (question h e) ∙ z);
+      asked = passed_more (end_questions s from L) p.i p.asked (question h e);
     }
 
     pub asked_all : length s ≤ at → 0 ≡ cuts_questions s from L
@@ -137,59 +117,55 @@ pub two_stored : (d : List ℤ) (to : ℕ) (u v : ℤ) → to + 2 ≤ length d �
 two_stored d to u v h = let e : set (set d to u) (to + 1) v ≡ sets d to (u ∷ v ∷ []) = simp towards_suc in e ∙ sets_onto d (u ∷ v ∷ []) to h
 
 -- at location l: the words of the locations before are copied, and the next field begins at `at`
-pub record CutsFilled (s : List ℕ) (from L : ℕ) (d₀ : List ℤ) (to : ℕ) (x : List ℤ) (at place l : ℕ) : Type 0 where
+pub record CutsFilled (s : List ℕ) (from L : ℕ) (d₀ : List ℤ) (to : ℕ) (x : List ℤ) (at l : ℕ) : Type 0 where
   pub i : ℕ
   pub reached : Reached s from l i
   pub is_at : at ≡ cut_place from i
-  pub is_place : place ≡ to + l * 2
   pub is : x ≡ onto (take to d₀ ++ cat l (file_cut s from L)) d₀
 
 module _ (s : List ℕ) (from L : ℕ) (d₀ : List ℤ) (to : ℕ) (ready : CutsReady s from L d₀ to) where
-  pub filled_none : CutsFilled s from L d₀ to d₀ from to 0
+  pub filled_none : CutsFilled s from L d₀ to d₀ from 0
   filled_none = record {
     i = 0;
     reached = reached_none s from;
     is_at = omega arith;
-    is_place = omega arith;
     is = onto_start to d₀ (omega (arith, ready.room)) ∙ ap (λ (l : List ℤ). onto (take to d₀ ++ l) d₀) (sym (cat_none (file_cut s from L)));
   }
 
-  module _ {x : List ℤ} {at place l : ℕ} (p : CutsFilled s from L d₀ to x at place l) (below : l < L) where
+  module _ {x : List ℤ} {at l : ℕ} (p : CutsFilled s from L d₀ to x at l) (below : l < L) where
     -- the next field, if there is one, stands whole
     pub next_there : at < length s → CutThere s at
     next_there h = rw p.is_at (is_there s (cut_place from p.i) (each s from L ready.some ready.passes p.i (omega (arith, p.reached.few)) (omega (arith, p.is_at))))
 
-    -- and so does one that names it
-    pub named_there : {t : Bool} → t ≡ names_location s at l → t ≡ true → at + 15 ≤ length s
-    named_there e n = (next_there (is_named s at l (sym e ∙ n)).0).there
+    pub filled_more : {y : List ℤ} {next : ℕ} → y ≡ onto (take (to + l * 2) x ++ filled_cut s at l) x → next ≡ cond (names_location s at l) (at + 15) at → CutsFilled s from L d₀ to y next (l + 1)
+    filled_more {y} {next} e en = turn (names_location s at l) refl
+      where
+        named : (t : Bool) → names_location s at l ≡ t → names_location s (cut_place from p.i) l ≡ t
+        named t n = rw p.is_at at n
 
-    words_of : (t : Bool) → names_location s at l ≡ t → file_cut s from L l ≡ cond t (word (cut_field_words s at) 1 ∷ word (cut_field_words s at) 2 ∷ []) (negsuc 0 ∷ pos 0 ∷ [])
-    words_of true n = rw p.is_at (words_named s from L ready.some ready.passes l p.i below p.reached (rw p.is_at at n))
-    words_of false n = words_not_named s from L ready.some ready.passes l p.i below p.reached (rw p.is_at at n)
+        words_are : (t : Bool) → names_location s at l ≡ t → file_cut s from L l ≡ filled_cut s at l
+        words_are true n = rw (n, p.is_at) (words_named s from L ready.some ready.passes l p.i below p.reached (named true n))
+        words_are false n = rw n (words_not_named s from L ready.some ready.passes l p.i below p.reached (named false n))
 
-    copied : {y : List ℤ} (t : Bool) → names_location s at l ≡ t → y ≡ onto (take place x ++ cond t (word (cut_field_words s at) 1 ∷ word (cut_field_words s at) 2 ∷ []) (negsuc 0 ∷ pos 0 ∷ [])) x
-        → y ≡ onto (take to d₀ ++ cat (l + 1) (file_cut s from L)) d₀
-    copied t n e =
-        e ∙ ap (λ (w : List ℤ). onto (take place x ++ w) x) (sym (words_of t n))
-        ∙ cat_turn (file_cut s from L) to l place d₀ x p.is (omega (arith, ready.room)) (omega (arith, length-cat l 2 (file_cut s from L) (λ j _. length_cut s from L j), p.is_place))
+        copied : (t : Bool) → names_location s at l ≡ t → y ≡ onto (take to d₀ ++ cat (l + 1) (file_cut s from L)) d₀
+        copied t n =
+            e ∙ ap (λ (w : List ℤ). onto (take (to + l * 2) x ++ w) x) (sym (words_are t n))
+            ∙ cat_turn (file_cut s from L) to l (to + l * 2) d₀ x p.is (omega (arith, ready.room)) (omega (arith, length-cat l 2 (file_cut s from L) (λ j _. length_cut s from L j)))
 
-    pub filled_more : {y : List ℤ} {next after : ℕ} (t : Bool) → t ≡ names_location s at l → y ≡ onto (take place x ++ cond t (word (cut_field_words s at) 1 ∷ word (cut_field_words s at) 2 ∷ []) (negsuc 0 ∷ pos 0 ∷ [])) x
-        → next ≡ cond t (at + 15) at → after ≡ place + 2 → CutsFilled s from L d₀ to y next after (l + 1)
-    filled_more true n e en ea = record {
-      i = suc p.i;
-      reached = rw (add-one l) (reached_more s from L ready.some ready.passes l p.i below p.reached (rw p.is_at at (sym n)));
-      is_at = omega (arith, en, p.is_at);
-      is_place = omega (arith, ea, p.is_place);
-      is = copied true (sym n) e;
-    }
-    filled_more false n e en ea = record {
-      i = p.i;
-      reached = rw (add-one l) (reached_same s from L ready.some ready.passes l p.i below p.reached (rw p.is_at at (sym n)));
-      is_at = omega (arith, en, p.is_at);
-      is_place = omega (arith, ea, p.is_place);
-      is = copied false (sym n) e;
-    }
+        turn : (t : Bool) → names_location s at l ≡ t → CutsFilled s from L d₀ to y next (l + 1)
+        turn true n = record {
+          i = suc p.i;
+          reached = rw (add-one l) (reached_more s from L ready.some ready.passes l p.i below p.reached (named true n));
+          is_at = omega (arith, rw n at en, p.is_at);
+          is = copied true n;
+        }
+        turn false n = record {
+          i = p.i;
+          reached = rw (add-one l) (reached_same s from L ready.some ready.passes l p.i below p.reached (named false n));
+          is_at = omega (arith, rw n at en, p.is_at);
+          is = copied false n;
+        }
 
-pub filled_all : {s : List ℕ} {from L : ℕ} {d₀ : List ℤ} {to : ℕ} {x : List ℤ} {at place l : ℕ} → CutsFilled s from L d₀ to x at place l → l ≡ L → x ≡ onto (take to d₀ ++ cut_words s from L) d₀
+pub filled_all : {s : List ℕ} {from L : ℕ} {d₀ : List ℤ} {to : ℕ} {x : List ℤ} {at l : ℕ} → CutsFilled s from L d₀ to x at l → l ≡ L → x ≡ onto (take to d₀ ++ cut_words s from L) d₀
 unfolding cut_words
 filled_all {s = s} {from = from} {L = L} {d₀ = d₀} {to = to} p e = p.is ∙ ap (λ (k : ℕ). onto (take to d₀ ++ cat k (file_cut s from L)) d₀) e

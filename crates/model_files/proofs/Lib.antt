@@ -1,3 +1,5 @@
 pub mod CutTurns
 pub mod Filling
 pub mod ModelWriting
+pub mod Reading
+pub mod Runs

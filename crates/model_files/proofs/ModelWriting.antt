@@ -7,13 +7,18 @@ use mathlib.Core.List.{List, [], ◌∷◌, ◌++◌, append_assoc}
 use Prim.Native.Nat.{ℕ, ◌+◌, ◌*◌, ◌≤◌, ◌<◌}
 use native.Mathlib.Nat.{mul-le-mul_right}
 use native.Mathlib.Omega.{arith}
-use lib.Dec.{leb, leb→le}
+use borrow.Author.Tests.{eq-eqb, ne_eqb}
+use mir.Syntax.{w32}
+use mir.Val.{of_z}
+use lib.Signed.{mag}
+use lib.Dec.{eqb, leb, leb→le}
 use lib.IntN.{ℤ, pos, negsuc}
 use lib.ListN.{length, take, length-append}
 use Rattle.integers.specs.Words.{word, eq_z, onto}
 use Rattle.integers.specs.Counted.{cat}
 use Rattle.integers.proofs.Buffers.{onto_start, cat_ext, cat_more, cat_at, length-cat}
 use Rattle.integers.proofs.Counted.{split}
+use Rattle.integers.proofs.Signed.{bits_eq}
 use Rattle.files.specs.Bytes.{word_size, word_bytes, words_bytes, part}
 use Rattle.files.specs.Fields.{header_size, payload_length, field_length, header, field}
 use Rattle.integers.proofs.Filling.{onto_then, Written, length_written}
@@ -22,11 +27,16 @@ use Rattle.files.proofs.Fields.{length-field}
 use Rattle.plant.specs.Model.{n#, L#, E#, B#, location_size, switch_size, forbidden_size, location_at, switch_at, forbidden_at, cut_size, cut_at, cut_variable, cut_value}
 use Rattle.plant.specs.Questions.{model_questions}
 use Rattle.plant.proofs.Asks.{ask_yes, then_both}
+use Rattle.plant.specs.declared.Refusal.{Refusal}
+use Rattle.plant.specs.Refusals.{number}
+use Rattle.plant.proofs.Refusing.{number_not_0}
+use Rattle.plant.proofs.Writing.{write_refused, write_done}
+use Rattle.std.specs.Prelude.{Ok, Err}
 use Rattle.plant.proofs.Passed.{passed}
 use Rattle.plant.proofs.Whole.{Whole}
 use Rattle.plant.proofs.Positions.{row_within, cut-within}
 use Rattle.plant.proofs.Passing.{whole_passed}
-use Rattle.files.specs.ModelFile.{cut_field_size, record_field, model_file, locations_from, switches_from, forbiddens_from, cuts_from, file_room_question, write_model_questions}
+use Rattle.files.specs.ModelFile.{cut_field_size, record_field, model_file, locations_from, switches_from, forbiddens_from, cuts_from, file_room_question, write_model_questions, write_model_call}
 use Rattle.files.specs.UncutModelFile.{records_file}
 use Rattle.model_files.specs.Room.{field_of, record_fields, RunRoom, CutRoom, FileRoom}
 use Rattle.files.proofs.ModelLength.{cut_field_of, cut_fields, length-cut-field, records_in_turn, records_length, file_is, length_of_file}
@@ -66,39 +76,40 @@ module _ (m : List ℤ) (tag : ℕ) (d : List ℕ) {from count w to : ℕ} (r : 
   pub run_room : to ≤ length d
   run_room = omega (arith, r.room)
 
-  pub run_place : {i next : ℕ} {x : List ℕ} → i ≤ count → Written (field_of tag m from w) d to i next x → (length x ≡ length d) × (next ≡ to + i * field_length w)
-  run_place {i} {next} {x} u h =
-      let e : next ≡ to + i * field_length w = h.to_is ∙ ap (λ (k : ℕ). to + k) (length_some i u) in
+  -- the buffer keeps its length, and there is room for one more
+  pub run_length : {i next : ℕ} {x : List ℕ} → i ≤ count → Written (field_of tag m from w) d to i next x → length x ≡ length d
+  run_length {i} {next} {x} u h =
       let k : i * field_length w ≤ count * field_length w = mul-le-mul_right (field_length w) u in
-      (length_written (field_of tag m from w) d to run_room h (omega (arith, e, k, r.room)), e)
+      length_written (field_of tag m from w) d to run_room h (omega (arith, h.to_is, length_some i u, k, r.room))
 
-  -- there is room for one more
-  pub record_room : {i place next : ℕ} {x : List ℕ} → i < count → place ≡ from + i * w → Written (field_of tag m from w) d to i next x
-      → (place + w ≤ length m) × (next + field_length w ≤ length x) × (w ≤ 37)
-  record_room {i} {place} {next} {x} u ep h =
-      let p : (length x ≡ length d) × (next ≡ to + i * field_length w) = run_place (omega arith) h in
-      (omega (arith, record_there i u), omega (arith, p, r.room, row_within (field_length w) u), r.w_small)
-
-  pub run_written : {i next : ℕ} {x : List ℕ} → i ≡ count → Written (field_of tag m from w) d to i next x → x ≡ onto (take to d ++ record_fields tag m from count w) d
-  run_written e h = h.buffer_is ∙ ap (λ (k : ℕ). onto (take to d ++ cat k (field_of tag m from w)) d) e
+  pub record_room : {i next : ℕ} {x : List ℕ} → i < count → Written (field_of tag m from w) d to i next x → (from + i * w + w ≤ length m) × (next + field_length w ≤ length x) × (w ≤ 37)
+  record_room {i} u h =
+      (record_there i u, omega (arith, run_length (omega arith) h, h.to_is, length_some i (omega arith), r.room, row_within (field_length w) u), r.w_small)
 
 -- ---- the cuts
 
 module _ (m : List ℤ) where
-  -- one location more
-  pub cuts_more : (l : ℕ) {bytes r : ℕ} → bytes ≡ length (cat l (cut_field_of m)) → r ≡ cond (eq_z (cut_variable m l) (negsuc 0)) 0 (field_length cut_field_size) → bytes + r ≡ length (cat (l + 1) (cut_field_of m))
-  cuts_more l eb er = rw (cat_more l (cut_field_of m)) (omega (arith, eb, er, length-cut-field m l, length-append (cat l (cut_field_of m)) (cut_field_of m l)))
-
   pub cuts_all : {l bytes : ℕ} → l ≡ L# m → bytes ≡ length (cat l (cut_field_of m)) → bytes ≡ length (cut_fields m)
   unfolding cut_fields
   cuts_all e eb = eb ∙ ap (λ (k : ℕ). length (cat k (cut_field_of m))) e
 
   -- those before location l, and its own, are among all
-  cuts_within : (l : ℕ) → l < L# m → length (cat l (cut_field_of m)) + length (cut_field_of m l) ≤ length (cut_fields m)
+  pub cuts_within : (l : ℕ) → l < L# m → length (cat l (cut_field_of m)) + length (cut_field_of m l) ≤ length (cut_fields m)
   unfolding cut_fields
   cuts_within l u =
       let c = cat_at (cut_field_of m) (L# m) l u in
       rw c.1 (omega (arith, length-append (cat l (cut_field_of m)) (cut_field_of m l ++ c.0), length-append (cut_field_of m l) c.0))
+
+  -- what a test of the variable tells
+  module _ (l : ℕ) {v : ℤ} (is : v ≡ cut_variable m l) (fits : mag v < 2147483648) where
+    by_bits : eq_z (cut_variable m l) (negsuc 0) ≡ eqb (of_z w32 v) 4294967295
+    by_bits = rw (← is) (sym (bits_eq v (negsuc 0) (record { sfits = fits }) (record { sfits = omega arith })))
+
+    pub told_uncut : of_z w32 v ≡ 4294967295 → eq_z (cut_variable m l) (negsuc 0) ≡ true
+    told_uncut e = by_bits ∙ eq-eqb _ _ e
+
+    pub told_cut : (of_z w32 v ≡ 4294967295 → ⊥) → eq_z (cut_variable m l) (negsuc 0) ≡ false
+    told_cut n = by_bits ∙ ne_eqb _ _ n
 
   -- the field of a location that is not cut is nothing
   module _ (l : ℕ) (uncut : eq_z (cut_variable m l) (negsuc 0) ≡ true) where
@@ -188,9 +199,20 @@ module _ (m : List ℤ) (d : List ℕ) (r : FileRoom m d) where
   unfolding cut_fields
   cuts_written e h = (h.buffer_is ∙ ap (λ (k : ℕ). onto (take (cuts_from m) d ++ cat k (cut_field_of m)) d) e, h.to_is ∙ ap (λ (k : ℕ). cuts_from m + length (cat k (cut_field_of m))) e)
 
--- what a yes to all questions of the call tells
-pub write_yes : (m : List ℤ) (d : List ℕ) → write_model_questions m (length d) ≡ 0 → FileRoom m d
-unfolding write_model_questions
-write_yes m d e =
-    let a : (model_questions m ≡ 0) × (file_room_question m (length d) ≡ 0) = then_both (model_questions m) (file_room_question m (length d)) e in
-    record { whole = whole_passed m (passed m a.0); room = leb→le (length (model_file m)) (length d) (ask_yes (leb (length (model_file m)) (length d)) 40 (omega arith) a.1) }
+-- ---- how the call ends
+
+module _ (m : List ℤ) (d : List ℕ) where
+  pub write_stopped : (r : Refusal) → number r ≡ write_model_questions m (length d) → record { count = Err (number r); file = d } ≡ write_model_call m d
+  unfolding write_model_call
+  write_stopped r e = write_refused (model_file m) d e (number_not_0 r)
+
+  module _ (yes : 0 ≡ write_model_questions m (length d)) where
+    pub write_yes : FileRoom m d
+    unfolding write_model_questions
+    write_yes =
+        let a : (model_questions m ≡ 0) × (file_room_question m (length d) ≡ 0) = then_both (model_questions m) (file_room_question m (length d)) (sym yes) in
+        record { whole = whole_passed m (passed m a.0); room = leb→le (length (model_file m)) (length d) (ask_yes (leb (length (model_file m)) (length d)) 40 (omega arith) a.1) }
+
+    pub write_passed : {k : ℕ} {x : List ℕ} → k ≡ length (model_file m) → x ≡ onto (model_file m) d → record { count = Ok k; file = x } ≡ write_model_call m d
+    unfolding write_model_call
+    write_passed ek ex = write_done (model_file m) d yes refl ek ex

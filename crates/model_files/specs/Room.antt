@@ -1,12 +1,12 @@
 -- What the code on model files asks of what it is lent, and which fields its parts write.
-use Rattle.std.specs.Prelude.{◌≡◌, List, ℕ, ◌+◌, ◌*◌, ◌<◌, ◌≤◌, T, ℤ, length}
+use Rattle.std.specs.Prelude.{◌≡◌, cond, List, [], ◌∷◌, ℕ, ◌+◌, ◌*◌, ◌<◌, ◌≤◌, T, ℤ, pos, negsuc, length}
 use Rattle.std.specs.Int.Signed.{non_neg}
 use Rattle.integers.specs.Words.{word}
 use Rattle.integers.specs.Counted.{cat}
 use Rattle.files.specs.Fields.{payload_length, field_length, field_place, field_at, is_field}
 use Rattle.plant.specs.Model.{L#, cut_size, model_size}
 use Rattle.plant.proofs.Whole.{Head, Whole}
-use Rattle.files.specs.ModelFile.{record_field, model_file, cut_field_size, head_words, is_head, cut_field_words, cuts_questions}
+use Rattle.files.specs.ModelFile.{record_field, model_file, cut_field_size, head_words, is_head, cut_field_words, cuts_questions, names_location}
 use Rattle.files.proofs.ModelLength.{cut_field_of}
 
 -- ---- reading
@@ -29,6 +29,10 @@ pub record CutsReady (s : List ℕ) (from L : ℕ) (words : List ℤ) (to : ℕ)
   pub few : L ≤ 64
   pub passes : cuts_questions s from L ≡ 0
   pub room : to + L * cut_size ≤ length words
+
+-- variable and value of location l: those of the field at a position if it names the location, else -1 and 0
+abbrev pub filled_cut : (s : List ℕ) (at l : ℕ) → List ℤ
+filled_cut s at l = cond (names_location s at l) (word (cut_field_words s at) 1 ∷ word (cut_field_words s at) 2 ∷ []) (negsuc 0 ∷ pos 0 ∷ [])
 
 -- the head words of a file whose questions 1 to 5 are yes
 pub record HeadRead (s : List ℕ) (h words : List ℤ) : Type 0 where

@@ -1,7 +1,9 @@
 // Writing a model's file (document 02, T-01).
-ghost use Rattle.std.specs.Prelude.{◌≡◌, cond, ◌++◌, ◌+◌, ◌≤◌, negsuc, length, take};
+ghost use Rattle.std.specs.Prelude.{◌≡◌, cond, ◌++◌, ◌+◌, ◌≤◌, ◌<◌, length, take};
 ghost use Rattle.integers.specs.Words.{eq_z, onto};
 ghost use Rattle.files.specs.Fields.{field_length};
+ghost use Rattle.plant.specs.Model.{L#};
+ghost use Rattle.plant.specs.Refusals.{asked, numbered};
 ghost use Rattle.plant.proofs.Whole.{Whole};
 ghost use Rattle.files.specs.ModelFile.{first_tag, cut_field_size, record_field, model_file, cuts_from, write_model_questions, write_model_call};
 ghost use Rattle.files.specs.UncutModelFile.{records_file};
@@ -11,15 +13,16 @@ ghost use Rattle.files.proofs.ModelLength.{cut_field_of, cut_fields};
 use crate::{
     CUT_FIELD_SIZE, HEAD_FIELD_SIZE, cuts_from, forbiddens_from, locations_from, switches_from,
 };
-use plant::Count;
+use plant::Refusal;
 
 // ---- how many bytes a file has
 
-// The field of a location's cut, by the cut's variable: none where it is uncut.
-fn cut_length(variable: i32) -> usize
-    ensures { result ≡ cond (eq_z variable (negsuc 0)) 0 (field_length cut_field_size) }
+// The field of a location's cut: none where it is uncut.
+fn cut_length(model: &[i32], l: usize) -> usize
+    requires { Whole model.now × (l < L# model.now) }
+    ensures { result ≡ length (cut_field_of model.now l) }
 {
-    if integers::same(variable, -1) {
+    if records::cut_variable(model, l) == -1 {
         0
     } else {
         wire::field_length(CUT_FIELD_SIZE)
@@ -31,12 +34,9 @@ fn cuts_length(model: &[i32]) -> usize
     requires { Whole model.now }
     ensures { result ≡ length (cut_fields model.now) }
 {
-    let locations = records::locations(model);
-    let mut bytes: usize = 0;
-    let mut l: usize = 0;
-    while l < locations {
-        bytes = bytes + cut_length(records::cut_variable(model, l));
-        l = l + 1;
+    let mut bytes = 0;
+    for l in 0..records::locations(model) {
+        bytes += cut_length(model, l);
     }
     bytes
 }
@@ -51,15 +51,13 @@ fn file_length(model: &[i32]) -> usize
 }
 
 // The model's questions; then: byte buffer long enough for the file? 40
-fn write_questions(model: &[i32], room: usize) -> u32
-    ensures { result ≡ write_model_questions model.now room }
+#[tactic(auto, using(plant::proofs::Refusing::refused_first, plant::proofs::Refusing::passed_first), unfolding(files::specs::ModelFile::write_model_questions))]
+fn write_questions(model: &[i32], room: usize) -> Result<(), Refusal>
+    ensures { asked result ≡ write_model_questions model.now room }
 {
-    let q = model::questions(model);
-    if q != 0 {
-        return q;
-    }
+    model::questions(model)?;
     let length = file_length(model);
-    model::ask(length <= room, 40)
+    model::ask(length <= room, Refusal::ModelBytes)
 }
 
 // ---- the records
@@ -68,7 +66,7 @@ fn write_questions(model: &[i32], room: usize) -> u32
 fn first_tag(edition: i32) -> u8
     ensures { result ≡ first_tag edition }
 {
-    if integers::same(edition, 2) { 9 } else { 1 }
+    if edition == 2 { 9 } else { 1 }
 }
 
 // Writes the field of a record of w words, from a place of the model on.
@@ -85,15 +83,9 @@ fn put_run(model: &[i32], tag: u8, from: usize, count: usize, w: usize, file: &m
     requires { RunRoom model.now from count w file.old to }
     ensures { file.new ≡ onto (take to file.old ++ record_fields tag model.now from count w) file.old }
 {
-    let len = wire::field_length(w);
-    let mut place = from;
-    let mut next = to;
-    let mut i: usize = 0;
-    while i < count {
-        put_record(model, tag, place, w, file, next);
-        place = place + w;
-        next = next + len;
-        i = i + 1;
+    let size = wire::field_length(w);
+    for i in 0..count {
+        put_record(model, tag, from + i * w, w, file, to + i * size);
     }
 }
 
@@ -142,10 +134,10 @@ fn put_cut(model: &[i32], l: usize, file: &mut [u8], to: usize) -> usize
     ensures bytes { file.new ≡ onto (take to file.old ++ cut_field_of model.now l) file.old }
     ensures next { result ≡ to + length (cut_field_of model.now l) }
 {
-    let at = records::cut_at(model, l);
-    if integers::same(model[at], -1) {
+    if records::cut_variable(model, l) == -1 {
         return to;
     }
+    let at = records::cut_at(model, l);
     let start = to + wire::HEADER_SIZE;
     wire::put_header(file, to, 8, wire::payload_length(CUT_FIELD_SIZE));
     wire::put_word(file, start, l as i32);
@@ -159,12 +151,9 @@ fn put_cuts(model: &[i32], file: &mut [u8]) -> usize
     ensures bytes { file.new ≡ onto (take (cuts_from model.now) file.old ++ cut_fields model.now) file.old }
     ensures end { result ≡ cuts_from model.now + length (cut_fields model.now) }
 {
-    let locations = records::locations(model);
     let mut to = cuts_from(model);
-    let mut l: usize = 0;
-    while l < locations {
+    for l in 0..records::locations(model) {
         to = put_cut(model, l, file, to);
-        l = l + 1;
     }
     to
 }
@@ -181,13 +170,11 @@ fn put_model(model: &[i32], file: &mut [u8]) -> usize
     put_cuts(model, file)
 }
 
-// Writes a model's file: how many bytes it has, or a refusal's number.
-pub fn write_model(model: &[i32], file: &mut [u8]) -> Count
-    ensures { record { count = result; file = file.new } ≡ write_model_call model.now file.old }
+// Writes a model's file: how many bytes it has.
+#[tactic(auto, using(crate::proofs::ModelWriting::write_stopped, crate::proofs::ModelWriting::write_yes, crate::proofs::ModelWriting::write_passed))]
+pub fn write_model(model: &[i32], file: &mut [u8]) -> Result<usize, Refusal>
+    ensures { record { count = numbered result; file = file.new } ≡ write_model_call model.now file.old }
 {
-    let q = write_questions(model, file.len());
-    if q != 0 {
-        return Count::Refused(q);
-    }
-    Count::Done(put_model(model, file))
+    write_questions(model, file.len())?;
+    Ok(put_model(model, file))
 }

@@ -1,14 +1,11 @@
 -- The words as they stand in the file, the location in 64 bits.
-use borrow.Author.Rules.{sfits_of}
-use mir.Syntax.{w32}
-use mir.Facts.{to_z-of_z}
-use Rattle.integers.proofs.Signed.{widened}
-use Rattle.model_files.proofs.CutTurns.{words_asked}
+use native.Mathlib.Omega.{arith}
+use Rattle.std.proofs.lemmas.Int.{ints, to_z-of_z}
+use Rattle.integers.proofs.Signed.{bits_eq, as_signed, got32, got64}
+use Rattle.files.specs.ModelFile.{cut_words_ok}
+use Rattle.model_files.proofs.CutTurns.{location_word, variable_word}
 use Rattle.model_files.proofs.cut_words_ok.Goals as goal
 
-pub overflow_cast-location : goal.overflow_cast-location
-overflow_cast-location c = rw (to_z-of_z {w = w32} (sfits_of c.word_at-location.type_inv)) (widened c.word_at-location.result c.word_at-location.type_inv)
-
 pub returns : goal.returns
-returns c =
-    words_asked c.args.file.now c.args.at c.within-named.ensures c.same.ensures c.word_at-location.type_inv c.word_at-location.ensures c.word_at-variable.type_inv c.word_at-variable.ensures c.requires.1 c.requires.3
+unfolding cut_words_ok
+returns c = search (arith, ints, to_z-of_z, bits_eq, as_signed, location_word, variable_word, c.within-named.ensures, c.from-location.ensures, c.word_at.ensures, c.word_at-variable.ensures)

@@ -4,7 +4,7 @@ use native.Mathlib.Omega.{arith}
 use lib.ListN.{length}
 use Rattle.files.proofs.FirstField.{length_head}
 use Rattle.files.proofs.ModelReading.{body_passed, all_filled}
-use Rattle.model_files.proofs.Filling.{cuts_ready}
+use Rattle.model_files.proofs.Filling.{five, cuts_ready}
 use Rattle.model_files.proofs.fill.Goals as goal
 
 pub fill_cuts-requires : goal.fill_cuts-requires
@@ -15,5 +15,5 @@ fill_cuts-requires c =
 pub returns : goal.returns
 returns c =
     let a = c.args in
-    all_filled a.file.now a.head.now (ap length c.requires.0.is_read ∙ length_head a.file.now) a.words.now _ _ c.fill_records.ensures
+    all_filled a.file.now a.head.now (five c.requires.0) a.words.now _ _ c.fill_records.ensures
     (rw (c.cuts_from.ensures, c.locations-count.ensures, c.cut_at-to.ensures) at c.fill_cuts.ensures)

@@ -2,20 +2,25 @@
 use mathlib.Core.Path.{sym, ap, ◌∙◌}
 use mathlib.Core.List.{List}
 use native.Mathlib.Omega.{arith}
+use lib.Seq.{length-take-le}
 use lib.IntN.{ℤ}
 use lib.ListN.{length}
 use Rattle.integers.specs.Words.{onto}
 use Rattle.plant.proofs.Positions.{head_first}
 use Rattle.files.proofs.FirstField.{length_head}
 use Rattle.files.proofs.ModelReading.{body_passed, filled}
-use Rattle.model_files.proofs.Filling.{locations_ready, switches_ready, forbiddens_ready}
+use Rattle.model_files.proofs.Filling.{five, head_room, head_put, locations_ready, switches_ready, forbiddens_ready}
 use Rattle.plant.proofs.Heads.{locations_at}
 use Rattle.model_files.proofs.fill_records.Goals as goal
 
-pub read_head-requires : goal.read_head-requires
-read_head-requires c =
-    let p = c.requires.0 in
-    (p.first_field, omega (arith, p.room, head_first c.args.head.now))
+pub slice_bounds-copy_from_slice-end : goal.slice_bounds-copy_from_slice-end
+slice_bounds-copy_from_slice-end c = head_room c.requires.0
+
+pub slice_bounds-copy_from_slice-end-2 : goal.slice_bounds-copy_from_slice-end-2
+slice_bounds-copy_from_slice-end-2 c = sym (length-take-le 5 c.args.words.now (head_room c.requires.0))
+
+pub copy_from_slice-requires : goal.copy_from_slice-requires
+copy_from_slice-requires c = length-take-le 5 c.args.words.now (head_room c.requires.0) ∙ sym (five c.requires.0)
 
 pub copy_run-requires : goal.copy_run-requires
 copy_run-requires c =
@@ -46,8 +51,8 @@ returns c =
     let a = c.args in
     let p = c.requires.0 in
     let n = c.variables-n.ensures in
-    filled a.file.now a.head.now (ap length p.is_read ∙ length_head a.file.now) a.words.now _ _ _ _
-    (c.read_head.ensures ∙ ap (λ (h : List ℤ). onto h a.words.now) (sym p.is_read))
+    filled a.file.now a.head.now (five p) a.words.now _ _ _ _
+    (head_put p c.copy_from_slice.ensures.after)
     (rw (c.locations_from.ensures, c.locations.ensures, c.location_size.ensures, n, c.location_at.ensures, locations_at a.head.now) at c.copy_run.ensures)
     (rw (c.switches_from.ensures, c.switches.ensures, c.switch_size.ensures, n, c.switch_at.ensures) at c.copy_run-2.ensures)
     (rw (c.forbiddens_from.ensures, c.forbidden_boxes.ensures, c.forbidden_size.ensures, n, c.forbidden_at.ensures) at c.copy_run-3.ensures)

@@ -1,13 +1,13 @@
--- By the variable.
-use mathlib.Core.Path.{◌≡◌, refl, sym, ◌∙◌}
-use mathlib.Core.Bool.{true, false}
-use lib.IntN.{negsuc}
-use mir.Facts.{to_z-of_z}
-use Rattle.integers.specs.Words.{eq_z}
+-- By the test of its variable.
+use mathlib.Core.Path.{refl}
+use Rattle.files.proofs.ModelLength.{length-cut-field}
+use Rattle.model_files.proofs.ModelWriting.{told_uncut, told_cut}
 use Rattle.model_files.proofs.writing.cut_length.Goals as goal
 
-pub returns-then-same : goal.returns-then-same
-returns-then-same c = let e : eq_z c.args.variable (negsuc 0) ≡ true = simp (to_z-of_z c.ranges.variable) at (sym c.same.ensures ∙ c.if-same.true) in rw e refl
+pub returns-then-cut_variable : goal.returns-then-cut_variable
+returns-then-cut_variable c =
+    rw (length-cut-field, told_uncut _ _ c.cut_variable.ensures c.cut_variable.type_inv c.if-cut_variable.true) refl
 
-pub returns-else-same : goal.returns-else-same
-returns-else-same c = let e : eq_z c.args.variable (negsuc 0) ≡ false = simp (to_z-of_z c.ranges.variable) at (sym c.same.ensures ∙ c.if-same.false) in rw e c.field_length.ensures
+pub returns-else-cut_variable : goal.returns-else-cut_variable
+returns-else-cut_variable c =
+    rw (length-cut-field, told_cut _ _ c.cut_variable.ensures c.cut_variable.type_inv c.if-cut_variable.false) c.field_length.ensures

@@ -1,13 +1,9 @@
--- The invariant: the bytes are those of the fields of the locations passed.
+-- The bytes are those of the fields of the locations passed.
 use mathlib.Core.Path.{◌≡◌}
-use Prim.Native.Nat.{◌-◌, ◌≤◌}
 use lib.ListN.{length}
 use Rattle.integers.specs.Counted.{cat}
 use Rattle.files.proofs.ModelLength.{cut_field_of}
 use Rattle.model_files.proofs.writing.cuts_length.Given as goal
 
 abbrev pub invariant-loop-l : goal.invariant-loop-l
-invariant-loop-l l = (l.l ≤ l.locations) × (l.bytes ≡ length (cat l.l (cut_field_of l.model)))
-
-abbrev pub decreases-loop-l : goal.decreases-loop-l
-decreases-loop-l l = l.locations - l.l
+invariant-loop-l l = l.bytes ≡ length (cat l.l (cut_field_of l.model))
