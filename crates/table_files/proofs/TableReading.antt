@@ -1,7 +1,7 @@
 -- Laws of reading a table's file: the questions by the position and the least key that the code keeps, what a yes to them
 -- tells, and how the table is filled piece by piece.
 use mathlib.Core.Path.{◌≡◌, refl, sym, ap, ap₂, ◌∙◌, subst}
-use mathlib.Core.Bool.{Bool, true, false, cond}
+use mathlib.Core.Bool.{Bool, true, false, cond, ◌&&◌}
 use mathlib.Core.Logic.{◌⊎◌, inl, inr, ⊎_elim}
 use mathlib.Core.List.{List, [], ◌∷◌, ◌++◌}
 use Prim.Native.Nat.{ℕ, zero, suc, ◌+◌, ◌*◌, ◌-◌, ◌≤◌, ◌<◌}
@@ -20,7 +20,8 @@ use mir.Syntax.{w32, w64}
 use mir.Val.{to_z, of_z}
 use mir.Facts.{to_z-of_z}
 use Rattle.integers.specs.Words.{word, num, within, onto}
-use Rattle.integers.proofs.Tests.{and_intro, is_true, true_is}
+use Rattle.std.proofs.Math.Bool.{and_assoc}
+use Rattle.integers.proofs.Tests.{and_yes, is_true, true_is}
 use Rattle.integers.proofs.Counted.{within_abs}
 use Rattle.integers.proofs.Signed.{got32, widened, as_signed}
 use Rattle.integers.proofs.Buffers.{onto_all}
@@ -48,7 +49,7 @@ use Rattle.plant.proofs.Reading.{refused_at, past}
 use Rattle.plant.proofs.Whole.{Whole}
 use Rattle.passes.proofs.Landing.{piece_put}
 use Rattle.files.specs.TableFile.{place_size, piece_field_size, piece_field_at, count_word, count_question, piece_field_words, piece_word, piece_named, piece_key, least_key, place_ok, piece_question, piece_questions, file_face, count#, file_table, fields_questions, table_file_questions, read_faces, room_questions, read_table_call}
-use Rattle.table_files.specs.TableRoom.{size_by, FieldsReady, CountAt, next_least, location_word, face_word, index_word, KeyAt}
+use Rattle.table_files.specs.TableRoom.{size_by, FieldsReady, CountAt, names_piece, next_least, location_word, face_word, index_word, KeyAt}
 use Rattle.table_files.proofs.Cuts.{size_is}
 use Rattle.files.proofs.PieceKeys.{table_keys}
 use Rattle.files.proofs.PlaceWords.{place_least, place_most, place_with, place_without}
@@ -93,18 +94,6 @@ module _ {m : List ℤ} {places : List ℕ} {cut : Bool} (r : FieldsReady m plac
 
 -- the least key of the next field, by 37 of this one
 module _ (m w : List ℤ) (least : ℕ) where
-  pub least_no : false ≡ place_ok m w least → None ≡ next_least m w least
-  unfolding next_least
-  least_no e = rw (← e) refl
-
-  module _ {k : ℕ} (e : leb least k ≡ place_ok m w least) where
-    pub least_late : k < least → None ≡ next_least m w least
-    least_late h = least_no (sym (lt-leb least k h) ∙ e)
-
-    pub least_made : least ≤ k → k ≡ piece_key m w → Some (k + 1) ≡ next_least m w least
-    unfolding next_least
-    least_made h ek = rw (← e, le-leb least k h, ek) refl
-
   -- what code learns of it
   by_place : {P : Type 0} (o : Option ℕ) → o ≡ next_least m w least → (place_ok m w least ≡ false → o ≡ None → P) → (place_ok m w least ≡ true → o ≡ Some (piece_key m w + 1) → P) → P
   unfolding next_least
@@ -132,41 +121,57 @@ module _ (m : List ℤ) (s : List ℕ) where
   unfolding count_question count_word ◌then◌
   count_asked e f er = rw (e, f) er
 
-  -- 37, test by test
-  module _ (start least : ℕ) where
-    abbrev named : List ℤ
-    named = words_from m s start
+  -- 37: the place names a piece, whose key is compared
+  module _ {places : List ℕ} {cut : Bool} (r : FieldsReady m places cut) (start : ℕ) where
+    abbrev location : Bool
+    location = within (pos 0) (pos (L# m - 1)) (location_word s start)
 
-    module _ (el : within (pos 0) (pos (L# m - 1)) (location_word s start) ≡ true) where
-      module _ (ef : within (pos 0) (pos (2 * n# m - 1)) (face_word s start) ≡ true) where
-        module _ {cut : Bool} (ec : cut ≡ any_cut m) where
-          pub place_no_piece : within (pos 0) (pos (per_face m (nat_abs (location_word s start)) - 1)) (index_word s start cut) ≡ false → false ≡ place_ok m named least
-          unfolding place_ok
-          place_no_piece e = rw (location_at_lem m s start, face_at m s start, index_at m s start ec, el, ef, e) refl
+    abbrev face : Bool
+    face = within (pos 0) (pos (2 * n# m - 1)) (face_word s start)
 
-          pub place_by_key : {k : ℕ} → within (pos 0) (pos (per_face m (nat_abs (location_word s start)) - 1)) (index_word s start cut) ≡ true → k ≡ piece_key m named → leb least k ≡ place_ok m named least
-          unfolding place_ok
-          place_by_key e ek = rw (ek, location_at_lem m s start, face_at m s start, index_at m s start ec, el, ef, e) refl
+    abbrev most : ℕ
+    most = per_face m (nat_abs (location_word s start)) - 1
 
-          pub key_there : {places : List ℕ} → FieldsReady m places cut → start + payload_length (size_by cut) ≤ length s
-              → within (pos 0) (pos (per_face m (nat_abs (location_word s start)) - 1)) (index_word s start cut) ≡ true → KeyAt m places cut s start
-          key_there r there ei = record {
-            ready = r;
-            index = record { there = there; natural = within_nonneg (per_face m (nat_abs (location_word s start)) - 1) (index_word s start cut) (true_is ei) };
-            location_natural = within_nonneg (L# m - 1) (location_word s start) (true_is el);
-            face_natural = within_nonneg (2 * n# m - 1) (face_word s start) (true_is ef);
-            location_below = omega (arith, within_abs (location_word s start) (L# m - 1) (true_is el), r.whole.head.L_positive);
-            face_below = omega (arith, within_abs (face_word s start) (2 * n# m - 1) (true_is ef), r.whole.head.n_positive);
-            index_below = omega (arith, within_abs (index_word s start cut) (per_face m (nat_abs (location_word s start)) - 1) (true_is ei), per_face_least m (nat_abs (location_word s start)));
-          }
+    abbrev index : Bool
+    index = within (pos 0) (pos most) (index_word s start cut)
 
-      pub place_no_face : within (pos 0) (pos (2 * n# m - 1)) (face_word s start) ≡ false → false ≡ place_ok m named least
-      unfolding place_ok
-      place_no_face e = rw (location_at_lem m s start, face_at m s start, el, e) refl
-
-    pub place_no_location : within (pos 0) (pos (L# m - 1)) (location_word s start) ≡ false → false ≡ place_ok m named least
+    place_named : (least : ℕ) → place_ok m (words_from m s start) least ≡ (names_piece m cut s start && leb least (piece_key m (words_from m s start)))
     unfolding place_ok
-    place_no_location e = rw (location_at_lem m s start, e) refl
+    place_named least =
+        let w : List ℤ = words_from m s start in
+        let key : Bool = leb least (piece_key m w) in
+        let tests : ℤ → ℤ → ℤ → Bool = λ l f i. within (pos 0) (pos (L# m - 1)) l && (within (pos 0) (pos (2 * n# m - 1)) f && (within (pos 0) (pos (per_face m (nat_abs l) - 1)) i && key)) in
+        ap (λ (z : ℤ). tests z (word w 1) (piece_word m w)) (location_at_lem m s start)
+        ∙ ap₂ (tests (location_word s start)) (face_at m s start) (index_at m s start r.cut_is)
+        ∙ sym (and_assoc location (face && index) key ∙ ap (λ (b : Bool). location && b) (and_assoc face index key))
+
+    pub key_named : start + payload_length (size_by cut) ≤ length s → names_piece m cut s start ≡ true → KeyAt m places cut s start
+    key_named there e =
+        let l : T location × T (face && index) = and_yes location (face && index) (true_is e) in
+        let f : T face × T index = and_yes face index l.1 in
+        record {
+          ready = r;
+          index = record { there = there; natural = within_nonneg most (index_word s start cut) f.1 };
+          location_natural = within_nonneg (L# m - 1) (location_word s start) l.0;
+          face_natural = within_nonneg (2 * n# m - 1) (face_word s start) f.0;
+          location_below = omega (arith, within_abs (location_word s start) (L# m - 1) l.0, r.whole.head.L_positive);
+          face_below = omega (arith, within_abs (face_word s start) (2 * n# m - 1) f.0, r.whole.head.n_positive);
+          index_below = omega (arith, within_abs (index_word s start cut) most f.1, per_face_least m (nat_abs (location_word s start)));
+        }
+
+    module _ (least : ℕ) where
+      pub next_none : names_piece m cut s start ≡ false → None ≡ next_least m (words_from m s start) least
+      unfolding next_least
+      next_none e = rw (place_named least, e) refl
+
+      module _ {k : ℕ} (e : names_piece m cut s start ≡ true) (ek : k ≡ piece_key m (words_from m s start)) where
+        pub next_late : k < least → None ≡ next_least m (words_from m s start) least
+        unfolding next_least
+        next_late h = rw (place_named least, e, ← ek, lt-leb least k h) refl
+
+        pub next_made : least ≤ k → Some (k + 1) ≡ next_least m (words_from m s start) least
+        unfolding next_least
+        next_made h = rw (place_named least, e, ← ek, le-leb least k h) refl
 
   -- a place that passes 37 names a piece
   pub key_passed : {places : List ℕ} {cut : Bool} {start least : ℕ} → FieldsReady m places cut → start + payload_length (size_by cut) ≤ length s → PlaceYes m (words_from m s start) least → KeyAt m places cut s start

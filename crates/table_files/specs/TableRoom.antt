@@ -1,6 +1,7 @@
 -- What the code on table files asks of what it is lent.
-use Rattle.std.specs.Prelude.{◌≡◌, Bool, cond, List, ℕ, ◌+◌, ◌*◌, ◌<◌, ◌≤◌, T, ℤ, pos, nat_abs, length, Option, Some, None}
+use Rattle.std.specs.Prelude.{◌≡◌, Bool, cond, ◌&&◌, List, ℕ, ◌+◌, ◌-◌, ◌*◌, ◌<◌, ◌≤◌, T, ℤ, pos, nat_abs, length, Option, Some, None}
 use Rattle.std.specs.Int.Signed.{non_neg}
+use Rattle.integers.specs.Words.{within}
 use Rattle.files.specs.Bytes.{word_size, word_at}
 use Rattle.files.specs.Fields.{payload_length, field_length}
 use Rattle.plant.specs.Model.{n#, L#}
@@ -80,6 +81,13 @@ index_word s start cut = cond cut (word_at s (start + 2 * word_size)) (pos 0)
 pub record IndexAt (s : List ℕ) (start : ℕ) (cut : Bool) : Type 0 where
   pub there : start + payload_length (size_by cut) ≤ length s
   pub natural : T (non_neg (index_word s start cut))
+
+-- the location exists, the face, and the piece of it
+abbrev pub names_piece : (m : List ℤ) (cut : Bool) (s : List ℕ) (start : ℕ) → Bool
+names_piece m cut s start =
+    within (pos 0) (pos (L# m - 1)) (location_word s start)
+    && (within (pos 0) (pos (2 * n# m - 1)) (face_word s start)
+    && within (pos 0) (pos (per_face m (nat_abs (location_word s start)) - 1)) (index_word s start cut))
 
 -- one more than the key that the words w of a field name, or none where they don't pass 37
 unfoldable pub next_least : (m w : List ℤ) (least : ℕ) → Option ℕ

@@ -5,12 +5,13 @@ ghost use Rattle.integers.specs.Words.{within};
 ghost use Rattle.files.specs.Bytes.{word_size, word_at, words_at};
 ghost use Rattle.files.specs.Fields.{payload_length};
 ghost use Rattle.plant.specs.Ask.{first};
+ghost use Rattle.plant.specs.Pieces as P;
 ghost use Rattle.plant.specs.Refusals.{asked, numbered};
 ghost use Rattle.plant.specs.Tables.{face_size, table_size};
 ghost use Rattle.plant.proofs.Whole.{Whole};
 ghost use Rattle.passes.specs.Ready.{TableReady};
 ghost use Rattle.files.specs.TableFile.{piece_field_size, count_question, piece_key, piece_questions, count#, fields_questions, table_file_questions, file_table, read_faces, read_table_call};
-ghost use Rattle.table_files.specs.TableRoom.{FieldsReady, WordsReady, CountAt, size_by, next_least, index_word, IndexAt, KeyAt};
+ghost use Rattle.table_files.specs.TableRoom.{FieldsReady, WordsReady, CountAt, size_by, names_piece, next_least, index_word, IndexAt, KeyAt};
 
 use crate::{
     COUNT_FIELD_SIZE, any_cut, field_size, per_face, pieces_from, place_size, room_questions,
@@ -98,8 +99,24 @@ fn key_at(model: &[i32], places: &[usize], any_cut: bool, file: &[u8], start: us
     places[l] + (f * per_face(model, any_cut, l) + k)
 }
 
+// Location, face and piece exist.
+#[tactic(auto, using(plant::proofs::Pieces::per_face_least, plant::proofs::Pieces::per_face_most))]
+fn names_piece(model: &[i32], any_cut: bool, file: &[u8], start: usize) -> bool
+    requires { Whole model.now × (any_cut ≡ P.any_cut model.now) × (start + payload_length (size_by any_cut) ≤ length file.now) }
+    ensures { result ≡ names_piece model.now any_cut file.now start }
+{
+    let faces = 2 * records::variables(model);
+    if !number_within(file, start, records::locations(model) - 1) {
+        return false;
+    }
+    let per = per_face(model, any_cut, number_at(file, start));
+    let face = number_within(file, start + wire::WORD_SIZE, faces - 1);
+    face & index_within(file, start, any_cut, per - 1)
+}
+
 // The least key that the next field may have, which is one more than the key of this one; none if this one's location, face or
 // piece does not exist, or its key is less than the least that is due.
+#[tactic(auto, using(crate::proofs::TableReading::next_none, crate::proofs::TableReading::next_late, crate::proofs::TableReading::next_made))]
 fn next_least(
     model: &[i32],
     places: &[usize],
@@ -111,15 +128,7 @@ fn next_least(
     requires { FieldsReady model.now places.now any_cut × (start + payload_length (size_by any_cut) ≤ length file.now) }
     ensures { result ≡ next_least model.now (words_at file.now start (piece_field_size model.now)) least }
 {
-    if !number_within(file, start, records::locations(model) - 1) {
-        return None;
-    }
-    let faces = 2 * records::variables(model);
-    if !number_within(file, start + wire::WORD_SIZE, faces - 1) {
-        return None;
-    }
-    let per = per_face(model, any_cut, number_at(file, start));
-    if !index_within(file, start, any_cut, per - 1) {
+    if !names_piece(model, any_cut, file, start) {
         return None;
     }
     let key = key_at(model, places, any_cut, file, start);
