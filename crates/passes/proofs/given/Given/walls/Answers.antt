@@ -53,7 +53,7 @@ module _ (g : Given) where
       inside = omega (arith, to, location_inside g.model.now l at_is u refl)
 
       small : end ≤ 19968
-      small = omega (arith, inside, table_small g.model.now g.table.now g.checked)
+      small = omega (arith, inside, table_small g)
 
       inside_held : end ≤ length held
       inside_held = omega (arith, inside, held_long)
@@ -63,7 +63,7 @@ module _ (g : Given) where
       old_words h =
           place_rest (location_words g.model.now) (locations_of g.model.now g.table.now) (locations_sized g.model.now g.table.now) held l h from to inside_held
           ∙ part_front at (end - at) (table_size g.model.now) g.table.now (omega (arith, inside, to))
-          ∙ old_location g.model.now g.table.now g.checked l u {k = end - at} at_is (omega (arith, to))
+          ∙ old_location g l u {k = end - at} at_is (omega (arith, to))
 
 pub slice_bounds-copy_from_slice-end : goal.slice_bounds-copy_from_slice-end
 slice_bounds-copy_from_slice-end c = copied_long c.args.self.now c.requires
