@@ -1,5 +1,5 @@
 -- After l turns the locations below l have their wall steps; the others still have the words of the table before the pass.
-use Rattle.std.proofs.Common.{◌≡◌, ℕ, ◌+◌, ◌-◌, ◌*◌, ◌≤◌, ◌<◌, List, ℤ, length, take, drop, get_or, refl, sym, ap, ◌∙◌, arith}
+use Rattle.std.proofs.Common.{◌≡◌, ℕ, ◌+◌, ◌-◌, ◌*◌, ◌≤◌, ◌<◌, List, ℤ, length, take, drop, get_or, refl, ap, ◌∙◌, arith}
 use lib.Seq.{length-take-le}
 use Rattle.integers.specs.Words.{onto}
 use Rattle.integers.specs.Counted.{cat, sum_below}
@@ -26,9 +26,6 @@ module _ (g : Given) where
   module _ {size : ℕ} (sized : size ≡ table_size g.model.now) where
     copied_is : take size g.table.now ≡ held
     copied_is = ap (λ (k : ℕ). take k g.table.now) sized
-
-    copied_long : size ≡ length (take size g.table.now)
-    copied_long = sym (ap length copied_is ∙ held_long ∙ sym sized)
 
   -- location l
   module _ {l : ℕ} (u : l < L# g.model.now) where
@@ -64,12 +61,6 @@ module _ (g : Given) where
           place_rest (location_words g.model.now) (locations_of g.model.now g.table.now) (locations_sized g.model.now g.table.now) held l h from to inside_held
           ∙ part_front at (end - at) (table_size g.model.now) g.table.now (omega (arith, inside, to))
           ∙ old_location g l u {k = end - at} at_is (omega (arith, to))
-
-pub slice_bounds-copy_from_slice-end : goal.slice_bounds-copy_from_slice-end
-slice_bounds-copy_from_slice-end c = copied_long c.args.self.now c.requires
-
-pub copy_from_slice-requires : goal.copy_from_slice-requires
-copy_from_slice-requires c = copied_long c.args.self.now c.requires
 
 pub loop-l-init : goal.loop-l-init
 loop-l-init c =
