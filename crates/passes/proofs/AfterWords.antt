@@ -19,7 +19,7 @@ use Rattle.steps.proofs.Bounds.{low_after_word, high_after_word}
 use Rattle.passes.specs.declared.walls.Place.{Place}
 use Rattle.passes.specs.Placing.{AfterJoin, after}
 
-module _ (p : Place) (bounds : List ℤ) (d : ℕ) (b : ℤ) (t : Interval) (i : ℕ) (l : i < p.n) (ok : AfterJoin p bounds b t) {z : ℤ} where
+module _ {p : Place} {bounds : List ℤ} {b : ℤ} {t : Interval} (ok : AfterJoin p bounds b t) (d : ℕ) {i : ℕ} (l : i < p.n) {z : ℤ} where
   module _ (is_low : z ≡ low_after p.n p.invariant.now p.rate.now bounds d b t i) where
     pub low_fits : SFits w32 z
     low_fits = rw is_low (fits32 (omega (arith, low_after_word p.n p.invariant.now p.rate.now bounds d b t i (p.levels i l) (p.rates i l) (in_levels p.levels ok.bounds_in i l) ok.wall_in ok.small)))

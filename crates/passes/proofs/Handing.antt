@@ -80,7 +80,7 @@ module _ (p : Place) where
     after_joins u k = k ∙ ap (λ (g : Face). with_face p d g pieces) (sym (handed_box gives u))
 
 -- the wall step to face f from a box whose window ends so, to the wall b
-module _ (p : Place) (bounds : List ℤ) (end : End) (f : ℕ) (pieces : List ℤ) (ok : WallJoin p bounds end f pieces) {b : ℤ} (b_is : b ≡ word p.invariant.now f) where
+module _ {p : Place} {bounds : List ℤ} {end : End} {f : ℕ} {pieces : List ℤ} (ok : WallJoin p bounds end f pieces) {b : ℤ} (b_is : b ≡ word p.invariant.now f) where
   abbrev d : ℕ
   d = variable_of f
 

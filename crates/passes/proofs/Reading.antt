@@ -92,23 +92,33 @@ module _ (m t : List ℤ) (ok : Checked m t) where
   pub placed : (e : ℕ) → e < E# m → Placed m e
   placed e l = switch_placed m model_passed e l
 
+module _ (g : Given) where
+  abbrev m : List ℤ
+  m = g.model.now
+
+  abbrev t : List ℤ
+  t = g.table.now
+
+  pub model_ok : Passed m
+  model_ok = model_passed m t g.checked
+
   -- ---- the parts of a location
 
   module _ (l p : ℕ) (u : l < L# m) (v : p ≤ pieces m l) {words : List ℤ} (h : IsPart (n# m) words (part_of m t l p)) where
     pub part_inside : PartOk (n# m) (InInvariant (n# m) (invariant m l)) words
-    part_inside = is_part_ok (n# m) (InInvariant (n# m) (invariant m l)) words (part_of m t l p) h (part-within m model_passed l u t ok.ready.room (true_is ok.valid) p v)
+    part_inside = is_part_ok (n# m) (InInvariant (n# m) (invariant m l)) words (part_of m t l p) h (part-within m model_ok l u t g.checked.ready.room (true_is g.checked.valid) p v)
 
     pub part_ok : PartOk (n# m) (Levels (n# m)) words
-    part_ok = is_part_ok (n# m) (Levels (n# m)) words (part_of m t l p) h (part_levels m model_passed l u t ok.ready.room (true_is ok.valid) p v)
+    part_ok = is_part_ok (n# m) (Levels (n# m)) words (part_of m t l p) h (part_levels m model_ok l u t g.checked.ready.room (true_is g.checked.valid) p v)
 
   -- piece q of location l, whose words code has
   pub piece_is_part : (l q : ℕ) → l < L# m → q < pieces m l → {n at : ℕ} → n ≡ n# m → at ≡ piece_at m l q → {words : List ℤ} → words ≡ take (face_size n) (drop at t) → IsPart (n# m) words (part_of m t l (q + 1))
   unfolding part_of
-  piece_is_part l q u v e a h = rw (add-one q) (piece_part m l u t ok.ready.room q v e a h)
+  piece_is_part l q u v e a h = rw (add-one q) (piece_part m l u t g.checked.ready.room q v e a h)
 
   -- the words of a piece of the table are those of the piece
   pub old_words : (l q : ℕ) → l < L# m → q < pieces m l → words_of m t l q ≡ face_words (n# m) (piece_of m t l q)
-  old_words = piece_words_lem m t ok.ready.room (true_is ok.valid)
+  old_words = piece_words_lem m t g.checked.ready.room (true_is g.checked.valid)
 
   -- ---- the wall steps from them to the pieces of location l, with what was read of it
 
@@ -141,12 +151,12 @@ module _ (m t : List ℤ) (ok : Checked m t) where
         unfolding pieces per_face
         is_block = rw (r.n_is, r.cut_is) (are_faces (n# m) (pieces m l) (λ q. joins (n# m) k (wall_from m t l q) (piece_of m t l q)) block-is)
 
-        module _ {g : Face} (part_is : g ≡ part_of m t l k) where
-          walls_are : (q : ℕ) → cut_each (n# m) (cut_of m l) (variable_of (q / per_face m l)) (on_box g (λ b. wall_step (n# m) (invariant m l) (rate m l) b (variable_of (q / per_face m l)) (word (invariant m l) (q / per_face m l)))) (q % per_face m l) ≡ wall_from m t l q k
+        module _ {part : Face} (part_is : part ≡ part_of m t l k) where
+          walls_are : (q : ℕ) → cut_each (n# m) (cut_of m l) (variable_of (q / per_face m l)) (on_box part (λ b. wall_step (n# m) (invariant m l) (rate m l) b (variable_of (q / per_face m l)) (word (invariant m l) (q / per_face m l)))) (q % per_face m l) ≡ wall_from m t l q k
           unfolding wall_from to_piece wall_step_at piece_extent piece_variable piece_face piece_index per_face
           walls_are q = rw (← (wall-word m l (piece_face m l q)), part_is) refl
 
-          pub joined_next : {exit : List ℤ} → exit ≡ with_walls p g block → exit ≡ joined_to (k + 1)
+          pub joined_next : {exit : List ℤ} → exit ≡ with_walls p part block → exit ≡ joined_to (k + 1)
           unfolding joins pieces per_face
           joined_next e = rw (add-one k)
               (e ∙ rw (r.n_is, r.invariant_is, r.rate_is, r.cut_is) (each_joined (n# m) (pieces m l) (λ q. joins (n# m) k (wall_from m t l q) (piece_of m t l q)) block-is _)
@@ -169,32 +179,32 @@ module _ (m t : List ℤ) (ok : Checked m t) where
 
   -- the face that it leaves, with its pieces, and the one on which it lands
   pub source_face_lem : (e : ℕ) → e < E# m → (source m e < L# m) × (source_face m e < 2 * n# m)
-  source_face_lem e u = let p : Placed m e = placed e u in (p.source_is, omega (arith, p.variable_is, p.source_side_is))
+  source_face_lem e u = let p : Placed m e = g.placed e u in (p.source_is, omega (arith, p.variable_is, p.source_side_is))
 
   pub source_below : (e k : ℕ) → e < E# m → k < per_face m (source m e) → source_piece m e k < pieces m (source m e)
   unfolding source_piece
   source_below e k u v = number_below m (source m e) (source_face m e) k (source_face_lem e u).1 v
 
   pub target_face_lem : (e : ℕ) → e < E# m → target_face m e < 2 * n# m
-  target_face_lem e l = let p : Placed m e = placed e l in omega (arith, p.variable_is, p.target_side_is)
+  target_face_lem e l = let p : Placed m e = g.placed e l in omega (arith, p.variable_is, p.target_side_is)
 
   -- in a model without a cut it lands on a face of one piece
   pub lands_uncut : NoCut m → (e : ℕ) → e < E# m → None ≡ cut_of m (target m e)
   unfolding per_face
-  lands_uncut none e u = sym (none_of (cut_of m (target m e)) (none.one_each (target m e) (placed e u).target_is))
+  lands_uncut none e u = sym (none_of (cut_of m (target m e)) (none.one_each (target m e) (g.placed e u).target_is))
 
   -- the box of a piece of its source's face
   pub source_levels : (e k : ℕ) → e < E# m → k < per_face m (source m e) → {from : List ℤ} → IsPart (n# m) from (part_of m t (source m e) (source_piece m e k + 1)) → PartOk (n# m) (Levels (n# m)) from
-  source_levels e k u v = part_ok (source m e) (source_piece m e k + 1) (placed e u).source_is (omega (arith, source_below e k u v))
+  source_levels e k u v = part_ok (source m e) (source_piece m e k + 1) (g.placed e u).source_is (omega (arith, source_below e k u v))
 
   -- its records are boxes of levels
   pub switch_ready : (e : ℕ) → e < E# m → {bounds out : List ℤ} → Levels (n# m) bounds → 2 * n# m ≤ length out → SwitchReady (n# m) (guard m e) (reset m e) (invariant m (target m e)) bounds out
   switch_ready e u b room =
-      let s : SwitchPassed m e = model_passed.of_switch e u in
+      let s : SwitchPassed m e = model_ok.of_switch e u in
       record {
-        guard_in = levels_from (n# m) (guard m e) (length-guard m whole e u) s.guard_levels;
-        reset_in = levels_from (n# m) (reset m e) (length-reset m whole e u) s.reset_levels;
-        inv_in = invariant_in m model_passed (target m e) (placed e u).target_is;
+        guard_in = levels_from (n# m) (guard m e) (length-guard m g.whole e u) s.guard_levels;
+        reset_in = levels_from (n# m) (reset m e) (length-reset m g.whole e u) s.reset_levels;
+        inv_in = invariant_in m model_ok (target m e) (g.placed e u).target_is;
         from_in = b;
         room = room;
       }
@@ -211,9 +221,8 @@ all_locations m t = refl
 pub locations_sized : (m t : List ℤ) (l : ℕ) → length (locations_of m t l) ≡ location_words m l
 locations_sized m t l = location_length m (walls_joined m t) l
 
-module _ (m t : List ℤ) (ok : Checked m t) where
-  pub table_small : table_size m ≤ 19968
-  table_small = table_most m (whole m t ok).head
+pub table_small : (g : Given) → table_size g.model.now ≤ 19968
+table_small g = table_most g.model.now g.whole.head
 
 -- how many pieces stand before location k, and where a piece of it begins, as code has it
 module _ (g : Given) {l k : ℕ} (l_is : l ≡ k) (u : k ≤ L# g.model.now) where

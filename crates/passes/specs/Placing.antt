@@ -20,15 +20,19 @@ pub record IsPlace (m : List ℤ) (l : ℕ) (p : Place) : Type 0 where
   pub rate_is : p.rate.now ≡ rate m l
   pub cut_is : p.cut ≡ cut_of m l
 
+-- a box inside its invariant
+abbrev pub IsInside : Place → List ℤ → Type 0
+IsInside p bounds = InInvariant p.n p.invariant.now bounds
+
 -- the box after the delays t from a box to the value b of a variable
 pub record AfterJoin (p : Place) (bounds : List ℤ) (b : ℤ) (t : Interval) : Type 0 where
-  pub bounds_in : InInvariant p.n p.invariant.now bounds
+  pub bounds_in : IsInside p bounds
   pub wall_in : Level b
   pub small : SmallInterval t
 
 -- the wall step to face f from a box whose window ends at end, to be joined to the face's pieces
 pub record WallJoin (p : Place) (bounds : List ℤ) (end : End) (f : ℕ) (pieces : List ℤ) : Type 0 where
-  pub bounds_in : InInvariant p.n p.invariant.now bounds
+  pub bounds_in : IsInside p bounds
   pub window_end : WindowEnd p.n p.invariant.now p.rate.now bounds end
   pub is_face : f < 2 * p.n
   pub are_pieces : AreFaces p.n (pieces_per_face p.cut) pieces

@@ -16,8 +16,8 @@ use plant::Cut;
 impl<'a> Given<'a> {
     // The step of switch e from a box of its source's face: writes the box on which it lands, and answers whether there is one.
     fn step(&self, e: usize, bounds: &[i32], out: &mut [i32]) -> bool
-        requires { (e < E# self.now.model.now) × Levels (n# self.now.model.now) bounds.now × (2 * n# self.now.model.now ≤ length out.old) }
-        ensures { Handed (n# self.now.model.now) result out.new out.old (switch_step_at self.now.model.now e (present bounds.now)) }
+        requires { let m = self.now.model.now in (e < E# m) × Levels (n# m) bounds.now × (2 * n# m ≤ length out.old) }
+        ensures { let m = self.now.model.now in Handed (n# m) result out.new out.old (switch_step_at m e (present bounds.now)) }
     {
         let model = self.model;
         let n = records::variables(model);
@@ -30,7 +30,7 @@ impl<'a> Given<'a> {
 
     // Joins a box to the pieces of the face on which switch e lands, in a location with this cut.
     fn join_landed(&self, e: usize, cut: Option<Cut>, part: &[i32], out: &mut [i32])
-        requires { (e < E# self.now.model.now) × (cut ≡ cut_of self.now.model.now (target self.now.model.now e)) × (length part.now ≡ 2 * n# self.now.model.now) × Ordered (n# self.now.model.now) part.now × IsTable self.now.model.now out.old }
+        requires { let m = self.now.model.now in (e < E# m) × (cut ≡ cut_of m (target m e)) × (length part.now ≡ 2 * n# m) × Ordered (n# m) part.now × IsTable m out.old }
         ensures { out.new ≡ with_landed self.now.model.now e (present part.now) out.old }
     {
         let model = self.model;
@@ -46,8 +46,8 @@ impl<'a> Given<'a> {
 
     // Joins the step of switch e from a box of its source's face to the pieces of the face on which it lands.
     fn land(&self, e: usize, cut: Option<Cut>, bounds: &[i32], out: &mut [i32])
-        requires { (e < E# self.now.model.now) × (cut ≡ cut_of self.now.model.now (target self.now.model.now e)) × Levels (n# self.now.model.now) bounds.now × IsTable self.now.model.now out.old }
-        ensures { out.new ≡ with_landed self.now.model.now e (switch_step_at self.now.model.now e (present bounds.now)) out.old }
+        requires { let m = self.now.model.now in (e < E# m) × (cut ≡ cut_of m (target m e)) × Levels (n# m) bounds.now × IsTable m out.old }
+        ensures { let m = self.now.model.now in out.new ≡ with_landed m e (switch_step_at m e (present bounds.now)) out.old }
     {
         let mut after = [0i32; 12];
         let end = 2 * records::variables(self.model);
@@ -59,7 +59,7 @@ impl<'a> Given<'a> {
     // The words of piece k of the face that switch e leaves, which has `count` pieces.
     fn source_piece(&self, e: usize, count: usize, k: usize) -> &'a [i32]
         requires { Leaves self.now.model.now e count k }
-        ensures { IsPart (n# self.now.model.now) result.now (T.part_of self.now.model.now self.now.table.now (source self.now.model.now e) (source_piece self.now.model.now e k + 1)) }
+        ensures { let m = self.now.model.now in let t = self.now.table.now in IsPart (n# m) result.now (T.part_of m t (source m e) (source_piece m e k + 1)) }
     {
         let model = self.model;
         let n = records::variables(model);
@@ -72,7 +72,7 @@ impl<'a> Given<'a> {
     // Joins the step of switch e from piece k of its source's face, if it is there: an absent one lands nothing, and nothing more is
     // looked at.
     fn land_from(&self, e: usize, count: usize, k: usize, cut: Option<Cut>, out: &mut [i32])
-        requires { Leaves self.now.model.now e count k × (cut ≡ cut_of self.now.model.now (target self.now.model.now e)) × IsTable self.now.model.now out.old }
+        requires { let m = self.now.model.now in Leaves m e count k × (cut ≡ cut_of m (target m e)) × IsTable m out.old }
         ensures { out.new ≡ with_switch self.now.model.now self.now.table.now e k out.old }
     {
         let from = self.source_piece(e, count, k);
@@ -84,8 +84,8 @@ impl<'a> Given<'a> {
 
     // Joins the steps of switch e from all pieces of its source's face.
     fn land_each(&self, e: usize, out: &mut [i32])
-        requires { (e < E# self.now.model.now) × (out.old ≡ table_by self.now.model.now (joined_below self.now.model.now self.now.table.now e)) }
-        ensures { out.new ≡ table_by self.now.model.now (joined_below self.now.model.now self.now.table.now (e + 1)) }
+        requires { let m = self.now.model.now in let t = self.now.table.now in (e < E# m) × (out.old ≡ table_by m (joined_below m t e)) }
+        ensures { let m = self.now.model.now in let t = self.now.table.now in out.new ≡ table_by m (joined_below m t (e + 1)) }
     {
         let cut = records::cut(self.model, records::target(self.model, e));
         let count = tables::per_face(self.model, records::source(self.model, e));
@@ -96,7 +96,7 @@ impl<'a> Given<'a> {
 
     // Joins all switch steps in a model with cuts.
     fn switches_cut(&self, out: &mut [i32])
-        requires { out.old ≡ table_by self.now.model.now (walls_joined self.now.model.now self.now.table.now) }
+        requires { let m = self.now.model.now in let t = self.now.table.now in out.old ≡ table_by m (walls_joined m t) }
         ensures { out.new ≡ T.pass self.now.model.now self.now.table.now }
     {
         for e in 0..records::switches(self.model) {
@@ -106,7 +106,7 @@ impl<'a> Given<'a> {
 
     // Joins all switch steps in a model without a cut: each face has one piece, and no cut is read.
     fn switches_uncut(&self, out: &mut [i32])
-        requires { (out.old ≡ table_by self.now.model.now (walls_joined self.now.model.now self.now.table.now)) × NoCut self.now.model.now }
+        requires { let m = self.now.model.now in let t = self.now.table.now in (out.old ≡ table_by m (walls_joined m t)) × NoCut m }
         ensures { out.new ≡ T.pass self.now.model.now self.now.table.now }
     {
         for e in 0..records::switches(self.model) {
@@ -116,7 +116,7 @@ impl<'a> Given<'a> {
 
     // Joins all switch steps to the pieces that have their wall steps.
     pub(crate) fn switches(&self, out: &mut [i32])
-        requires { out.old ≡ table_by self.now.model.now (walls_joined self.now.model.now self.now.table.now) }
+        requires { let m = self.now.model.now in let t = self.now.table.now in out.old ≡ table_by m (walls_joined m t) }
         ensures { out.new ≡ T.pass self.now.model.now self.now.table.now }
     {
         let locations = records::locations(self.model);

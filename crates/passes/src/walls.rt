@@ -8,7 +8,7 @@ ghost use Rattle.plant.specs.Pieces.{pieces_per_face, pieces};
 ghost use Rattle.plant.specs.Questions.{model_questions};
 ghost use Rattle.plant.specs.Steps.{face_after};
 ghost use Rattle.plant.specs.Tables.{face_size, pieces_before, table_size, face_read, piece_of, table_by, start_part, walls_joined};
-ghost use Rattle.delays.specs.Ranges.{Levels, Rates, InInvariant};
+ghost use Rattle.delays.specs.Ranges.{Levels, Rates};
 ghost use Rattle.tables.specs.Room.{AreFaces, CutBelow};
 ghost use Rattle.passes.specs.Joining.{below_prop, PartOk, Located, location_by};
 
@@ -43,7 +43,7 @@ fn cut(model: &[i32], l: usize, n: usize, count: usize) -> Option<Cut>
 }
 
 impl<'a> Place<'a> {
-    ghost use Rattle.passes.specs.Placing.{IsPlace, AfterJoin, WallJoin, IsBlock, after, step, with_face, with_walls};
+    ghost use Rattle.passes.specs.Placing.{IsPlace, IsInside, AfterJoin, WallJoin, IsBlock, after, step, with_face, with_walls};
 
     // Location l, with so many pieces.
     fn read(model: &'a [i32], l: usize, count: usize) -> Self
@@ -82,19 +82,11 @@ impl<'a> Place<'a> {
         requires { AfterJoin self.now bounds.now b t × AreFaces self.now.n (pieces_per_face self.now.cut) pieces.old }
         ensures { pieces.new ≡ with_face self.now d (face_after self.now.n self.now.invariant.now self.now.rate.now bounds.now d b (Some t)) pieces.old }
     {
+        let n = self.n;
+        let size = 2 * n;
         let mut after = [0i32; 12];
-        let size = 2 * self.n;
-        if steps::box_after(
-            self.n,
-            self.invariant,
-            self.rate,
-            bounds,
-            d,
-            b,
-            t,
-            &mut after,
-        ) {
-            tables::join_pieces(self.n, d, self.cut, &after[..size], pieces);
+        if steps::box_after(n, self.invariant, self.rate, bounds, d, b, t, &mut after) {
+            tables::join_pieces(n, d, self.cut, &after[..size], pieces);
         }
     }
 
@@ -119,7 +111,7 @@ impl<'a> Place<'a> {
 
     // Joins to the pieces of each face the wall step from a box. Its window is made once, for all walls.
     fn join_walls(&self, bounds: &[i32], block: &mut [i32])
-        requires { InInvariant self.now.n self.now.invariant.now bounds.now × IsBlock self.now block.old }
+        requires { IsInside self.now bounds.now × IsBlock self.now block.old }
         ensures { block.new ≡ with_walls self.now (present bounds.now) block.old }
     {
         let end = delays::window_end(self.n, self.invariant, self.rate, bounds);
@@ -134,7 +126,7 @@ impl<'a> Place<'a> {
 
     // Joins to the pieces of each face the wall step from a part, if it is there.
     fn join_part(&self, part: &[i32], block: &mut [i32])
-        requires { PartOk self.now.n (InInvariant self.now.n self.now.invariant.now) part.now × IsBlock self.now block.old }
+        requires { PartOk self.now.n (IsInside self.now) part.now × IsBlock self.now block.old }
         ensures { block.new ≡ with_walls self.now (face_read self.now.n part.now 0) block.old }
     {
         if part[0] == 1 {
@@ -169,8 +161,8 @@ impl Given<'_> {
     // Joins to the pieces of location l, `count` of them, before which so many stand in the table, the wall steps from all parts of
     // the location: its start part, and its pieces.
     fn join_parts(&self, l: usize, before: usize, count: usize, block: &mut [i32])
-        requires { (l < L# self.now.model.now) × (before ≡ pieces_before self.now.model.now l) × (count ≡ pieces self.now.model.now l) × (block.old ≡ location_by self.now.model.now l (piece_of self.now.model.now self.now.table.now l)) }
-        ensures { block.new ≡ location_by self.now.model.now l (walls_joined self.now.model.now self.now.table.now l) }
+        requires { let m = self.now.model.now in let t = self.now.table.now in (l < L# m) × (before ≡ pieces_before m l) × (count ≡ pieces m l) × (block.old ≡ location_by m l (piece_of m t l)) }
+        ensures { let m = self.now.model.now in let t = self.now.table.now in block.new ≡ location_by m l (walls_joined m t l) }
     {
         let place = Place::read(self.model, l, count);
         place.join_start(self.model, l, block);
@@ -183,7 +175,7 @@ impl Given<'_> {
     // The whole table: its words are copied at once, and the wall steps of each location joined to them.
     pub(crate) fn walls(&self, out: &mut [i32])
         requires { length out.old ≡ table_size self.now.model.now }
-        ensures { out.new ≡ table_by self.now.model.now (walls_joined self.now.model.now self.now.table.now) }
+        ensures { let m = self.now.model.now in let t = self.now.table.now in out.new ≡ table_by m (walls_joined m t) }
     {
         let n = records::variables(self.model);
         let size = out.len();

@@ -7,7 +7,7 @@ use Rattle.plant.specs.Model.{n#, E#, target, wall_variable, target_side, cut_of
 use Rattle.plant.specs.Pieces.{pieces_per_face, per_face}
 use Rattle.plant.specs.Tables.{face_size, piece_at}
 use Rattle.passes.specs.declared.given.Given.{Given}
-use Rattle.passes.proofs.Reading.{model_passed, below_of, target_face_lem, table_small, before_small, piece_begins}
+use Rattle.passes.proofs.Reading.{model_ok, below_of, target_face_lem, table_small, before_small, piece_begins}
 use Rattle.passes.proofs.Landing.{target_first, first_small, lands_inside, out_long, target_are_pieces, landed}
 use Rattle.passes.proofs.given.Given.join_landed.Goals as goal
 use Rattle.passes.proofs.given.Given.join_landed.Goals.{After-face_size}
@@ -22,7 +22,7 @@ module _ (g : Given) {e d s each : ℕ} {cut : Option Cut} (u : e < E# g.model.n
   first_is = (λ i. (2 * d_is i + s_is i) * count_is i)
 
   few : (2 * d + s) * each ≤ 24
-  few = omega (arith, first_is, first_small g.model.now e g.whole.head.n_small (target_face_lem g.model.now g.table.now g.checked e u))
+  few = omega (arith, first_is, first_small g.model.now e g.whole.head.n_small (target_face_lem g e u))
 
 -- where they stand
 record Stands (m out : List ℤ) (e at words : ℕ) : Type 0 where
@@ -38,12 +38,12 @@ stands c =
     let words = ap₂ (λ (k w : ℕ). k * w) (count_is g c.requires.0 c.requires.1 c.wall_variable-d.ensures c.target_side.ensures c.pieces_per_face-each.ensures) (c.face_size.ensures ∙ ap face_size c.variables-n.ensures) in
     let first = first_is g c.requires.0 c.requires.1 c.wall_variable-d.ensures c.target_side.ensures c.pieces_per_face-each.ensures in
     let begins = piece_begins g c.target-l.ensures (omega (arith, p.target_is)) c.variables-n.ensures first c.piece_at-at.ensures in
-    let there = lands_inside g.model.now c.args.e (present c.args.part.now) p.target_is (target_face_lem g.model.now g.table.now g.checked c.args.e c.requires.0) p.target_side_is c.args.out.now c.requires.4 in
-    let long = out_long g.model.now c.args.e (present c.args.part.now) p.target_is (target_face_lem g.model.now g.table.now g.checked c.args.e c.requires.0) p.target_side_is c.args.out.now c.requires.4 in
+    let there = lands_inside g.model.now c.args.e (present c.args.part.now) p.target_is (target_face_lem g c.args.e c.requires.0) p.target_side_is c.args.out.now c.requires.4 in
+    let long = out_long g.model.now c.args.e (present c.args.part.now) p.target_is (target_face_lem g c.args.e c.requires.0) p.target_side_is c.args.out.now c.requires.4 in
     record {
       at_is = begins;
       part_is = omega (arith, words);
-      small = omega (arith, begins, words, there, table_small g.model.now g.table.now g.checked);
+      small = omega (arith, begins, words, there, table_small g);
       inside = omega (arith, begins, words, there, long);
     }
 
@@ -78,8 +78,8 @@ join_pieces-requires c =
     let e = c.args.e in
     let p = g.placed e c.requires.0 in
     let s = stands (goal.at.join_pieces-requires c).After-face_size in
-    let are = target_are_pieces m e (present c.args.part.now) p.target_is (target_face_lem m g.table.now g.checked e c.requires.0) p.target_side_is c.args.out.now c.requires.4 s.at_is s.part_is in
-    let below = below_of (n# m) (invariant m (target m e)) (cut_of m (target m e)) ((model_passed m g.table.now g.checked).of_cut (target m e) p.target_is).inside in
+    let are = target_are_pieces m e (present c.args.part.now) p.target_is (target_face_lem g e c.requires.0) p.target_side_is c.args.out.now c.requires.4 s.at_is s.part_is in
+    let below = below_of (n# m) (invariant m (target m e)) (cut_of m (target m e)) ((model_ok g).of_cut (target m e) p.target_is).inside in
     rw (c.variables-n.ensures, c.requires.1) (record { n_small = g.whole.head.n_small; box_length = c.requires.2; box_ordered = c.requires.3; cut_below = below; are_pieces = are })
 
 pub returns : goal.returns
@@ -88,4 +88,4 @@ returns c =
     let g = c.args.self.now in
     let p = g.placed c.args.e c.requires.0 in
     let s = stands (goal.at.returns c).After-face_size in
-    landed g.model.now c.args.e (present c.args.part.now) p.target_is (target_face_lem g.model.now g.table.now g.checked c.args.e c.requires.0) p.target_side_is c.args.out.now c.requires.4 s.at_is s.part_is (rw (c.variables-n.ensures, c.requires.1, c.wall_variable-d.ensures) at c.join_pieces.ensures)
+    landed g.model.now c.args.e (present c.args.part.now) p.target_is (target_face_lem g c.args.e c.requires.0) p.target_side_is c.args.out.now c.requires.4 s.at_is s.part_is (rw (c.variables-n.ensures, c.requires.1, c.wall_variable-d.ensures) at c.join_pieces.ensures)

@@ -14,10 +14,10 @@ use Rattle.passes.proofs.given.Given.join_parts.Goals.{After-face}
 pub join_start-requires : goal.join_start-requires
 join_start-requires c =
     let g = c.args.self.now in
-    (g.checked.ready.passes, c.requires.0, c.read-place.ensures, is_block g.model.now g.table.now g.checked c.args.l c.requires.0 c.read-place.ensures 0 (joined_none g.model.now g.table.now g.checked c.args.l c.requires.0 c.requires.3))
+    (g.checked.ready.passes, c.requires.0, c.read-place.ensures, is_block g c.args.l c.requires.0 c.read-place.ensures 0 (joined_none g c.args.l c.requires.0 c.requires.3))
 
 pub loop-q-init : goal.loop-q-init
-loop-q-init c = let g = c.args.self.now in start_joined g.model.now g.table.now g.checked c.args.l c.requires.0 c.read-place.ensures c.requires.3 c.join_start.ensures
+loop-q-init c = let g = c.args.self.now in start_joined g c.args.l c.requires.0 c.read-place.ensures c.requires.3 c.join_start.ensures
 
 pub piece_at-at-requires : goal.piece_at-at-requires
 piece_at-at-requires c =
@@ -29,7 +29,7 @@ piece_at-at-requires c =
 piece : (c : After-face) → IsPart (n# c.args.self.now.model.now) c.face.result.now (part_of c.args.self.now.model.now c.args.self.now.table.now c.args.l (c.loop-q.q + 1))
 piece c =
     let g = c.args.self.now in
-    piece_is_part g.model.now g.table.now g.checked c.args.l c.loop-q.q c.requires.0 (omega arith) c.read-place.ensures.n_is (place_is g.model.now c.args.l c.loop-q.q c.read-place.ensures.n_is c.requires.1 c.piece_at-at.ensures) c.face.ensures
+    piece_is_part g c.args.l c.loop-q.q c.requires.0 (omega arith) c.read-place.ensures.n_is (place_is g.model.now c.args.l c.loop-q.q c.read-place.ensures.n_is c.requires.1 c.piece_at-at.ensures) c.face.ensures
 
 pub face-requires : goal.face-requires
 face-requires c =
@@ -41,16 +41,16 @@ join_part-requires c =
     let g = c.args.self.now in
     let r = c.read-place.ensures in
     let q = c.loop-q.q in
-    (part_lies g.model.now g.table.now g.checked c.args.l c.requires.0 r (q + 1) (omega arith) (piece (goal.at.join_part-requires c).After-face), is_block g.model.now g.table.now g.checked c.args.l c.requires.0 r (q + 1) c.loop-q.invariant)
+    (part_lies g c.args.l c.requires.0 r (q + 1) (omega arith) (piece (goal.at.join_part-requires c).After-face), is_block g c.args.l c.requires.0 r (q + 1) c.loop-q.invariant)
 
 pub loop-q-preserved : goal.loop-q-preserved
 loop-q-preserved c =
     let g = c.args.self.now in
     let q = c.loop-q.q in
-    joined_more g.model.now g.table.now g.checked c.args.l c.requires.0 c.read-place.ensures (q + 1) (omega arith) (piece (goal.at.loop-q-preserved c).After-face) c.loop-q.invariant c.join_part.ensures
+    joined_more g c.args.l c.requires.0 c.read-place.ensures (q + 1) (omega arith) (piece (goal.at.loop-q-preserved c).After-face) c.loop-q.invariant c.join_part.ensures
 
 pub returns : goal.returns
 returns c =
     let g = c.args.self.now in
     let e : c.loop-q.q + 1 ≡ pieces g.model.now c.args.l + 1 = omega arith in
-    c.loop-q.invariant ∙ ap (joined_to g.model.now g.table.now g.checked c.args.l c.requires.0) e ∙ joined_all g.model.now g.table.now g.checked c.args.l c.requires.0
+    c.loop-q.invariant ∙ ap (joined_to g c.args.l c.requires.0) e ∙ joined_all g c.args.l c.requires.0

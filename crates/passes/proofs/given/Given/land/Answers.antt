@@ -4,7 +4,7 @@ use Rattle.plant.specs.Tables.{switch_step_at}
 use Rattle.plant.specs.Box.{present}
 use Rattle.delays.specs.Ranges.{InInvariant}
 use Rattle.steps.proofs.Faces.{switch_in}
-use Rattle.passes.proofs.Handing.{handed_box, handed_none, handed_all}
+use Rattle.passes.proofs.Handing.{handed_none, handed_all}
 use Rattle.passes.proofs.Landing.{nothing_landed}
 use Rattle.passes.proofs.given.Given.land.Goals as goal
 
@@ -15,9 +15,6 @@ join_landed-requires c =
     let e = c.args.e in
     let b = handed_all c.step.ensures (InInvariant (n# m) (invariant m (target m e))) c.if-step.true (switch_in (n# m) (reset_mask m e) (guard m e) (reset m e) (invariant m (target m e)) (present c.args.bounds.now)) in
     rw c.variables-end.ensures (c.requires.0, c.requires.1, b.sized, b.is_ordered, c.requires.3)
-
-pub returns-then-step : goal.returns-then-step
-returns-then-step c = rw (handed_box c.step.ensures c.if-step.true) (rw c.variables-end.ensures at c.join_landed.ensures)
 
 pub returns-else-step : goal.returns-else-step
 returns-else-step c = nothing_landed c.args.self.now.model.now c.args.e (handed_none c.step.ensures c.if-step.false) c.requires.3

@@ -9,15 +9,6 @@ use Rattle.passes.proofs.given.Given.land_each.Goals as goal
 pub target-requires : goal.target-requires
 target-requires c = (c.args.self.now.placed c.args.e c.requires.0).numbered
 
-pub source-requires : goal.source-requires
-source-requires c = (c.args.self.now.placed c.args.e c.requires.0).numbered
-
-pub cut-cut-requires : goal.cut-cut-requires
-cut-cut-requires c = let g = c.args.self.now in (g.whole, omega (arith, c.target.ensures, (g.placed c.args.e c.requires.0).target_is))
-
-pub per_face-count-requires : goal.per_face-count-requires
-per_face-count-requires c = let g = c.args.self.now in (g.whole, omega (arith, c.source.ensures, (g.placed c.args.e c.requires.0).source_is))
-
 pub loop-k-init : goal.loop-k-init
 loop-k-init c = let g = c.args.self.now in c.requires.1 ∙ from_none g.model.now g.table.now c.args.e
 

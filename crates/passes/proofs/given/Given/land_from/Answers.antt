@@ -14,7 +14,7 @@ land-requires c =
     let g = c.args.self.now in
     let from = c.source_piece-from in
     let there : word from.result.now 0 ≡ pos 1 = omega (arith, ints) in
-    let levels = (source_levels g.model.now g.table.now g.checked c.args.e c.args.k c.requires.0.is_switch c.requires.0.is_piece from.ensures).has there in
+    let levels = (source_levels g c.args.e c.args.k c.requires.0.is_switch c.requires.0.is_piece from.ensures).has there in
     (c.requires.0.is_switch, c.requires.1, rw (c.box_at.ensures, c.variables-n.ensures) levels, c.requires.2)
 
 pub returns-then-from-eq1 : goal.returns-then-from-eq1

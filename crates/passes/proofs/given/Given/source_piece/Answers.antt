@@ -18,7 +18,7 @@ number : (c : After-source_side) → (2 * c.wall_variable.result + c.source_side
 number c = number_is c.args.self.now.model.now c.args.e c.args.k c.wall_variable.ensures c.source_side.ensures c.requires.count_is
 
 there : (c : After-source_side) → source_piece c.args.self.now.model.now c.args.e c.args.k < pieces c.args.self.now.model.now (source c.args.self.now.model.now c.args.e)
-there c = let g = c.args.self.now in source_below g.model.now g.table.now g.checked c.args.e c.args.k c.requires.is_switch c.requires.is_piece
+there c = let g = c.args.self.now in source_below g c.args.e c.args.k c.requires.is_switch c.requires.is_piece
 
 few : (c : After-source_side) → (2 * c.wall_variable.result + c.source_side.result) * c.args.count + c.args.k ≤ 24
 few c = let g = c.args.self.now in omega (arith, number c, there c, pieces-most g.model.now (source g.model.now c.args.e) g.whole.head.n_small)
@@ -48,4 +48,4 @@ face-requires c =
 pub returns : goal.returns
 returns c =
     let g = c.args.self.now in
-    piece_is_part g.model.now g.table.now g.checked (source g.model.now c.args.e) (source_piece g.model.now c.args.e c.args.k) (g.placed c.args.e c.requires.is_switch).source_is (there (goal.at.returns c).After-source_side) c.variables-n.ensures (begins (goal.at.returns c).After-piece_at) c.face.ensures
+    piece_is_part g (source g.model.now c.args.e) (source_piece g.model.now c.args.e c.args.k) (g.placed c.args.e c.requires.is_switch).source_is (there (goal.at.returns c).After-source_side) c.variables-n.ensures (begins (goal.at.returns c).After-piece_at) c.face.ensures

@@ -15,7 +15,7 @@ pub switch_step-requires : goal.switch_step-requires
 switch_step-requires c =
     let g = c.args.self.now in
     let inv_is : c.invariant-inv.result.now ≡ invariant g.model.now (target g.model.now c.args.e) = c.invariant-inv.ensures ∙ ap (invariant g.model.now) c.target.ensures in
-    rw (c.variables-n.ensures, c.guard-guard.ensures, c.reset-reset.ensures, inv_is) (switch_ready g.model.now g.table.now g.checked c.args.e c.requires.0 c.requires.1 c.requires.2)
+    rw (c.variables-n.ensures, c.guard-guard.ensures, c.reset-reset.ensures, inv_is) (switch_ready g c.args.e c.requires.0 c.requires.1 c.requires.2)
 
 pub returns : goal.returns
 unfolding switch_step_at

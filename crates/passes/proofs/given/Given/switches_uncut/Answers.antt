@@ -19,7 +19,7 @@ land_from-requires c =
     let e = c.loop-e.e in
     let is_switch : e < E# m = omega arith in
     let single : per_face m (source m e) ≡ 1 = c.requires.1.one_each (source m e) (g.placed e is_switch).source_is in
-    (record { is_switch = is_switch; count_is = sym single; is_piece = omega arith }, lands_uncut m g.table.now g.checked c.requires.1 e is_switch, is_table m g.table.now (joined_below m g.table.now e) c.loop-e.invariant)
+    (record { is_switch = is_switch; count_is = sym single; is_piece = omega arith }, lands_uncut g c.requires.1 e is_switch, is_table m g.table.now (joined_below m g.table.now e) c.loop-e.invariant)
 
 pub loop-e-preserved : goal.loop-e-preserved
 loop-e-preserved c =

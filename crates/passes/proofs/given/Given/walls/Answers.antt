@@ -1,5 +1,5 @@
 -- After l turns the locations below l have their wall steps; the others still have the words of the table before the pass.
-use Rattle.std.proofs.Common.{◌≡◌, ℕ, ◌+◌, ◌-◌, ◌*◌, ◌≤◌, ◌<◌, List, ℤ, length, take, drop, get_or, refl, sym, ap, ◌∙◌, arith}
+use Rattle.std.proofs.Common.{◌≡◌, ℕ, ◌+◌, ◌-◌, ◌*◌, ◌≤◌, ◌<◌, List, ℤ, length, take, drop, get_or, refl, ap, ◌∙◌, arith}
 use lib.Seq.{length-take-le}
 use Rattle.integers.specs.Words.{onto}
 use Rattle.integers.specs.Counted.{cat, sum_below}
@@ -27,9 +27,6 @@ module _ (g : Given) where
     copied_is : take size g.table.now ≡ held
     copied_is = ap (λ (k : ℕ). take k g.table.now) sized
 
-    copied_long : size ≡ length (take size g.table.now)
-    copied_long = sym (ap length copied_is ∙ held_long ∙ sym sized)
-
   -- location l
   module _ {l : ℕ} (u : l < L# g.model.now) where
     next_is : get_or g.places.now (l + 1) 0 ≡ get_or g.places.now l 0 + pieces g.model.now l
@@ -53,7 +50,7 @@ module _ (g : Given) where
       inside = omega (arith, to, location_inside g.model.now l at_is u refl)
 
       small : end ≤ 19968
-      small = omega (arith, inside, table_small g.model.now g.table.now g.checked)
+      small = omega (arith, inside, table_small g)
 
       inside_held : end ≤ length held
       inside_held = omega (arith, inside, held_long)
@@ -63,13 +60,7 @@ module _ (g : Given) where
       old_words h =
           place_rest (location_words g.model.now) (locations_of g.model.now g.table.now) (locations_sized g.model.now g.table.now) held l h from to inside_held
           ∙ part_front at (end - at) (table_size g.model.now) g.table.now (omega (arith, inside, to))
-          ∙ old_location g.model.now g.table.now g.checked l u {k = end - at} at_is (omega (arith, to))
-
-pub slice_bounds-copy_from_slice-end : goal.slice_bounds-copy_from_slice-end
-slice_bounds-copy_from_slice-end c = copied_long c.args.self.now c.requires
-
-pub copy_from_slice-requires : goal.copy_from_slice-requires
-copy_from_slice-requires c = copied_long c.args.self.now c.requires
+          ∙ old_location g l u {k = end - at} at_is (omega (arith, to))
 
 pub loop-l-init : goal.loop-l-init
 loop-l-init c =

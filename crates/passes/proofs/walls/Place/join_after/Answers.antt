@@ -1,17 +1,12 @@
 -- An empty box leaves the pieces; any other is joined to them.
 use mir.Facts.{to_z-of_z}
-use Rattle.passes.proofs.Handing.{face_none, handed_none, after_joinable, after_joins}
+use Rattle.passes.proofs.Handing.{face_none, handed_none, after_joinable}
 use Rattle.passes.proofs.walls.Place.join_after.Goals as goal
 
 pub join_pieces-requires : goal.join_pieces-requires
 join_pieces-requires c =
     let a = c.args in
     after_joinable a.self.now a.bounds.now a.d a.b a.t a.pieces.now c.requires.1 (simp (to_z-of_z c.ranges.b) at c.box_after.ensures) c.if-box_after.true
-
-pub returns-then-box_after : goal.returns-then-box_after
-returns-then-box_after c =
-    let a = c.args in
-    after_joins a.self.now a.bounds.now a.d a.b a.t a.pieces.now c.requires.1 (simp (to_z-of_z c.ranges.b) at c.box_after.ensures) c.if-box_after.true c.join_pieces.ensures
 
 pub returns-else-box_after : goal.returns-else-box_after
 returns-else-box_after c = face_none c.args.self.now c.args.d c.requires.1 (handed_none (simp (to_z-of_z c.ranges.b) at c.box_after.ensures) c.if-box_after.false)

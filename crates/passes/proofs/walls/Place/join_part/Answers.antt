@@ -6,11 +6,6 @@ use Rattle.passes.proofs.PartWords.{part_there, part_gone}
 use Rattle.passes.proofs.Handing.{part_none}
 use Rattle.passes.proofs.walls.Place.join_part.Goals as goal
 
-pub join_walls-requires : goal.join_walls-requires
-join_walls-requires c =
-    let there : word c.args.part.now 0 ≡ pos 1 = omega (arith, ints) in
-    rw c.box_at.ensures (c.requires.0.has there, c.requires.1)
-
 pub returns-then-part-eq1 : goal.returns-then-part-eq1
 returns-then-part-eq1 c =
     let a = c.args in

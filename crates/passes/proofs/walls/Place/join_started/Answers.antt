@@ -1,14 +1,11 @@
 -- Without a start part the location's words stay; from one the steps to all faces are joined to them.
-use Rattle.std.proofs.Common.{sym, arith}
+use Rattle.std.proofs.Common.{sym}
 use Rattle.plant.specs.Model.{n#, invariant}
 use Rattle.plant.proofs.Passed.{passed}
 use Rattle.delays.specs.Ranges.{InInvariant}
 use Rattle.passes.proofs.PartWords.{start_inside}
 use Rattle.passes.proofs.Handing.{part_none, handed_box, handed_none, handed_all}
 use Rattle.passes.proofs.walls.Place.join_started.Goals as goal
-
-pub start_part-requires : goal.start_part-requires
-start_part-requires c = (c.requires.0, c.requires.1, omega (arith, c.requires.2.n_is))
 
 pub slice_bounds-join_walls-end : goal.slice_bounds-join_walls-end
 slice_bounds-join_walls-end c = sym (rw (← c.requires.2.n_is) at c.start_part.ensures.sized)

@@ -1,5 +1,5 @@
 -- In each turn the low and the high of one more variable: the smaller of the two lows, the larger of the two highs.
-use Rattle.std.proofs.Common.{◌≡◌, arith, rules}
+use Rattle.std.proofs.Common.{◌≡◌, ◌<◌, arith, rules}
 use mir.Facts.{to_z-of_z}
 use Rattle.integers.proofs.Signed.{got32, got64}
 use Rattle.plant.specs.Box.{box_at}
@@ -33,13 +33,15 @@ pub overflow_cast-lo : goal.overflow_cast-lo
 overflow_cast-lo c =
     let a = c.args in
     let x = c.low_after-lo in
-    rw (got64 x.result x.type_inv) (low_fits a.self.now a.bounds.now a.d a.b a.t c.loop-i.i (omega arith) c.requires.0 (simp (to_z-of_z c.ranges.b) at (x.ensures a.self.now.n)))
+    let below : c.loop-i.i < a.self.now.n = omega arith in
+    rw (got64 x.result x.type_inv) (low_fits c.requires.0 a.d below (simp (to_z-of_z c.ranges.b) at (x.ensures a.self.now.n)))
 
 pub overflow_cast-hi : goal.overflow_cast-hi
 overflow_cast-hi c =
     let a = c.args in
     let x = c.high_after-hi in
-    rw (got64 x.result x.type_inv) (high_fits a.self.now a.bounds.now a.d a.b a.t c.loop-i.i (omega arith) c.requires.0 (simp (to_z-of_z c.ranges.b) at (x.ensures a.self.now.n)))
+    let below : c.loop-i.i < a.self.now.n = omega arith in
+    rw (got64 x.result x.type_inv) (high_fits c.requires.0 a.d below (simp (to_z-of_z c.ranges.b) at (x.ensures a.self.now.n)))
 
 pub loop-i-preserved : goal.loop-i-preserved
 loop-i-preserved c =
@@ -48,10 +50,11 @@ loop-i-preserved c =
     let l = c.loop-i in
     let x = c.low_after-lo in
     let y = c.high_after-hi in
-    let lo = low_word p a.bounds.now a.d a.b a.t l.i (omega arith) c.requires.0 (simp (to_z-of_z c.ranges.b) at (x.ensures p.n)) x.type_inv in
-    let hi = high_word p a.bounds.now a.d a.b a.t l.i (omega arith) c.requires.0 (simp (to_z-of_z c.ranges.b) at (y.ensures p.n)) y.type_inv in
+    let below : l.i < p.n = omega arith in
+    let lo = low_word c.requires.0 a.d below (simp (to_z-of_z c.ranges.b) at (x.ensures p.n)) x.type_inv in
+    let hi = high_word c.requires.0 a.d below (simp (to_z-of_z c.ranges.b) at (y.ensures p.n)) y.type_inv in
     simp (to_z-of_z c.ranges.b, got32 c.min.result c.min.type_inv, got32 c.max.result c.max.type_inv)
-    (widen_words p.n (after p a.bounds.now a.d a.b a.t) a.face.now l.face l.i (omega arith) (simp (to_z-of_z c.ranges.b) at l.invariant) (omega arith) c.min.result c.max.result (rw (← lo) (search rules)) (rw (← hi) (search rules)))
+    (widen_words p.n (after p a.bounds.now a.d a.b a.t) a.face.now l.face l.i below (simp (to_z-of_z c.ranges.b) at l.invariant) (omega arith) c.min.result c.max.result (rw (← lo) (search rules)) (rw (← hi) (search rules)))
 
 pub returns : goal.returns
 returns c =
