@@ -2,44 +2,38 @@
 -- tells, and how the table is filled piece by piece.
 use mathlib.Core.Path.{◌≡◌, refl, sym, ap, ap₂, ◌∙◌, subst}
 use mathlib.Core.Bool.{Bool, true, false, cond, ◌&&◌}
-use mathlib.Core.Logic.{◌⊎◌, inl, inr, ⊎_elim}
 use mathlib.Core.List.{List, [], ◌∷◌, ◌++◌}
-use Prim.Native.Nat.{ℕ, zero, suc, ◌+◌, ◌*◌, ◌-◌, ◌≤◌, ◌<◌}
+use Prim.Native.Nat.{ℕ, ◌+◌, ◌*◌, ◌-◌, ◌≤◌, ◌<◌}
 use native.Mathlib.Nat.{mul-le-mul}
 use native.Mathlib.Numerals.{add-one}
 use native.Mathlib.Omega.{arith}
 use borrow.Author.Tests.{le-leb, lt-leb, eq-eqb}
 use borrow.Rule.Slice.PartMut.{put_mid}
-use lib.Dec.{T, eqb, leb, le→leb}
+use lib.Dec.{T, leb}
 use lib.IntN.{ℤ, pos, nat_abs}
-use lib.Signed.{mag, le_z}
 use lib.ListN.{length, take, drop, replicate, set, get_or, length-append, length-drop}
 use lib.Seq.{get_or-take, get_or-drop, ext_get_or, length-take-le}
 use Rattle.std.proofs.lemmas.List.{take-append-drop}
-use mir.Syntax.{w32, w64}
-use mir.Val.{to_z, of_z}
-use mir.Facts.{to_z-of_z}
 use Rattle.integers.specs.Words.{word, num, within, onto}
 use Rattle.std.proofs.Math.Bool.{and_assoc}
 use Rattle.integers.proofs.Tests.{and_yes, is_true, true_is}
 use Rattle.integers.proofs.Counted.{within_abs}
-use Rattle.integers.proofs.Signed.{got32, widened, as_signed}
 use Rattle.integers.proofs.Buffers.{onto_all}
 use Rattle.integers.proofs.Rows.{replicate-cat}
-use Rattle.files.specs.Bytes.{word_size, word_at, words_at}
+use Rattle.files.specs.Bytes.{word_at, words_at}
 use Rattle.files.specs.Fields.{header_size, payload_length, field_at, is_field}
 use Rattle.files.proofs.Words.{length_words, words_nth}
 use Rattle.files.proofs.Fields.{field_lies, due, whole_is}
-use Rattle.plant.specs.Ask.{ask, ◌then◌, first}
+use Rattle.plant.specs.Ask.{ask, ◌then◌}
 use Rattle.plant.specs.Box.{box_at, present, face_words}
 use Rattle.plant.specs.Model.{n#, L#}
 use Rattle.plant.specs.Pieces.{any_cut, per_face, piece_number}
-use Rattle.plant.specs.Tables.{face_size, pieces_before, piece_count, table_size, piece_at, table_by, table_ok}
+use Rattle.plant.specs.Tables.{face_size, pieces_before, piece_count, table_size, piece_at, table_by}
 use Rattle.std.specs.Prelude.{Option, Some, None, Ok, Err}
-use Rattle.plant.specs.Calls.{ReadOutcome, zeroed}
+use Rattle.plant.specs.Calls.{zeroed}
 use Rattle.plant.specs.declared.Refusal.{Refusal}
 use Rattle.plant.specs.Refusals.{number}
-use Rattle.plant.proofs.Asks.{or_left, go, halt, both}
+use Rattle.plant.proofs.Asks.{or_left}
 use Rattle.plant.proofs.Refusing.{number_not_0, refused_first}
 use Rattle.plant.proofs.Boxes.{length-box_at, box_ends}
 use Rattle.plant.proofs.Passed.{within_nonneg}
@@ -48,11 +42,11 @@ use Rattle.plant.proofs.Tables.{piece_counted, piece_inside, table_length}
 use Rattle.plant.proofs.Reading.{refused_at, past}
 use Rattle.plant.proofs.Whole.{Whole}
 use Rattle.passes.proofs.Landing.{piece_put}
-use Rattle.files.specs.TableFile.{place_size, piece_field_size, piece_field_at, count_word, count_question, piece_field_words, piece_word, piece_named, piece_key, least_key, place_ok, piece_question, piece_questions, file_face, count#, file_table, fields_questions, table_file_questions, read_faces, room_questions, read_table_call}
+use Rattle.files.specs.TableFile.{place_size, piece_field_size, piece_field_at, count_word, count_question, piece_field_words, piece_word, piece_named, piece_key, least_key, place_ok, piece_question, file_face, count#, file_table, fields_questions, table_file_questions, read_faces}
 use Rattle.table_files.specs.TableRoom.{size_by, FieldsReady, CountAt, names_piece, next_least, location_word, face_word, index_word, KeyAt}
 use Rattle.table_files.proofs.Cuts.{size_is}
 use Rattle.files.proofs.PieceKeys.{table_keys}
-use Rattle.files.proofs.PlaceWords.{place_least, place_most, place_with, place_without}
+use Rattle.files.proofs.PlaceWords.{place_least, place_with}
 use Rattle.files.proofs.Listed.{not_named, field_words, location_at, piece_named_at, box_at_field}
 use Rattle.files.proofs.TableAsked.{PlaceYes, named_below, FieldsYes, count_yes}
 use Rattle.files.proofs.TableSizes.{pieces_few}
@@ -89,9 +83,6 @@ module _ {m : List ℤ} {places : List ℕ} {cut : Bool} (r : FieldsReady m plac
   pub before_is : (l : ℕ) → l < L# m → get_or places l 0 ≡ pieces_before m l
   before_is l u = r.are_places.each l (omega arith)
 
-  pub in_places : (l : ℕ) → l < L# m → l < length places
-  in_places l u = omega (arith, r.are_places.long, r.whole.head.L_small)
-
 -- the least key of the next field, by 37 of this one
 module _ (m w : List ℤ) (least : ℕ) where
   -- what code learns of it
@@ -110,17 +101,6 @@ module _ (m w : List ℤ) (least : ℕ) where
   least_some {k} e = by_place (Some k) e (λ _ z. absurd (let k : ◌≡◌ {A = ℕ} 0 1 = cc in omega arith)) (λ h z. (sym h, cc))
 
 module _ (m : List ℤ) (s : List ℕ) where
-  pub count_refused : is_field (field_at s 0) 6 4 ≡ false → 35 ≡ count_question m s
-  unfolding count_question ◌then◌
-  count_refused e = rw e refl
-
-  pub head_there : is_field (field_at s 0) 6 4 ≡ true → 7 ≤ length s
-  head_there e = (due s 0 6 4 (true_is e)).there
-
-  pub count_asked : {b : Bool} {r : ℕ} → is_field (field_at s 0) 6 4 ≡ true → within (pos 0) (pos (piece_count m)) (word_at s 3) ≡ b → r ≡ ask b 35 → r ≡ count_question m s
-  unfolding count_question count_word ◌then◌
-  count_asked e f er = rw (e, f) er
-
   -- 37: the place names a piece, whose key is compared
   module _ {places : List ℕ} {cut : Bool} (r : FieldsReady m places cut) (start : ℕ) where
     abbrev location : Bool

@@ -3,9 +3,8 @@
 use mathlib.Core.Path.{◌≡◌, refl, sym, ap, ap₂, ◌∙◌}
 use mathlib.Core.Bool.{Bool, true, false, cond}
 use mathlib.Core.List.{List, [], ◌∷◌, ◌++◌, append_assoc}
-use Prim.Native.Nat.{ℕ, zero, suc, ◌+◌, ◌*◌, ◌/◌, ◌%◌, ◌≤◌, ◌<◌}
+use Prim.Native.Nat.{ℕ, ◌+◌, ◌*◌, ◌/◌, ◌%◌, ◌≤◌, ◌<◌}
 use native.Mathlib.Nat.{mul-le-mul_right}
-use native.Mathlib.Numerals.{add-one}
 use native.Mathlib.Omega.{arith}
 use lib.Dec.{leb, leb→le}
 use lib.IntN.{ℤ, pos}
@@ -14,7 +13,7 @@ use Rattle.integers.specs.Words.{word, eq_z, onto}
 use Rattle.integers.specs.Counted.{cat, sum_below}
 use Rattle.integers.proofs.Counted.{sum_ext}
 use Rattle.integers.proofs.Buffers.{onto_start}
-use Rattle.files.specs.Bytes.{word_size, word_bytes, words_bytes, part}
+use Rattle.files.specs.Bytes.{word_bytes, words_bytes, part}
 use Rattle.files.specs.Fields.{header_size, payload_length, field_length, field_place, header, field}
 use Rattle.integers.proofs.Filling.{onto_then, Written, length_written}
 use Rattle.files.proofs.Words.{length-word, length_bytes, length_part, bytes_append}
@@ -24,7 +23,7 @@ use Rattle.plant.specs.Box.{box_at, Face, absent, present}
 use Rattle.plant.specs.Model.{n#, L#}
 use Rattle.plant.specs.Questions.{model_questions}
 use Rattle.plant.specs.Pieces.{any_cut, per_face, pieces, piece_face, piece_index}
-use Rattle.plant.specs.Tables.{face_size, pieces_before, piece_count, table_size, piece_at, longest_table_file, face_read, piece_of, table_ok}
+use Rattle.plant.specs.Tables.{face_size, pieces_before, piece_count, table_size, longest_table_file, face_read, piece_of, table_ok}
 use Rattle.plant.specs.declared.Refusal.{Refusal}
 use Rattle.plant.specs.Refusals.{number}
 use Rattle.plant.proofs.Asks.{ask_yes, then_both}
@@ -35,7 +34,6 @@ use Rattle.plant.proofs.Boxes.{length-box_at, box_ends}
 use Rattle.plant.proofs.Whole.{Whole}
 use Rattle.plant.proofs.Positions.{row_within}
 use Rattle.plant.proofs.Passing.{whole}
-use Rattle.passes.proofs.PartWords.{place_is}
 use Rattle.tables.proofs.Faces.{table_most}
 use Rattle.files.specs.TableFile.{count_field_size, place_size, piece_field_size, place_words, piece_field, presence, present_pieces, location_fields, piece_fields, table_file, pieces_from, room_questions, write_questions, write_table_call}
 use Rattle.table_files.specs.TableRoom.{size_by, WriteReady, PieceRoom, LocationRoom}
@@ -124,58 +122,54 @@ module _ (m : List ℤ) (l q : ℕ) {per : ℕ} (ep : per ≡ per_face m l) wher
       by true e = rw (← e) refl
       by false e = rw (← e) refl
 
--- the words of piece q of location l stand at a place of the table
-module _ (m t : List ℤ) {at : ℕ} (l q : ℕ) (at_is : at ≡ piece_at m l q) (there : at + face_size (n# m) ≤ length t) where
+-- by the words of piece q of location l
+module _ (m piece : List ℤ) (l q : ℕ) (long : length piece ≡ face_size (n# m)) where
   abbrev payload : List ℕ
-  payload = words_bytes (place_words m l q) ++ words_bytes (part t (at + 1) (2 * n# m))
+  payload = words_bytes (place_words m l q) ++ words_bytes (part piece 1 (2 * n# m))
 
   payload_length_lem : length payload ≡ payload_length (piece_field_size m)
   payload_length_lem = omega (
     arith,
-    length-append (words_bytes (place_words m l q)) (words_bytes (part t (at + 1) (2 * n# m))),
+    length-append (words_bytes (place_words m l q)) (words_bytes (part piece 1 (2 * n# m))),
     length_bytes (place_words m l q),
     length_place m l q,
-    length_bytes (part t (at + 1) (2 * n# m)),
-    length_part t (at + 1) (2 * n# m) (omega arith),
+    length_bytes (part piece 1 (2 * n# m)),
+    length_part piece 1 (2 * n# m) (omega arith),
   )
 
-  piece_is : piece_of m t l q ≡ face_read (n# m) t at
-  unfolding piece_of
-  piece_is = ap (face_read (n# m) t) (sym at_is)
-
-  -- a present piece's field has the words of the table
-  payload_is : eq_z (word t at) (pos 1) ≡ true → piece_field m l q (piece_of m t l q) ≡ field 5 payload
+  -- a present piece's field has them
+  payload_is : eq_z (word piece 0) (pos 1) ≡ true → piece_field m l q (face_read (n# m) piece 0) ≡ field 5 payload
   unfolding box_at
-  payload_is e = rw (piece_is, read_present (n# m) t at e)
-      (ap (λ (b : List ℤ). field 5 (words_bytes (place_words m l q ++ b))) (box_ends (n# m) (box_at (n# m) t (at + 1)) (length-box_at (n# m) t (at + 1) (omega arith)))
-      ∙ ap (field 5) (bytes_append (place_words m l q) (part t (at + 1) (2 * n# m))))
+  payload_is e = rw (read_present (n# m) piece 0 e)
+      (ap (λ (b : List ℤ). field 5 (words_bytes (place_words m l q ++ b))) (box_ends (n# m) (box_at (n# m) piece 1) (length-box_at (n# m) piece 1 (omega arith)))
+      ∙ ap (field 5) (bytes_append (place_words m l q) (part piece 1 (2 * n# m))))
 
   -- header, place and box, each put behind the one before
-  pub piece_put : (d x y z : List ℕ) (to : ℕ) {len box n : ℕ} → eq_z (word t at) (pos 1) ≡ true → to ≤ length d → len ≡ payload_length (piece_field_size m) → box ≡ payload_length (place_size m) → n ≡ n# m
+  pub piece_put : (d x y z : List ℕ) (to : ℕ) {len box n : ℕ} → eq_z (word piece 0) (pos 1) ≡ true → to ≤ length d → len ≡ payload_length (piece_field_size m) → box ≡ payload_length (place_size m) → n ≡ n# m
       → x ≡ onto (take to d ++ header 5 len) d
       → y ≡ onto (take (to + header_size) x ++ words_bytes (place_words m l q)) x
-      → z ≡ onto (take (to + header_size + box) y ++ words_bytes (part t (at + 1) (2 * n))) y
-      → z ≡ onto (take to d ++ piece_field m l q (piece_of m t l q)) d
+      → z ≡ onto (take (to + header_size + box) y ++ words_bytes (part piece 1 (2 * n))) y
+      → z ≡ onto (take to d ++ piece_field m l q (face_read (n# m) piece 0)) d
   unfolding field
   piece_put d x y z to {len} {box} {n} e room el eb en ex ey ez =
       let hd : List ℕ = header 5 len in
       let place : List ℕ = words_bytes (place_words m l q) in
-      let words : List ℕ = words_bytes (part t (at + 1) (2 * n)) in
+      let words : List ℕ = words_bytes (part piece 1 (2 * n)) in
       let ey' : y ≡ onto (take to d ++ (hd ++ place)) d = ey ∙ onto_then hd place d x to (to + 3) ex room (omega arith) in
       let ez' : z ≡ onto (take to d ++ ((hd ++ place) ++ words)) d = ez ∙ onto_then (hd ++ place) words d y to (to + header_size + box) ey' room
       (omega (arith, length-append hd place, length_bytes (place_words m l q), length_place m l q)) in
       ez' ∙ ap (λ (s : List ℕ). onto (take to d ++ s) d)
-      (append_assoc hd place words ∙ ap₂ (λ (i j : ℕ). header 5 i ++ (place ++ words_bytes (part t (at + 1) (2 * j)))) (el ∙ sym payload_length_lem) en ∙ sym (payload_is e))
+      (append_assoc hd place words ∙ ap₂ (λ (i j : ℕ). header 5 i ++ (place ++ words_bytes (part piece 1 (2 * j)))) (el ∙ sym payload_length_lem) en ∙ sym (payload_is e))
 
-  pub piece_next : (to : ℕ) {size r : ℕ} → eq_z (word t at) (pos 1) ≡ true → size ≡ piece_field_size m → r ≡ field_length size → to + r ≡ to + length (piece_field m l q (piece_of m t l q))
+  pub piece_next : (to : ℕ) {size r : ℕ} → eq_z (word piece 0) (pos 1) ≡ true → size ≡ piece_field_size m → r ≡ field_length size → to + r ≡ to + length (piece_field m l q (face_read (n# m) piece 0))
   piece_next to e es er = rw (payload_is e) (omega (arith, length-field 5 payload, payload_length_lem))
 
   -- an absent piece's field is nothing
-  pub piece_skip : (d : List ℕ) (to : ℕ) → eq_z (word t at) (pos 1) ≡ false → to ≤ length d → d ≡ onto (take to d ++ piece_field m l q (piece_of m t l q)) d
-  piece_skip d to e room = rw (piece_is, read_absent (n# m) t at e) (onto_start to d room)
+  pub piece_skip : (d : List ℕ) (to : ℕ) → eq_z (word piece 0) (pos 1) ≡ false → to ≤ length d → d ≡ onto (take to d ++ piece_field m l q (face_read (n# m) piece 0)) d
+  piece_skip d to e room = rw (read_absent (n# m) piece 0 e) (onto_start to d room)
 
-  pub skip_next : (to : ℕ) → eq_z (word t at) (pos 1) ≡ false → to ≡ to + length (piece_field m l q (piece_of m t l q))
-  skip_next to e = rw (piece_is, read_absent (n# m) t at e) (omega arith)
+  pub skip_next : (to : ℕ) → eq_z (word piece 0) (pos 1) ≡ false → to ≡ to + length (piece_field m l q (face_read (n# m) piece 0))
+  skip_next to e = rw (read_absent (n# m) piece 0 e) (omega arith)
 
 -- ---- the loops that write them
 
@@ -187,15 +181,13 @@ module _ (m t : List ℤ) (d : List ℕ) {cut : Bool} {before l to : ℕ} (r : L
       let b : next ≤ to + q * piece_bytes m = omega (arith, w.to_is, fields_le m t l q) in
       (length_written (fields_of m t l) d to (omega (arith, r.room)) w (omega (arith, r.room)), b)
 
-  pub piece_room : {q at next n : ℕ} {x : List ℕ} → q < pieces m l → n ≡ n# m → at ≡ (before + q) * face_size n → Written (fields_of m t l) d to q next x → PieceRoom m cut t at l q x next
-  unfolding piece_at
-  piece_room {q} {at} {next} {n} {x} u en ea w =
+  pub piece_room : {q next : ℕ} {piece : List ℤ} {x : List ℕ} → q < pieces m l → length piece ≡ face_size (n# m) → Written (fields_of m t l) d to q next x → PieceRoom m cut l q piece x next
+  piece_room {q} {next} {piece} {x} u long w =
       let lw : (length x ≡ length d) × (next ≤ to + q * piece_bytes m) = location_room (omega arith) w in
       let k : q * piece_bytes m + piece_bytes m ≤ pieces m l * piece_bytes m = row_within (piece_bytes m) u in
       record {
         is_piece = record { whole = r.whole; cut_is = r.cut_is; location = r.location; piece = u };
-        at_is = place_is m l q en r.before_is ea;
-        there = r.there;
+        long = long;
         room = omega (arith, lw, r.room);
       }
 

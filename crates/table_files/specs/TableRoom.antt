@@ -7,7 +7,7 @@ use Rattle.files.specs.Fields.{payload_length, field_length}
 use Rattle.plant.specs.Model.{n#, L#}
 use Rattle.plant.specs.Pieces.{any_cut, per_face, pieces}
 use Rattle.plant.specs.Questions.{model_questions}
-use Rattle.plant.specs.Tables.{pieces_before, table_size, piece_at, longest_table_file}
+use Rattle.plant.specs.Tables.{face_size, pieces_before, table_size, longest_table_file}
 use Rattle.plant.proofs.Whole.{Whole}
 use Rattle.tables.specs.Places.{Places}
 use Rattle.files.specs.TableFile.{count_field_size, piece_field_size, count_word, piece_key, place_ok}
@@ -31,11 +31,10 @@ pub record IsPiece (m : List ℤ) (cut : Bool) (l q : ℕ) : Type 0 where
   pub location : l < L# m
   pub piece : q < pieces m l
 
--- its words at a place of the table t, and room for its field
-pub record PieceRoom (m : List ℤ) (cut : Bool) (t : List ℤ) (at l q : ℕ) (file : List ℕ) (to : ℕ) : Type 0 where
+-- its words, and room for its field
+pub record PieceRoom (m : List ℤ) (cut : Bool) (l q : ℕ) (piece : List ℤ) (file : List ℕ) (to : ℕ) : Type 0 where
   pub is_piece : IsPiece m cut l q
-  pub at_is : at ≡ piece_at m l q
-  pub there : table_size m ≤ length t
+  pub long : length piece ≡ face_size (n# m)
   pub room : to + field_length (piece_field_size m) ≤ length file
 
 -- the words of location l, before which so many pieces stand, and room for the fields of all its pieces

@@ -3,7 +3,8 @@ ghost use Rattle.std.specs.Prelude.{◌≡◌, ◌++◌, ◌+◌, ◌≤◌, len
 ghost use Rattle.integers.specs.Words.{onto};
 ghost use Rattle.files.specs.Bytes.{words_bytes};
 ghost use Rattle.files.specs.Fields.{payload_length};
-ghost use Rattle.plant.specs.Tables.{table_size, longest_table_file, piece_of};
+ghost use Rattle.plant.specs.Tables.{table_size, longest_table_file, face_read};
+ghost use Rattle.plant.specs.Model.{n#};
 ghost use Rattle.plant.specs.Calls.{bytes_question};
 ghost use Rattle.plant.specs.Refusals.{asked, numbered};
 ghost use Rattle.plant.proofs.Whole.{Whole};
@@ -66,23 +67,21 @@ fn put_place(model: &[i32], any_cut: bool, l: usize, q: usize, file: &mut [u8], 
     wire::put_words(&place, 0, place_size(any_cut), file, to);
 }
 
-// Writes the field of piece q of location l, whose words stand at a place of the table, if it is present: where the next field
-// goes.
+// Writes the field of piece q of location l, by its words, if it is present: where the next field goes.
 fn put_piece(
     model: &[i32],
     any_cut: bool,
-    table: &[i32],
-    at: usize,
     l: usize,
     q: usize,
+    piece: &[i32],
     file: &mut [u8],
     to: usize,
 ) -> usize
-    requires { PieceRoom model.now any_cut table.now at l q file.old to }
-    ensures bytes { file.new ≡ onto (take to file.old ++ piece_field model.now l q (piece_of model.now table.now l q)) file.old }
-    ensures next { result ≡ to + length (piece_field model.now l q (piece_of model.now table.now l q)) }
+    requires { PieceRoom model.now any_cut l q piece.now file.old to }
+    ensures bytes { file.new ≡ onto (take to file.old ++ piece_field model.now l q (face_read (n# model.now) piece.now 0)) file.old }
+    ensures next { result ≡ to + length (piece_field model.now l q (face_read (n# model.now) piece.now 0)) }
 {
-    if table[at] != 1 {
+    if piece[0] != 1 {
         return to;
     }
     let n = records::variables(model);
@@ -91,7 +90,7 @@ fn put_piece(
     wire::put_header(file, to, 5, wire::payload_length(size));
     put_place(model, any_cut, l, q, file, start);
     let box_from = start + wire::payload_length(place_size(any_cut));
-    wire::put_words(table, at + 1, 2 * n, file, box_from);
+    wire::put_words(piece, 1, 2 * n, file, box_from);
     to + wire::field_length(size)
 }
 
@@ -112,8 +111,8 @@ fn put_location(
     let n = records::variables(model);
     let mut next = to;
     for q in 0..tables::pieces(model, l) {
-        let at = tables::piece_at(before, q, n);
-        next = put_piece(model, any_cut, table, at, l, q, file, next);
+        let piece = tables::face(table, tables::piece_at(before, q, n), n);
+        next = put_piece(model, any_cut, l, q, piece, file, next);
     }
     next
 }

@@ -1,12 +1,11 @@
 -- The table has the pieces of the fields passed, each put over the words of its place.
-use mathlib.Core.List.{List}
-use mathlib.Core.Path.{◌≡◌, refl, sym, ap, ap₂, ◌∙◌}
-use Prim.Native.Nat.{ℕ, ◌+◌, ◌*◌, ◌≤◌, ◌<◌}
+use mathlib.Core.Path.{◌≡◌, refl, ap, ap₂, ◌∙◌}
+use Prim.Native.Nat.{ℕ, ◌+◌, ◌*◌, ◌≤◌}
 use native.Mathlib.Omega.{arith}
 use borrow.Author.Rules.{rules}
 use lib.IntN.{pos}
 use lib.ListN.{length, replicate}
-use Rattle.files.specs.Fields.{header_size, payload_length, field_place}
+use Rattle.files.specs.Fields.{payload_length, field_place}
 use Rattle.plant.specs.Tables.{face_size, table_size}
 use Rattle.tables.proofs.Faces.{table_most}
 use Rattle.files.specs.TableFile.{piece_field_at}

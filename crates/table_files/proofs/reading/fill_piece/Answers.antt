@@ -1,8 +1,5 @@
 -- The flag, then the box behind it.
-use mathlib.Core.Path.{◌∙◌}
 use Prim.Native.Nat.{◌*◌}
-use lib.IntN.{pos}
-use lib.ListN.{length-set}
 use Rattle.files.specs.Bytes.{words_at}
 use Rattle.files.proofs.Words.{length_words}
 use Rattle.table_files.proofs.TableReading.{piece_filled}

@@ -16,7 +16,7 @@ use Rattle.plant.proofs.Asks.{first_none, ask_yes}
 use Rattle.plant.proofs.Refusing.{refused_at, passed_more}
 use Rattle.files.specs.TableFile.{piece_field_size, piece_question, piece_questions}
 use Rattle.table_files.specs.TableRoom.{next_least}
-use Rattle.table_files.proofs.TableWriting.{field_size_is, size_few}
+use Rattle.table_files.proofs.TableWriting.{field_size_is}
 use Rattle.table_files.proofs.TableReading.{field_refused, field_there, piece_answered, place_next, least_none, least_some, least_next}
 use Rattle.table_files.proofs.reading.pieces_questions.Goals as goal
 use Rattle.table_files.proofs.reading.pieces_questions.Goals.{In-loop, After-is_field-whole}

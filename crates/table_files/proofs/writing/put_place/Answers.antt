@@ -1,7 +1,6 @@
 -- Location, face number and which piece of the face: the first two of them, or all three.
 use Prim.Native.Nat.{◌/◌, ◌%◌, ◌<◌}
 use native.Mathlib.Omega.{arith}
-use mathlib.Core.Path.{◌∙◌}
 use mir.Syntax.{w32}
 use mir.Facts.{to_z_pos}
 use Rattle.integers.proofs.Signed.{fits32}
