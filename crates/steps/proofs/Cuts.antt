@@ -14,17 +14,36 @@ use Rattle.integers.proofs.Order.{cancelℕ}
 use Rattle.integers.proofs.Rounding.{floor_le, floor_max, ceil_ge, ceil_min}
 use Rattle.integers.proofs.Extremes.{max_left, max_right, max_least, min_left, min_right, min_greatest}
 use Rattle.integers.proofs.Tests.{false_is}
-use Rattle.integers.proofs.Signed.{abs_minus, abs_mul}
+use Rattle.integers.proofs.Signed.{abs_minus, abs_mul, back64, fits64, as_signed, scaled}
+use mir.Syntax.{w64}
+use mir.Val.{SFits, to_z, of_z}
 use Rattle.plant.specs.declared.Fraction.{Fraction}
 use Rattle.plant.specs.Steps.{low_at, high_at}
-use Rattle.delays.specs.Ranges.{Level}
+use Rattle.delays.specs.Ranges.{Level, Rate}
 
 -- the way between two levels, times a denominator
-pub room_small : (v p : ℤ) (d : ℕ) → Level v → Level p → d ≤ 1000 → nat_abs ((v -ℤ p) *ℤ pos d) ≤ 2000000000
+room_small : (v p : ℤ) (d : ℕ) → Level v → Level p → d ≤ 1000 → nat_abs ((v -ℤ p) *ℤ pos d) ≤ 2000000000
 room_small v p d h k l =
     let w : nat_abs (v -ℤ p) ≤ 2000000 = omega (arith, abs_minus v p) in
     let m : nat_abs (v -ℤ p) * d ≤ 2000000 * 1000 = mul-le-mul w l in
     omega (arith, abs_mul (v -ℤ p) (pos d))
+
+-- the way, as the code's words give it
+pub way_is : (a : ℤ) (n : ℕ) → Rate a → n ≤ 2000000 → to_z w64 (of_z w64 (to_z w64 (of_z w64 a) *ℤ to_z w64 n)) ≡ a *ℤ pos n
+way_is a n h k = simp (back64 a (omega arith), as_signed n (omega arith), back64 (a *ℤ pos n) (omega (arith, scaled a n h k)))
+
+-- the room as the code's words give it
+abbrev room : (v p : ℤ) (d : ℕ) → ℤ
+room v p d = to_z w64 (of_z w64 (to_z w64 (of_z w64 v) -ℤ to_z w64 (of_z w64 p))) *ℤ to_z w64 d
+
+room_parts : (v p : ℤ) (d : ℕ) → Level v → Level p → d ≤ 1000 → room v p d ≡ (v -ℤ p) *ℤ pos d
+room_parts v p d h k l = simp (back64 v (omega arith), back64 p (omega arith), as_signed d (omega arith), back64 (v -ℤ p) (omega (arith, abs_minus v p)))
+
+pub room_fits : (v p : ℤ) (d : ℕ) → Level v → Level p → d ≤ 1000 → SFits w64 (room v p d)
+room_fits v p d h k l = rw (room_parts v p d h k l) (fits64 (omega (arith, room_small v p d h k l)))
+
+pub room_is : (v p : ℤ) (d : ℕ) → Level v → Level p → d ≤ 1000 → to_z w64 (of_z w64 (room v p d)) ≡ (v -ℤ p) *ℤ pos d
+room_is v p d h k l = rw (room_parts v p d h k l) (back64 ((v -ℤ p) *ℤ pos d) (omega (arith, room_small v p d h k l)))
 
 -- p + a × t is not above v
 pub low_past : (p a v : ℤ) (f : Fraction) → 0 < f.den → le_z (a *ℤ pos f.num) ((v -ℤ p) *ℤ pos f.den) ≡ true → max_z (low_at p a f) v ≡ v

@@ -7,7 +7,7 @@ use mathlib.Core.List.{List, [], ◌++◌}
 use Prim.Native.Nat.{ℕ, ◌+◌, ◌*◌, ◌-◌, ◌≤◌, ◌<◌}
 use native.Mathlib.Omega.{arith}
 use lib.IntN.{ℤ}
-use lib.Signed.{le_z}
+use lib.Signed.{le_z, lt_z}
 use lib.ListN.{length, take, drop, take-append-drop}
 use lib.Seq.{length-take-le, drop-append-add, drop-drop}
 use Rattle.integers.specs.Words.{onto}
@@ -20,7 +20,9 @@ use Rattle.plant.proofs.Boxes.{length-box_by, length_cut, cut_right, FaceAll, un
 use Rattle.plant.proofs.WallStep.{box_after_inside}
 use Rattle.delays.specs.Ranges.{InInvariant}
 use Rattle.steps.specs.Handing.{Handed}
-use Rattle.steps.proofs.Written.{not_all, ordered_by}
+use Rattle.steps.proofs.Written.{OrderedSoFar, le_by, not_all, ordered_by}
+use Rattle.integers.proofs.Tests.{is_true, true_is}
+use Rattle.integers.proofs.Counted.{all_intro}
 use Rattle.steps.proofs.Landing.{landed_box}
 
 -- ---- the face handed over
@@ -61,38 +63,23 @@ nothing_handed n out face room e = subst (λ (x : List ℤ). Handed n false x ou
 -- the box of these lows and highs, written variable by variable
 module _ (n : ℕ) (lo hi : ℕ → ℤ) where
   -- all written, each ordered
-  pub ends_all : {exit out : List ℤ} → all_below n (λ j. le_z (lo j) (hi j)) ≡ true → exit ≡ onto (box_by n lo hi) out → Handed n true exit out (unless_empty n (box_by n lo hi))
+  pub ends_all : {exit out : List ℤ} → OrderedSoFar lo hi out exit n → Handed n true exit out (unless_empty n (box_by n lo hi))
   unfolding unless_empty
-  ends_all {exit} {out} o e =
-      rw e (box_handed n (box_by n lo hi) out true _ (length-box_by n lo hi) (ap (λ (x : Bool). cond x (present (box_by n lo hi)) absent) (ordered_by n lo hi ∙ o)))
+  ends_all {exit} {out} h =
+      let o : all_below n (λ j. le_z (lo j) (hi j)) ≡ true = is_true (all_intro n _ (λ j l. true_is (le_by (lo j) (hi j) (h.are_ordered j l)))) in
+      rw h.is_written (box_handed n (box_by n lo hi) out true _ (length-box_by n lo hi) (ap (λ (x : Bool). cond x (present (box_by n lo hi)) absent) (ordered_by n lo hi ∙ o)))
 
   -- left at a variable that is not ordered
-  pub ends_left : {exit out : List ℤ} (i : ℕ) → i < n → le_z (lo i) (hi i) ≡ false → 2 * n ≤ length out → exit ≡ onto (box_by i lo hi) out → Handed n false exit out (unless_empty n (box_by n lo hi))
+  pub ends_left : {exit out : List ℤ} {i : ℕ} → OrderedSoFar lo hi out exit i → i < n → lt_z (hi i) (lo i) ≡ true → 2 * n ≤ length out → Handed n false exit out (unless_empty n (box_by n lo hi))
   unfolding unless_empty
-  ends_left {exit} {out} i l o room e =
-      rw e (none_handed n (box_by i lo hi) out _ (omega (arith, length-box_by i lo hi)) room
-      (ap (λ (x : Bool). cond x (present (box_by n lo hi)) absent) (ordered_by n lo hi ∙ not_all n (λ j. le_z (lo j) (hi j)) i l o)))
+  ends_left {exit} {out} {i} h l o room =
+      rw h.is_written (none_handed n (box_by i lo hi) out _ (omega (arith, length-box_by i lo hi)) room
+      (ap (λ (x : Bool). cond x (present (box_by n lo hi)) absent) (ordered_by n lo hi ∙ not_all n (λ j. le_z (lo j) (hi j)) i l (le_by (lo i) (hi i) o))))
 
 module _ (n : ℕ) (inv rate part : List ℤ) (d : ℕ) (b : ℤ) where
   length_after : (t : Interval) → length (box_after n inv rate part d b t) ≡ 2 * n
   unfolding box_after
   length_after t = length-box_by n (low_after n inv rate part d b t) (high_after n inv rate part d b t)
-
-  module _ (t : Interval) where
-    abbrev lo : ℕ → ℤ
-    lo = low_after n inv rate part d b t
-
-    abbrev hi : ℕ → ℤ
-    hi = high_after n inv rate part d b t
-
-    -- all variables written, each ordered; left at a variable that is not ordered
-    pub after_all : {exit out : List ℤ} → all_below n (λ j. le_z (lo j) (hi j)) ≡ true → exit ≡ onto (box_by n lo hi) out → Handed n true exit out (face_after n inv rate part d b (Some t))
-    unfolding box_after
-    after_all = ends_all n lo hi
-
-    pub after_left : {exit out : List ℤ} (i : ℕ) → i < n → le_z (lo i) (hi i) ≡ false → 2 * n ≤ length out → exit ≡ onto (box_by i lo hi) out → Handed n false exit out (face_after n inv rate part d b (Some t))
-    unfolding box_after
-    after_left = ends_left n lo hi
 
 module _ (n mask : ℕ) (guard reset inv from : List ℤ) where
   length-landed : length (landed_box n mask guard reset inv from) ≡ 2 * n

@@ -10,6 +10,7 @@ ghost use Rattle.delays.specs.Ranges.{Level, Rate, LevelAt, RateAt, Small, Small
 ghost use Rattle.steps.specs.Ready.{CutReady, WallReady, SwitchReady};
 ghost use Rattle.steps.specs.Handing.{Handed};
 
+use delays::Range;
 use plant::{End, Fraction, Interval};
 
 // The box a cut to the box b, if it is not empty: left at the first variable of which it is.
@@ -17,18 +18,12 @@ pub fn cut_box(n: usize, a: &[i32], b: &[i32], out: &mut [i32]) -> bool
     requires { CutReady n a.now b.now out.old }
     ensures { Handed n result out.new out.old (unless_empty n (cut n a.now b.now)) }
 {
-    let mut i = 0;
-    while i < n {
-        let low = delays::cut_low(a, b, i);
-        let high = delays::cut_high(a, b, i);
-        if high < low {
+    for i in 0..n {
+        let range = Range::at(a, i).cut(Range::at(b, i));
+        if range.is_empty() {
             return false;
         }
-        let k = 2 * i;
-        let j = k + 1;
-        out[k] = low as i32;
-        out[j] = high as i32;
-        i += 1;
+        range.put(out, i);
     }
     true
 }
@@ -38,9 +33,7 @@ fn low_at(p: i64, a: i64, t: Fraction) -> i64
     requires { Level p × Rate a × Small t }
     ensures { result ≡ low_at p a t }
 {
-    let num = t.num;
-    let den = t.den;
-    p + integers::floor_div(a * (num as i64), den)
+    p + integers::floor_div(a * (t.num as i64), t.den)
 }
 
 // q + c × t, up to a whole number.
@@ -48,9 +41,7 @@ fn high_at(q: i64, c: i64, t: Fraction) -> i64
     requires { Level q × Rate c × Small t }
     ensures { result ≡ high_at q c t }
 {
-    let num = t.num;
-    let den = t.den;
-    q + integers::ceil_div(c * (num as i64), den)
+    q + integers::ceil_div(c * (t.num as i64), t.den)
 }
 
 // The low p at rate a after the delay t, cut to the invariant's low lo: lo itself, without a division, where it is not above it.
@@ -58,10 +49,8 @@ fn low_within(p: i64, a: i64, t: Fraction, lo: i64) -> i64
     requires { Level p × Rate a × Small t × Level lo }
     ensures { result ≡ max_z (low_at p a t) lo }
 {
-    let num = t.num;
-    let den = t.den;
-    let way = a * (num as i64);
-    let room = (lo - p) * (den as i64);
+    let way = a * (t.num as i64);
+    let room = (lo - p) * (t.den as i64);
     if way <= room { lo } else { low_at(p, a, t) }
 }
 
@@ -70,10 +59,8 @@ fn high_within(q: i64, c: i64, t: Fraction, hi: i64) -> i64
     requires { Level q × Rate c × Small t × Level hi }
     ensures { result ≡ min_z (high_at q c t) hi }
 {
-    let num = t.num;
-    let den = t.den;
-    let way = c * (num as i64);
-    let room = (hi - q) * (den as i64);
+    let way = c * (t.num as i64);
+    let room = (hi - q) * (t.den as i64);
     if room <= way { hi } else { high_at(q, c, t) }
 }
 
@@ -83,14 +70,12 @@ fn low_cut(p: i64, a: i64, t: Interval, lo: i64) -> i64
     ensures { result ≡ cut_low (low_bound p a t) lo }
 {
     if a < 0 {
-        let latest = t.latest;
-        match latest {
+        match t.latest {
             End::Endless => lo,
-            End::At(f) => low_within(p, a, f, lo),
+            End::At(latest) => low_within(p, a, latest, lo),
         }
     } else {
-        let f = t.earliest;
-        low_at(p, a, f)
+        low_at(p, a, t.earliest)
     }
 }
 
@@ -100,14 +85,12 @@ fn high_cut(q: i64, c: i64, t: Interval, hi: i64) -> i64
     ensures { result ≡ cut_high (high_bound q c t) hi }
 {
     if 0 < c {
-        let latest = t.latest;
-        match latest {
+        match t.latest {
             End::Endless => hi,
-            End::At(f) => high_within(q, c, f, hi),
+            End::At(latest) => high_within(q, c, latest, hi),
         }
     } else {
-        let f = t.earliest;
-        high_at(q, c, f)
+        high_at(q, c, t.earliest)
     }
 }
 
@@ -124,14 +107,11 @@ pub fn low_after(
     requires { LevelAt inv.now i × RateAt rate.now i × LevelAt part.now i × SmallInterval t × (low inv.now i ≤ℤ low part.now i) }
     ensures { (n : ℕ) → result ≡ low_after n inv.now rate.now part.now d b t i }
 {
-    let k = 2 * i;
-    let lo = integers::word(inv, k);
+    let lo = delays::low(inv, i);
     if i == d {
-        integers::larger(b, lo)
+        b.max(lo)
     } else {
-        let p = integers::word(part, k);
-        let a = integers::word(rate, k);
-        low_cut(p, a, t, lo)
+        low_cut(delays::low(part, i), delays::low(rate, i), t, lo)
     }
 }
 
@@ -148,14 +128,11 @@ pub fn high_after(
     requires { LevelAt inv.now i × RateAt rate.now i × LevelAt part.now i × SmallInterval t × (high part.now i ≤ℤ high inv.now i) }
     ensures { (n : ℕ) → result ≡ high_after n inv.now rate.now part.now d b t i }
 {
-    let j = 2 * i + 1;
-    let hi = integers::word(inv, j);
+    let hi = delays::high(inv, i);
     if i == d {
-        integers::smaller(b, hi)
+        b.min(hi)
     } else {
-        let q = integers::word(part, j);
-        let c = integers::word(rate, j);
-        high_cut(q, c, t, hi)
+        high_cut(delays::high(part, i), delays::high(rate, i), t, hi)
     }
 }
 
@@ -173,49 +150,25 @@ pub fn box_after(
     requires { WallReady n inv.now rate.now part.now b out.old × SmallInterval t }
     ensures { Handed n result out.new out.old (face_after n inv.now rate.now part.now d b (Some t)) }
 {
-    let mut i = 0;
-    while i < n {
-        let lo = low_after(inv, rate, part, d, b, t, i);
-        let hi = high_after(inv, rate, part, d, b, t, i);
-        if hi < lo {
+    for i in 0..n {
+        let after = Range {
+            low: low_after(inv, rate, part, d, b, t, i),
+            high: high_after(inv, rate, part, d, b, t, i),
+        };
+        if after.is_empty() {
             return false;
         }
-        let k = 2 * i;
-        let j = k + 1;
-        out[k] = lo as i32;
-        out[j] = hi as i32;
-        i += 1;
+        after.put(out, i);
     }
     true
 }
 
-// What a switch leaves of an end of a range: the reset range's if the variable is masked.
-fn after_reset(masked: bool, reset: i64, before: i64) -> i64
-    ensures { result ≡ cond masked reset before }
+// Where a switch lands a variable from its guarded range: set if masked, and cut to the reset box and the target's invariant.
+fn land(masked: bool, guarded: Range, reset: Range, inv: Range) -> Range
+    ensures { result ≡ record { low = max_z (max_z (cond masked reset.low guarded.low) reset.low) inv.low; high = min_z (min_z (cond masked reset.high guarded.high) reset.high) inv.high } }
 {
-    if masked { reset } else { before }
-}
-
-// The low of variable i after a switch from the low g, cut to the reset box and the target's invariant.
-fn landed_low(masked: bool, g: i64, reset: &[i32], inv: &[i32], i: usize) -> i64
-    requires { LevelAt reset.now i × LevelAt inv.now i }
-    ensures { result ≡ max_z (max_z (cond masked (low reset.now i) g) (low reset.now i)) (low inv.now i) }
-{
-    let k = 2 * i;
-    let v = integers::word(reset, k);
-    let set = after_reset(masked, v, g);
-    integers::larger(integers::larger(set, v), integers::word(inv, k))
-}
-
-// The high of variable i after a switch from the high g, cut to the reset box and the target's invariant.
-fn landed_high(masked: bool, g: i64, reset: &[i32], inv: &[i32], i: usize) -> i64
-    requires { LevelAt reset.now i × LevelAt inv.now i }
-    ensures { result ≡ min_z (min_z (cond masked (high reset.now i) g) (high reset.now i)) (high inv.now i) }
-{
-    let j = 2 * i + 1;
-    let v = integers::word(reset, j);
-    let set = after_reset(masked, v, g);
-    integers::smaller(integers::smaller(set, v), integers::word(inv, j))
+    let set = if masked { reset } else { guarded };
+    set.cut(reset).cut(inv)
 }
 
 // The switch step from the box of the source's face: writes the box on which it lands, and answers whether neither cut is empty.
@@ -232,21 +185,19 @@ pub fn switch_step(
     ensures { Handed n result out.new out.old (switch_step n mask guard.now reset.now inv.now (present from.now)) }
 {
     let mut ok = true;
+    // the mask from bit i on
     let mut rest = mask;
-    let mut i = 0;
-    while i < n {
-        let glo = delays::cut_low(from, guard, i);
-        let ghi = delays::cut_high(from, guard, i);
-        let masked = rest % 2 == 1;
-        let lo = landed_low(masked, glo, reset, inv, i);
-        let hi = landed_high(masked, ghi, reset, inv, i);
-        let k = 2 * i;
-        let j = k + 1;
-        out[k] = lo as i32;
-        out[j] = hi as i32;
-        ok = ok & ((glo <= ghi) & (lo <= hi));
-        rest = rest / 2;
-        i += 1;
+    for i in 0..n {
+        let guarded = Range::at(from, i).cut(Range::at(guard, i));
+        let landed = land(
+            rest % 2 == 1,
+            guarded,
+            Range::at(reset, i),
+            Range::at(inv, i),
+        );
+        landed.put(out, i);
+        ok &= !guarded.is_empty() & !landed.is_empty();
+        rest /= 2;
     }
     ok
 }

@@ -1,9 +1,6 @@
 -- The loop has written where the first i variables land, and tested the order of both cuts; what is left of the mask begins with bit i.
-use mathlib.Core.Path.{◌≡◌}
-use mathlib.Core.Bool.{◌&&◌}
-use Prim.Native.Nat.{◌-◌, ◌/◌, ◌^◌, ◌≤◌}
+use Rattle.std.proofs.Common.{◌≡◌, ◌/◌, ◌^◌, ◌&&◌}
 use lib.Signed.{le_z}
-use lib.ListN.{length}
 use Rattle.integers.specs.Words.{onto}
 use Rattle.integers.specs.Counted.{all_below}
 use Rattle.plant.specs.Box.{box_by}
@@ -16,9 +13,8 @@ invariant-loop-i l =
     let ghi = guarded_high l.guard l.from in
     let lo = landed_low l.mask l.guard l.reset l.inv l.from in
     let hi = landed_high l.mask l.guard l.reset l.inv l.from in
-    (l.i ≤ l.n) × (length l.out ≡ length l.initial.out) × (l.rest ≡ l.mask / 2 ^ l.i)
-    × (l.out ≡ onto (box_by l.i lo hi) l.initial.out)
-    × (l.ok ≡ all_below l.i (λ j. le_z (glo j) (ghi j)) && all_below l.i (λ j. le_z (lo j) (hi j)))
-
-abbrev pub decreases-loop-i : goal.decreases-loop-i
-decreases-loop-i l = l.n - l.i
+    record {
+      halved : l.rest ≡ l.mask / 2 ^ l.i;
+      written : l.out ≡ onto (box_by l.i lo hi) l.initial.out;
+      tested : l.ok ≡ all_below l.i (λ j. le_z (glo j) (ghi j)) && all_below l.i (λ j. le_z (lo j) (hi j));
+    }
