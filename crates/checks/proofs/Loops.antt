@@ -26,3 +26,5 @@ module _ (f : ℕ → Bool) where
 
   pub any_found : (i k : ℕ) → i < k → f i ≡ true → any_below k f ≡ true
   any_found i k l e = is_true (any_intro k f i l (true_is e))
+
+pub ruleset all_steps = (all_none, all_more)

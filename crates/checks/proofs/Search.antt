@@ -7,8 +7,8 @@ use Prim.Native.Nat.{ℕ, zero, suc, ◌+◌, ◌-◌, ◌<◌, ◌≤◌}
 use native.Mathlib.Omega.{arith}
 use lib.Dec.{eqb}
 use lib.IntN.{ℤ}
+use Rattle.std.proofs.lemmas.Grind.{common_steps}
 use Rattle.integers.specs.Counted.{any_below}
-use Rattle.integers.proofs.Tests.{by_test, is_false}
 use Rattle.plant.specs.Box.{Face, absent, present}
 use Rattle.plant.specs.Model.{L#, B#, forbidden_location}
 use Rattle.plant.specs.Pieces.{pieces}
@@ -73,9 +73,7 @@ module _ (m t : List ℤ) where
   up_to_last : (l p k : ℕ) → boxes_touched l p (last_box m l k) ≡ boxes_touched l p k
   unfolding last_box
   up_to_last l p zero = refl
-  up_to_last l p (suc k) =
-      by_test (λ (b : ℕ). boxes_touched l p b ≡ boxes_touched l p (suc k)) (eqb (forbidden_location m k) l) (λ _. refl)
-      (λ u. up_to_last l p k ∙ sym (box_less l p k (elsewhere l k (part_of m t l p) (is_false u))))
+  up_to_last l p (suc k) = grind (arith, common_steps, up_to_last l p k, box_less l p k, elsewhere l k (part_of m t l p))
 
   -- so that no part of a location without boxes touches one
   pub no_boxes : (l : ℕ) → last_box m l (B# m) ≡ 0 → (k : ℕ) → parts_touch l k ≡ false

@@ -11,9 +11,6 @@ pub all_widths-widths-requires : goal.all_widths-widths-requires
 all_widths-widths-requires c =
     (grind (arith, of_model), rw (c.variables-n.ensures, c.invariant-inv.ensures) (level_at c.args.model.now c.requires.0 c.args.l c.requires.1))
 
-pub uncut_ceiling-faces-requires : goal.uncut_ceiling-faces-requires
-uncut_ceiling-faces-requires c = (grind (arith, of_model), grind (arith, of_model))
-
 pub returns-in_default : goal.returns-in_default
 unfolding location_ceiling
 returns-in_default c = (grind arith, omega arith)
@@ -29,9 +26,6 @@ width-requires c = rw c.invariant-inv.ensures (level_at c.args.model.now c.requi
 
 pub overflow_sub-others : goal.overflow_sub-others
 overflow_sub-others c = omega (arith, others (goal.at.overflow_sub-others c).In-Some)
-
-pub uncut_ceiling-requires : goal.uncut_ceiling-requires
-uncut_ceiling-requires c = (grind (arith, of_model), grind (arith, of_model))
 
 pub returns : goal.returns
 unfolding location_ceiling

@@ -4,7 +4,7 @@ use Rattle.std.proofs.lemmas.Grind.{common_steps}
 use Rattle.plant.specs.Model.{face_wall}
 use Rattle.plant.specs.Pieces.{per_face, pieces, piece_face, piece_index, piece_variable, piece_wall, piece_extent}
 use Rattle.plant.specs.Tables.{face_size, piece_at, piece_ok}
-use Rattle.checks.proofs.Loops.{all_none, all_more}
+use Rattle.checks.proofs.Loops.{all_more}
 use Rattle.checks.proofs.Pieces.{pieces_are, face_is, piece_ends, location_ready}
 use Rattle.checks.proofs.Model.{of_model, pieces_few}
 use Rattle.checks.proofs.valid.location_ok.Goals as goal
@@ -14,9 +14,6 @@ pub overflow_mul-q-end-2 : goal.overflow_mul-q-end-2
 overflow_mul-q-end-2 c =
     let m = c.args.model.now in
     rw (c.pieces_per_face-c.ensures, c.cut-cut.ensures, c.variables-n.ensures) (omega (arith, pieces_are m c.args.l, pieces_few m c.requires.0.passes c.args.l))
-
-pub loop-q-init : goal.loop-q-init
-loop-q-init c = all_none _
 
 is_piece : (c : In-loop-q) → c.loop-q.q < pieces c.args.model.now c.args.l
 is_piece c = grind (arith, pieces_are)
