@@ -1,24 +1,19 @@
 -- Laws of writing a model's file: the fields of a record and of a cut are put together, one loop writes a run of records and one the
 -- cuts, and how long the file is.
 use mathlib.Core.Path.{◌≡◌, refl, sym, ap, ap₂, ◌∙◌}
-use mathlib.Core.Bool.{true, false, cond}
+use mathlib.Core.Bool.{Bool, true, false, not, cond}
 use mathlib.Core.Logic.{⊎_elim}
 use mathlib.Core.List.{List, [], ◌∷◌, ◌++◌, append_assoc}
 use Prim.Native.Nat.{ℕ, ◌+◌, ◌*◌, ◌≤◌, ◌<◌}
 use native.Mathlib.Nat.{mul-le-mul_right}
 use native.Mathlib.Omega.{arith}
-use borrow.Author.Tests.{eq-eqb, ne_eqb}
-use mir.Syntax.{w32}
-use mir.Val.{of_z}
-use lib.Signed.{mag}
-use lib.Dec.{eqb, leb, leb→le}
+use lib.Dec.{leb, leb→le}
 use lib.IntN.{ℤ, pos, negsuc}
 use lib.ListN.{length, take, length-append}
 use Rattle.integers.specs.Words.{word, eq_z, onto}
 use Rattle.integers.specs.Counted.{cat}
 use Rattle.integers.proofs.Buffers.{onto_start, cat_ext, cat_more, cat_at, length-cat}
 use Rattle.integers.proofs.Counted.{split}
-use Rattle.integers.proofs.Signed.{bits_eq}
 use Rattle.files.specs.Bytes.{word_size, word_bytes, words_bytes, part}
 use Rattle.files.specs.Fields.{header_size, payload_length, field_length, header, field}
 use Rattle.integers.proofs.Filling.{onto_then, Written, length_written}
@@ -88,6 +83,14 @@ module _ (m : List ℤ) (tag : ℕ) (d : List ℕ) {from count w to : ℕ} (r : 
 
 -- ---- the cuts
 
+not_no : {b : Bool} → false ≡ not b → b ≡ true
+not_no {b = true} e = refl
+not_no {b = false} e = e
+
+not_yes : {b : Bool} → true ≡ not b → b ≡ false
+not_yes {b = true} e = e
+not_yes {b = false} e = refl
+
 module _ (m : List ℤ) where
   pub cuts_all : {l bytes : ℕ} → l ≡ L# m → bytes ≡ length (cat l (cut_field_of m)) → bytes ≡ length (cut_fields m)
   unfolding cut_fields
@@ -100,29 +103,24 @@ module _ (m : List ℤ) where
       let c = cat_at (cut_field_of m) (L# m) l u in
       rw c.1 (omega (arith, length-append (cat l (cut_field_of m)) (cut_field_of m l ++ c.0), length-append (cut_field_of m l) c.0))
 
-  -- what a test of the variable tells
-  module _ (l : ℕ) {v : ℤ} (is : v ≡ cut_variable m l) (fits : mag v < 2147483648) where
-    by_bits : eq_z (cut_variable m l) (negsuc 0) ≡ eqb (of_z w32 v) 4294967295
-    by_bits = rw (← is) (sym (bits_eq v (negsuc 0) (record { sfits = fits }) (record { sfits = omega arith })))
-
-    pub told_uncut : of_z w32 v ≡ 4294967295 → eq_z (cut_variable m l) (negsuc 0) ≡ true
-    told_uncut e = by_bits ∙ eq-eqb _ _ e
-
-    pub told_cut : (of_z w32 v ≡ 4294967295 → ⊥) → eq_z (cut_variable m l) (negsuc 0) ≡ false
-    told_cut n = by_bits ∙ ne_eqb _ _ n
-
   -- the field of a location that is not cut is nothing
-  module _ (l : ℕ) (uncut : eq_z (cut_variable m l) (negsuc 0) ≡ true) where
-    pub cut_skip : (d : List ℕ) (to : ℕ) → to ≤ length d → d ≡ onto (take to d ++ cut_field_of m l) d
-    cut_skip d to room = rw uncut (onto_start to d room)
+  module _ (l : ℕ) (uncut : false ≡ not (eq_z (cut_variable m l) (negsuc 0))) where
+    no : eq_z (cut_variable m l) (negsuc 0) ≡ true
+    no = not_no uncut
 
-    pub skip_next : (to : ℕ) → to ≡ to + length (cut_field_of m l)
-    skip_next to = rw uncut (omega arith)
+    pub cut_skip : (d : List ℕ) (to : ℕ) → to ≤ length d → d ≡ onto (take to d ++ cut_field_of m l) d
+    cut_skip d to room = rw no (onto_start to d room)
+
+    pub skip_length : length (cut_field_of m l) ≡ 0
+    skip_length = rw no refl
 
   -- the field of one that is: header, location, variable and value, each put behind the one before
-  module _ (l : ℕ) (cut : eq_z (cut_variable m l) (negsuc 0) ≡ false) where
-    pub cut_next : (to : ℕ) {r : ℕ} → r ≡ field_length cut_field_size → to + r ≡ to + length (cut_field_of m l)
-    cut_next to e = ap (λ (k : ℕ). to + k) (e ∙ sym (length-cut-field m l ∙ rw cut refl))
+  module _ (l : ℕ) (is_cut : true ≡ not (eq_z (cut_variable m l) (negsuc 0))) where
+    cut : eq_z (cut_variable m l) (negsuc 0) ≡ false
+    cut = not_yes is_cut
+
+    pub cut_length : length (cut_field_of m l) ≡ field_length cut_field_size
+    cut_length = length-cut-field m l ∙ rw cut refl
 
     pub cut_put : (d x y z : List ℕ) (to : ℕ) {at len : ℕ} → Whole m → l < L# m → at ≡ cut_at m l → to ≤ length d → len ≡ payload_length cut_field_size
         → x ≡ onto (take to d ++ header 8 len) d

@@ -1,8 +1,8 @@
 // Writing a model's file (document 02, T-01).
-ghost use Rattle.std.specs.Prelude.{◌≡◌, cond, ◌++◌, ◌+◌, ◌≤◌, ◌<◌, length, take};
+ghost use Rattle.std.specs.Prelude.{◌≡◌, not, ◌++◌, ◌+◌, ◌≤◌, ◌<◌, negsuc, length, take};
 ghost use Rattle.integers.specs.Words.{eq_z, onto};
 ghost use Rattle.files.specs.Fields.{field_length};
-ghost use Rattle.plant.specs.Model.{L#};
+ghost use Rattle.plant.specs.Model.{L#, cut_variable};
 ghost use Rattle.plant.specs.Refusals.{asked, numbered};
 ghost use Rattle.plant.proofs.Whole.{Whole};
 ghost use Rattle.files.specs.ModelFile.{first_tag, cut_field_size, record_field, model_file, cuts_from, write_model_questions, write_model_call};
@@ -17,15 +17,25 @@ use plant::Refusal;
 
 // ---- how many bytes a file has
 
+// A location is cut; its variable is -1 if it is not.
+#[tactic(auto, using(integers::proofs::Signed::bits_eq))]
+fn is_cut(model: &[i32], l: usize) -> bool
+    requires { Whole model.now × (l < L# model.now) }
+    ensures { result ≡ not (eq_z (cut_variable model.now l) (negsuc 0)) }
+{
+    records::cut_variable(model, l) != -1
+}
+
 // The field of a location's cut: none where it is uncut.
+#[tactic(auto, using(crate::proofs::ModelWriting::cut_length, crate::proofs::ModelWriting::skip_length))]
 fn cut_length(model: &[i32], l: usize) -> usize
     requires { Whole model.now × (l < L# model.now) }
     ensures { result ≡ length (cut_field_of model.now l) }
 {
-    if records::cut_variable(model, l) == -1 {
-        0
-    } else {
+    if is_cut(model, l) {
         wire::field_length(CUT_FIELD_SIZE)
+    } else {
+        0
     }
 }
 
@@ -129,12 +139,13 @@ fn put_records(model: &[i32], file: &mut [u8])
 // ---- the cuts
 
 // Writes the field of location l's cut, if it is cut: where the next field goes.
+#[tactic(auto, using(crate::proofs::ModelWriting::cut_length, crate::proofs::ModelWriting::skip_length, crate::proofs::ModelWriting::cut_skip))]
 fn put_cut(model: &[i32], l: usize, file: &mut [u8], to: usize) -> usize
     requires { CutRoom model.now l file.old to }
     ensures bytes { file.new ≡ onto (take to file.old ++ cut_field_of model.now l) file.old }
     ensures next { result ≡ to + length (cut_field_of model.now l) }
 {
-    if records::cut_variable(model, l) == -1 {
+    if !is_cut(model, l) {
         return to;
     }
     let at = records::cut_at(model, l);
