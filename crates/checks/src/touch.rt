@@ -11,6 +11,7 @@ ghost use Rattle.checks.specs.Parts.{part_words, PartAt};
 
 // The forbidden boxes of each location, linked from the last to the first. A box has its number plus 1 here, and 0 is none: `last`
 // holds the last box of each location, and `before` the one before each box in its location.
+#[derive(Drop)]
 pub struct Links {
     pub last: [usize; 64],
     pub before: [usize; 64],
