@@ -36,7 +36,7 @@ fn passes_of(answer: Answer) -> u32
 }
 
 // The questions of an analysis, then 22.
-#[tactic(auto, using(plant::proofs::Refusing::refused_first, plant::proofs::Refusing::passed_first), unfolding(orders::specs::Desks::desk_questions))]
+#[tactic(auto, using(plant::proofs::Refusing::chains), unfolding(orders::specs::Desks::desk_questions))]
 fn questions(
     desk: Desk,
     model: &[i32],

@@ -12,3 +12,5 @@ all_none f = refl
 pub all_more : (f : ℕ → Bool) (i : ℕ) → all_below (i + 1) f ≡ (all_below i f && f i)
 unfolding all_below
 all_more f i = rw add-one refl
+
+pub ruleset turns = (all_none, all_more)

@@ -35,7 +35,7 @@ fn range_ok(lo: i64, hi: i64, least: i64, most: i64) -> bool
 }
 
 // Ordered, and in -most..most.
-#[tactic(auto, using(crate::proofs::Turns::all_none, crate::proofs::Turns::all_more), unfolding(plant::specs::Questions::box_ok, plant::specs::Box::low, plant::specs::Box::high))]
+#[tactic(auto, using(crate::proofs::Turns::turns), unfolding(plant::specs::Questions::box_ok, plant::specs::Box::low, plant::specs::Box::high))]
 pub fn box_ok(b: &[i32], n: usize, most: u32) -> bool
     requires { 2 * n ≤ length b.now }
     ensures { result ≡ Q.box_ok n most b.now }
@@ -44,13 +44,13 @@ pub fn box_ok(b: &[i32], n: usize, most: u32) -> bool
     for i in 0..n {
         let lo = integers::word(b, 2 * i);
         let hi = integers::word(b, 2 * i + 1);
-        ok &= range_ok(lo, hi, 0 - most as i64, most as i64);
+        ok &= range_ok(lo, hi, -(most as i64), most as i64);
     }
     ok
 }
 
 // Ordered, and inside the box c.
-#[tactic(auto, using(crate::proofs::Turns::all_none, crate::proofs::Turns::all_more), unfolding(plant::specs::Questions::inside_ok, plant::specs::Box::low, plant::specs::Box::high))]
+#[tactic(auto, using(crate::proofs::Turns::turns), unfolding(plant::specs::Questions::inside_ok, plant::specs::Box::low, plant::specs::Box::high))]
 pub fn inside_ok(b: &[i32], c: &[i32], n: usize) -> bool
     requires { (2 * n ≤ length b.now) × (2 * n ≤ length c.now) }
     ensures { result ≡ Q.inside_ok n b.now c.now }
@@ -67,7 +67,7 @@ pub fn inside_ok(b: &[i32], c: &[i32], n: usize) -> bool
 }
 
 // The first k words are zeros.
-#[tactic(auto, using(crate::proofs::Turns::all_none, crate::proofs::Turns::all_more), unfolding(plant::specs::Questions::zeros_ok))]
+#[tactic(auto, using(crate::proofs::Turns::turns), unfolding(plant::specs::Questions::zeros_ok))]
 pub fn zeros_ok(s: &[i32], k: usize) -> bool
     requires { k ≤ length s.now }
     ensures { result ≡ Q.zeros_ok k s.now }
@@ -94,7 +94,7 @@ fn start_ok(model: &[i32], l: usize) -> bool
     empty | ((flag == 1) & box_ok(start, n, LEVEL_LIMIT))
 }
 
-#[tactic(auto, using(plant::proofs::Refusing::refused_first, plant::proofs::Refusing::passed_first, crate::proofs::Lengths::places), unfolding(plant::specs::Questions::location_questions))]
+#[tactic(auto, using(plant::proofs::Refusing::chains, crate::proofs::Lengths::places), unfolding(plant::specs::Questions::location_questions))]
 fn location_questions(model: &[i32], l: usize) -> Result<(), Refusal>
     requires { Whole model.now × (l < M.L# model.now) }
     ensures { asked result ≡ Q.location_questions model.now l }
@@ -170,7 +170,7 @@ fn single_at(model: &[i32], e: usize, i: usize) -> bool
 }
 
 // All masked reset ranges single.
-#[tactic(auto, using(crate::proofs::Turns::all_none, crate::proofs::Turns::all_more))]
+#[tactic(auto, using(crate::proofs::Turns::turns))]
 fn all_single(model: &[i32], e: usize) -> bool
     requires { Numbered model.now e }
     ensures { result ≡ all_below (M.n# model.now) (Q.single_at model.now e) }
@@ -231,7 +231,7 @@ fn lands_ok(model: &[i32], e: usize) -> bool
     records::target_wall(model, e) == level_after(model, e)
 }
 
-#[tactic(auto, using(plant::proofs::Refusing::refused_first, plant::proofs::Refusing::passed_first), unfolding(plant::specs::Questions::switch_questions))]
+#[tactic(auto, using(plant::proofs::Refusing::chains), unfolding(plant::specs::Questions::switch_questions))]
 fn switch_questions(model: &[i32], e: usize) -> Result<(), Refusal>
     requires { Whole model.now × (e < M.E# model.now) }
     ensures { asked result ≡ Q.switch_questions model.now e }
@@ -280,12 +280,12 @@ fn cut_inside(model: &[i32], l: usize) -> bool
     requires { Whole model.now × (l < M.L# model.now) }
     ensures { result ≡ (Q.below_ok model.now (M.cut_at model.now l) (M.n# model.now) && Q.strictly_inside (M.invariant model.now l) (nat_abs (M.cut_variable model.now l)) (M.cut_value model.now l)) }
 {
-    if !below_ok(model, records::cut_at(model, l), records::variables(model)) {
-        return false;
-    }
-    let variable = records::cut_variable(model, l).unsigned_abs() as usize;
-    let value = records::cut_value(model, l);
-    strictly_inside(records::invariant(model, l), variable, value)
+    below_ok(model, records::cut_at(model, l), records::variables(model))
+        && strictly_inside(
+            records::invariant(model, l),
+            records::cut_variable(model, l).unsigned_abs() as usize,
+            records::cut_value(model, l),
+        )
 }
 
 // -1 and 0, or such a variable and value?
@@ -305,7 +305,7 @@ fn cut_question(model: &[i32], l: usize) -> Result<(), Refusal>
 // ---- the questions of a model
 
 // n, L, E and B allowed?
-#[tactic(auto, using(plant::proofs::Refusing::refused_first, plant::proofs::Refusing::passed_first), unfolding(plant::specs::Questions::ranges_questions))]
+#[tactic(auto, using(plant::proofs::Refusing::chains), unfolding(plant::specs::Questions::ranges_questions))]
 pub fn ranges_questions(model: &[i32]) -> Result<(), Refusal>
     requires { M.head_size ≤ length model.now }
     ensures { asked result ≡ Q.ranges_questions model.now }
@@ -329,7 +329,7 @@ fn edition_question(model: &[i32]) -> Result<(), Refusal>
     )
 }
 
-#[tactic(auto, using(plant::proofs::Refusing::refused_at, plant::proofs::Refusing::passed_more, plant::proofs::Asks::first_none))]
+#[tactic(auto, using(plant::proofs::Refusing::runs))]
 fn locations_questions(model: &[i32]) -> Result<(), Refusal>
     requires { Whole model.now }
     ensures { asked result ≡ S.first (M.L# model.now) (Q.location_questions model.now) }
@@ -340,7 +340,7 @@ fn locations_questions(model: &[i32]) -> Result<(), Refusal>
     Ok(())
 }
 
-#[tactic(auto, using(plant::proofs::Refusing::refused_at, plant::proofs::Refusing::passed_more, plant::proofs::Asks::first_none))]
+#[tactic(auto, using(plant::proofs::Refusing::runs))]
 fn switches_questions(model: &[i32]) -> Result<(), Refusal>
     requires { Whole model.now }
     ensures { asked result ≡ S.first (M.E# model.now) (Q.switch_questions model.now) }
@@ -351,7 +351,7 @@ fn switches_questions(model: &[i32]) -> Result<(), Refusal>
     Ok(())
 }
 
-#[tactic(auto, using(plant::proofs::Refusing::refused_at, plant::proofs::Refusing::passed_more, plant::proofs::Asks::first_none))]
+#[tactic(auto, using(plant::proofs::Refusing::runs))]
 fn forbidden_questions(model: &[i32]) -> Result<(), Refusal>
     requires { Whole model.now }
     ensures { asked result ≡ S.first (M.B# model.now) (Q.forbidden_question model.now) }
@@ -362,7 +362,7 @@ fn forbidden_questions(model: &[i32]) -> Result<(), Refusal>
     Ok(())
 }
 
-#[tactic(auto, using(plant::proofs::Refusing::refused_at, plant::proofs::Refusing::passed_more, plant::proofs::Asks::first_none))]
+#[tactic(auto, using(plant::proofs::Refusing::runs))]
 fn cuts_questions(model: &[i32]) -> Result<(), Refusal>
     requires { Whole model.now }
     ensures { asked result ≡ S.first (M.L# model.now) (Q.cut_question model.now) }
@@ -374,7 +374,7 @@ fn cuts_questions(model: &[i32]) -> Result<(), Refusal>
 }
 
 // The questions of each record in turn, 11 to 19, then of each cut, 46.
-#[tactic(auto, using(plant::proofs::Refusing::refused_first, plant::proofs::Refusing::passed_first), unfolding(plant::specs::Questions::records_questions))]
+#[tactic(auto, using(plant::proofs::Refusing::chains), unfolding(plant::specs::Questions::records_questions))]
 pub fn records_questions(model: &[i32]) -> Result<(), Refusal>
     requires { Whole model.now }
     ensures { asked result ≡ Q.records_questions model.now }
@@ -386,7 +386,7 @@ pub fn records_questions(model: &[i32]) -> Result<(), Refusal>
 }
 
 // The questions of a model's words, 2 to 5, 43, 11 to 19 and 46: the refusal of the first that is not yes.
-#[tactic(auto, using(plant::proofs::Refusing::refused_first, plant::proofs::Refusing::passed_first), unfolding(plant::specs::Questions::model_questions))]
+#[tactic(auto, using(plant::proofs::Refusing::chains), unfolding(plant::specs::Questions::model_questions))]
 pub fn questions(model: &[i32]) -> Result<(), Refusal>
     ensures { asked result ≡ Q.model_questions model.now }
 {

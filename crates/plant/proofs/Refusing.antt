@@ -8,7 +8,7 @@ use Rattle.plant.specs.declared.Refusal.{Refusal}
 use Rattle.plant.specs.declared.Refusal.TheVariants.{FirstField, Variables, Locations, SwitchesAndBoxes, Words, FieldTag, FieldLength, ModelEnd, Invariant, Rates, Start, Places, SwitchBoxes, MaskedResets, Guard, Landing, Forbidden, TableWords, WorkWords, Counters, Table, Unchanged, Touching, CountField, PieceField, PieceOrder, TableEnd, TableBytes, ModelBytes, Edition, CutPlace}
 use Rattle.plant.specs.Ask.{ask, ◌then◌, first}
 use Rattle.plant.specs.Refusals.{number, OneMeaning, asked}
-use Rattle.plant.proofs.Asks.{halt, first_more, run_stop}
+use Rattle.plant.proofs.Asks.{halt, first_none, first_more, run_stop}
 
 -- ---- the number of a refusal
 
@@ -119,3 +119,8 @@ module _ (q : ℕ → ℕ) where
 
   pub passed_more : (i : ℕ) → first i q ≡ 0 → 0 ≡ q i → first (i + 1) q ≡ 0
   passed_more i z e = first_more q i z (sym e)
+
+-- by which a check finds the answer of questions in turn, and of a run of questions
+pub ruleset chains = (refused_first, passed_first)
+
+pub ruleset runs = (first_none, refused_at, passed_more)

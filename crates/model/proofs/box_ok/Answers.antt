@@ -14,6 +14,6 @@ pub loop-i-preserved : goal.loop-i-preserved
 unfolding box_ok low high
 loop-i-preserved c =
     let most = c.args.most in
-    let least_is : to_z w64 (of_z w64 (pos 0 -ℤ to_z w64 most)) ≡ neg_ℤ (pos most) = omega (arith, ints) in
+    let least_is : to_z w64 (of_z w64 (neg_ℤ (to_z w64 most))) ≡ neg_ℤ (pos most) = omega (arith, ints) in
     let most_is : to_z w64 most ≡ pos most = omega (arith, ints) in
     search (arith, ints, to_z-of_z, all_more, least_is, most_is, c.range_ok-ok.ensures, c.loop-i.invariant)
