@@ -2,8 +2,8 @@
 // write_model.
 #![tactic(auto)]
 
-ghost use Rattle.std.specs.Prelude.{◌≡◌, true, cond, [], ◌∷◌, ◌++◌, ◌+◌, ◌≤◌, ◌<◌, T, pos, negsuc, length, take, IfOk};
-ghost use Rattle.integers.specs.Words.{word, num, onto};
+ghost use Rattle.std.specs.Prelude.{◌≡◌, cond, ◌++◌, ◌+◌, ◌≤◌, ◌<◌, T, length, take, IfOk};
+ghost use Rattle.integers.specs.Words.{num, onto};
 ghost use Rattle.files.specs.Fields.{field_length, field_at};
 ghost use Rattle.plant.specs.Ask.{◌then◌};
 ghost use Rattle.plant.specs.Model.{head_size, cut_size};

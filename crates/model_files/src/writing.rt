@@ -5,7 +5,7 @@ ghost use Rattle.files.specs.Fields.{field_length};
 ghost use Rattle.plant.specs.Model.{L#, cut_variable};
 ghost use Rattle.plant.specs.Refusals.{asked, numbered};
 ghost use Rattle.plant.proofs.Whole.{Whole};
-ghost use Rattle.files.specs.ModelFile.{first_tag, cut_field_size, record_field, model_file, cuts_from, write_model_questions, write_model_call};
+ghost use Rattle.files.specs.ModelFile.{first_tag, record_field, model_file, cuts_from, write_model_questions, write_model_call};
 ghost use Rattle.files.specs.UncutModelFile.{records_file};
 ghost use Rattle.model_files.specs.Room.{record_fields, RunRoom, CutRoom, FileRoom};
 ghost use Rattle.files.proofs.ModelLength.{cut_field_of, cut_fields};
