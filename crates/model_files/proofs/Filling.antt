@@ -13,7 +13,7 @@ use Rattle.plant.proofs.Heads.{locations_at, switches_at, forbiddens_at, cuts_at
 use Rattle.files.specs.ModelFile.{locations_from, switches_from, forbiddens_from, cuts_from}
 use Rattle.files.proofs.FirstField.{length_head}
 use Rattle.files.proofs.ModelReading.{BodyPassed}
-use Rattle.model_files.specs.Room.{RunReady, CutsReady, HeadRead}
+use Rattle.model_files.specs.Room.{locations_run, switches_run, forbiddens_run, RunReady, CutsReady, HeadRead}
 
 module _ {s : List ℕ} {h words : List ℤ} (r : HeadRead s h words) where
   pub five : length h ≡ 5
@@ -28,14 +28,14 @@ module _ {s : List ℕ} {h words : List ℤ} (r : HeadRead s h words) where
   head_put e = rw (e, five) refl
 
 module _ (s : List ℕ) (h : List ℤ) (ok : model.Head h) (y : BodyPassed s h) (words : List ℤ) (room : model_size h ≤ length words) where
-  pub locations_ready : RunReady s locations_from (L# h) (location_size (n# h)) words (location_at h 0)
-  locations_ready = record { tag = 2; whole = y.locations_whole; room = omega (arith, locations_at h, switches_at h, forbiddens_at h, cuts_at h, words_end h); w_small = omega (arith, ok.n_small) }
+  pub locations_ready : RunReady s (locations_run h) words
+  locations_ready = record { whole = y.locations_whole; room = omega (arith, locations_at h, switches_at h, forbiddens_at h, cuts_at h, words_end h); w_small = omega (arith, ok.n_small) }
 
-  pub switches_ready : RunReady s (switches_from h) (E# h) (switch_size (n# h)) words (switch_at h 0)
-  switches_ready = record { tag = 3; whole = y.switches_whole; room = omega (arith, forbiddens_at h, cuts_at h, words_end h); w_small = omega (arith, ok.n_small) }
+  pub switches_ready : RunReady s (switches_run h) words
+  switches_ready = record { whole = y.switches_whole; room = omega (arith, forbiddens_at h, cuts_at h, words_end h); w_small = omega (arith, ok.n_small) }
 
-  pub forbiddens_ready : RunReady s (forbiddens_from h) (B# h) (forbidden_size (n# h)) words (forbidden_at h 0)
-  forbiddens_ready = record { tag = 4; whole = y.forbiddens_whole; room = omega (arith, cuts_at h, words_end h); w_small = omega (arith, ok.n_small) }
+  pub forbiddens_ready : RunReady s (forbiddens_run h) words
+  forbiddens_ready = record { whole = y.forbiddens_whole; room = omega (arith, cuts_at h, words_end h); w_small = omega (arith, ok.n_small) }
 
   pub cuts_ready : CutsReady s (cuts_from h) (L# h) words (cut_at h 0)
   cuts_ready = record { some = ok.L_positive; passes = y.cuts_pass; room = omega (arith, words_end h); few = ok.L_small }

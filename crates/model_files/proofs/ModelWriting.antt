@@ -33,7 +33,8 @@ use Rattle.plant.proofs.Positions.{row_within, cut-within}
 use Rattle.plant.proofs.Passing.{whole_passed}
 use Rattle.files.specs.ModelFile.{cut_field_size, record_field, model_file, locations_from, switches_from, forbiddens_from, cuts_from, file_room_question, write_model_questions, write_model_call}
 use Rattle.files.specs.UncutModelFile.{records_file}
-use Rattle.model_files.specs.Room.{field_of, record_fields, RunRoom, CutRoom, FileRoom}
+use Rattle.model_files.specs.declared.Run.{Run}
+use Rattle.model_files.specs.Room.{locations_run, switches_run, forbiddens_run, field_of, record_fields, RunRoom, CutRoom, FileRoom}
 use Rattle.files.proofs.ModelLength.{cut_field_of, cut_fields, length-cut-field, records_in_turn, records_length, file_is, length_of_file}
 use Rattle.plant.proofs.Heads.{locations_at, switches_at, forbiddens_at, cuts_at, words_end}
 use Rattle.files.proofs.ModelRoundTrip.{two_words, head_field, locations, switches, forbiddens, length_head_field, before_switches, before_forbiddens}
@@ -61,25 +62,22 @@ module _ (m : List ℤ) (tag from w : ℕ) (there : from + w ≤ length m) where
 
 -- ---- a run of records
 
-module _ (m : List ℤ) (tag : ℕ) (d : List ℕ) {from count w to : ℕ} (r : RunRoom m from count w d to) where
-  record_there : (i : ℕ) → i < count → from + i * w + w ≤ length m
-  record_there i u = omega (arith, r.there, row_within w u)
+module _ (m : List ℤ) (run : Run) (d : List ℕ) (r : RunRoom m run d) where
+  record_there : (i : ℕ) → i < run.count → run.place + i * run.w + run.w ≤ length m
+  record_there i u = omega (arith, r.there, row_within run.w u)
 
-  length_some : (i : ℕ) → i ≤ count → length (cat i (field_of tag m from w)) ≡ i * field_length w
-  length_some i u = length-cat i (field_length w) (field_of tag m from w) (λ j v. length_record m tag (from + j * w) w (record_there j (omega arith)))
+  pub length_one : (i : ℕ) → i < run.count → length (field_of m run i) ≡ field_length run.w
+  length_one i u = length_record m run.tag (run.place + i * run.w) run.w (record_there i u)
 
-  pub run_room : to ≤ length d
+  length_some : (i : ℕ) → i ≤ run.count → length (cat i (field_of m run)) ≡ i * field_length run.w
+  length_some i u = length-cat i (field_length run.w) (field_of m run) (λ j v. length_one j (omega arith))
+
+  pub run_room : run.from ≤ length d
   run_room = omega (arith, r.room)
 
-  -- the buffer keeps its length, and there is room for one more
-  pub run_length : {i next : ℕ} {x : List ℕ} → i ≤ count → Written (field_of tag m from w) d to i next x → length x ≡ length d
-  run_length {i} {next} {x} u h =
-      let k : i * field_length w ≤ count * field_length w = mul-le-mul_right (field_length w) u in
-      length_written (field_of tag m from w) d to run_room h (omega (arith, h.to_is, length_some i u, k, r.room))
-
-  pub record_room : {i next : ℕ} {x : List ℕ} → i < count → Written (field_of tag m from w) d to i next x → (from + i * w + w ≤ length m) × (next + field_length w ≤ length x) × (w ≤ 37)
-  record_room {i} u h =
-      (record_there i u, omega (arith, run_length (omega arith) h, h.to_is, length_some i (omega arith), r.room, row_within (field_length w) u), r.w_small)
+  -- there is room for one more
+  pub record_room : {i next : ℕ} {x : List ℕ} → i < run.count → length x ≡ length d → Written (field_of m run) d run.from i next x → (run.place + i * run.w + run.w ≤ length m) × (next + field_length run.w ≤ length x) × (run.w ≤ 37)
+  record_room {i} u e h = (record_there i u, omega (arith, h.to_is, length_some i (omega arith), r.room, row_within (field_length run.w) u), r.w_small)
 
 -- ---- the cuts
 
@@ -141,23 +139,23 @@ module _ (m : List ℤ) where
 
 module _ (m : List ℤ) (w : Whole m) where
   -- the three runs, as the loops write them
-  locations_are : record_fields 2 m (location_at m 0) (L# m) (location_size (n# m)) ≡ locations m
+  locations_are : record_fields m (locations_run m) ≡ locations m
   unfolding location_at
   locations_are = cat_ext (L# m) _ _ (λ l _. let e : location_at m 0 + l * location_size (n# m) ≡ location_at m l = omega arith in ap (λ (at : ℕ). record_field 2 m at (location_size (n# m))) e)
 
-  switches_are : record_fields 3 m (switch_at m 0) (E# m) (switch_size (n# m)) ≡ switches m
+  switches_are : record_fields m (switches_run m) ≡ switches m
   unfolding switch_at
   switches_are = cat_ext (E# m) _ _ (λ e _. let h : switch_at m 0 + e * switch_size (n# m) ≡ switch_at m e = omega arith in ap (λ (at : ℕ). record_field 3 m at (switch_size (n# m))) h)
 
-  forbiddens_are : record_fields 4 m (forbidden_at m 0) (B# m) (forbidden_size (n# m)) ≡ forbiddens m
+  forbiddens_are : record_fields m (forbiddens_run m) ≡ forbiddens m
   unfolding forbidden_at
   forbiddens_are = cat_ext (B# m) _ _ (λ b _. let e : forbidden_at m 0 + b * forbidden_size (n# m) ≡ forbidden_at m b = omega arith in ap (λ (at : ℕ). record_field 4 m at (forbidden_size (n# m))) e)
 
   pub records_put : (d x₁ x₂ x₃ x₄ : List ℕ)
       → x₁ ≡ onto (take 0 d ++ head_field m) d
-      → x₂ ≡ onto (take locations_from x₁ ++ record_fields 2 m (location_at m 0) (L# m) (location_size (n# m))) x₁
-      → x₃ ≡ onto (take (switches_from m) x₂ ++ record_fields 3 m (switch_at m 0) (E# m) (switch_size (n# m))) x₂
-      → x₄ ≡ onto (take (forbiddens_from m) x₃ ++ record_fields 4 m (forbidden_at m 0) (B# m) (forbidden_size (n# m))) x₃
+      → x₂ ≡ onto (take locations_from x₁ ++ record_fields m (locations_run m)) x₁
+      → x₃ ≡ onto (take (switches_from m) x₂ ++ record_fields m (switches_run m)) x₂
+      → x₄ ≡ onto (take (forbiddens_from m) x₃ ++ record_fields m (forbiddens_run m)) x₃
       → x₄ ≡ onto (records_file m) d
   records_put d x₁ x₂ x₃ x₄ e₁ e₂ e₃ e₄ =
       let f₂ : x₂ ≡ onto (head_field m ++ locations m) d = rw locations_are at e₂ ∙ onto_then (head_field m) (locations m) d x₁ 0 19 e₁ (omega arith) (omega (arith, length_head_field m w)) in
@@ -176,13 +174,13 @@ module _ (m : List ℤ) (d : List ℕ) (r : FileRoom m d) where
   cuts_room = omega (arith, length_of_file m r.whole, r.room)
 
   module _ {x : List ℕ} (same : length x ≡ length d) where
-    pub locations_room : RunRoom m (location_at m 0) (L# m) (location_size (n# m)) x locations_from
+    pub locations_room : RunRoom m (locations_run m) x
     locations_room = record { there = omega (arith, locations_at m, switches_at m, forbiddens_at m, cuts_at m, words_end m, r.whole.long); room = omega (arith, cuts_room); w_small = omega (arith, r.whole.head.n_small) }
 
-    pub switches_room : RunRoom m (switch_at m 0) (E# m) (switch_size (n# m)) x (switches_from m)
+    pub switches_room : RunRoom m (switches_run m) x
     switches_room = record { there = omega (arith, forbiddens_at m, cuts_at m, words_end m, r.whole.long); room = omega (arith, cuts_room); w_small = omega (arith, r.whole.head.n_small) }
 
-    pub forbiddens_room : RunRoom m (forbidden_at m 0) (B# m) (forbidden_size (n# m)) x (forbiddens_from m)
+    pub forbiddens_room : RunRoom m (forbiddens_run m) x
     forbiddens_room = record { there = omega (arith, cuts_at m, words_end m, r.whole.long); room = omega (arith, cuts_room); w_small = omega (arith, r.whole.head.n_small) }
 
   -- the loop over the cuts

@@ -4,19 +4,30 @@ use Rattle.std.specs.Int.Signed.{non_neg}
 use Rattle.integers.specs.Words.{word}
 use Rattle.integers.specs.Counted.{cat}
 use Rattle.files.specs.Fields.{payload_length, field_length, field_place, field_at, is_field}
-use Rattle.plant.specs.Model.{L#, cut_size, model_size}
+use Rattle.plant.specs.Model.{n#, L#, E#, B#, location_size, switch_size, forbidden_size, location_at, switch_at, forbidden_at, cut_size, model_size}
 use Rattle.plant.proofs.Whole.{Head, Whole}
-use Rattle.files.specs.ModelFile.{record_field, model_file, cut_field_size, head_words, is_head, cut_field_words, cuts_questions, names_location}
+use Rattle.files.specs.ModelFile.{record_field, model_file, cut_field_size, head_words, is_head, locations_from, switches_from, forbiddens_from, cut_field_words, cuts_questions, names_location}
+use Rattle.model_files.specs.declared.Run.{Run}
 use Rattle.files.proofs.ModelLength.{cut_field_of}
+
+-- ---- the three runs of records
+
+abbrev pub locations_run : List ℤ → Run
+locations_run h = record { count = L# h; w = location_size (n# h); place = location_at h 0; tag = 2; from = locations_from }
+
+abbrev pub switches_run : List ℤ → Run
+switches_run h = record { count = E# h; w = switch_size (n# h); place = switch_at h 0; tag = 3; from = switches_from h }
+
+abbrev pub forbiddens_run : List ℤ → Run
+forbiddens_run h = record { count = B# h; w = forbidden_size (n# h); place = forbidden_at h 0; tag = 4; from = forbiddens_from h }
 
 -- ---- reading
 
--- count fields of one tag stand whole from a position on, each with a payload of w words, and there is room for these words
-pub record RunReady (s : List ℕ) (from count w : ℕ) (words : List ℤ) (to : ℕ) : Type 0 where
-  pub tag : ℕ
-  pub whole : (i : ℕ) → i < count → T (is_field (field_at s (field_place from w i)) tag (payload_length w))
-  pub room : to + count * w ≤ length words
-  pub w_small : w ≤ 37
+-- the fields of a run stand whole, and there is room for its words
+pub record RunReady (s : List ℕ) (run : Run) (words : List ℤ) : Type 0 where
+  pub whole : (i : ℕ) → i < run.count → T (is_field (field_at s (field_place run.from run.w i)) run.tag (payload_length run.w))
+  pub room : run.place + run.count * run.w ≤ length words
+  pub w_small : run.w ≤ 37
 
 -- a cut's field stands whole at a position, and its location is no negative number
 pub record CutThere (s : List ℕ) (at : ℕ) : Type 0 where
@@ -43,18 +54,18 @@ pub record HeadRead (s : List ℕ) (h words : List ℤ) : Type 0 where
 
 -- ---- writing
 
--- of records of w words each, which stand one after the other from a place of the model on: the field of record i; of count records
-abbrev pub field_of : (tag : ℕ) (m : List ℤ) (from w i : ℕ) → List ℕ
-field_of tag m from w i = record_field tag m (from + i * w) w
+-- the field of record i of a run; of all its records
+abbrev pub field_of : (m : List ℤ) (run : Run) (i : ℕ) → List ℕ
+field_of m run i = record_field run.tag m (run.place + i * run.w) run.w
 
-abbrev pub record_fields : (tag : ℕ) (m : List ℤ) (from count w : ℕ) → List ℕ
-record_fields tag m from count w = cat count (field_of tag m from w)
+abbrev pub record_fields : (m : List ℤ) (run : Run) → List ℕ
+record_fields m run = cat run.count (field_of m run)
 
 -- the records stand there, and there is room for their fields
-pub record RunRoom (m : List ℤ) (from count w : ℕ) (file : List ℕ) (to : ℕ) : Type 0 where
-  pub there : from + count * w ≤ length m
-  pub room : to + count * field_length w ≤ length file
-  pub w_small : w ≤ 37
+pub record RunRoom (m : List ℤ) (run : Run) (file : List ℕ) : Type 0 where
+  pub there : run.place + run.count * run.w ≤ length m
+  pub room : run.from + run.count * field_length run.w ≤ length file
+  pub w_small : run.w ≤ 37
 
 -- a location's cut, and room for a field of it
 pub record CutRoom (m : List ℤ) (l : ℕ) (file : List ℕ) (to : ℕ) : Type 0 where

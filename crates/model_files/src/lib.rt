@@ -2,8 +2,8 @@
 // write_model.
 #![tactic(auto)]
 
-ghost use Rattle.std.specs.Prelude.{◌≡◌, true, cond, [], ◌∷◌, ◌++◌, ◌+◌, ◌≤◌, ◌<◌, T, pos, negsuc, length, take, IfOk};
-ghost use Rattle.integers.specs.Words.{word, num, onto};
+ghost use Rattle.std.specs.Prelude.{◌≡◌, cond, ◌++◌, ◌+◌, ◌≤◌, ◌<◌, T, length, take, IfOk};
+ghost use Rattle.integers.specs.Words.{num, onto};
 ghost use Rattle.files.specs.Fields.{field_length, field_at};
 ghost use Rattle.plant.specs.Ask.{◌then◌};
 ghost use Rattle.plant.specs.Model.{head_size, cut_size};
@@ -11,7 +11,7 @@ ghost use Rattle.plant.specs.Questions.{ranges_questions};
 ghost use Rattle.plant.specs.Refusals.{asked, numbered};
 ghost use Rattle.plant.proofs.Whole.{Head};
 ghost use Rattle.files.specs.ModelFile.{edition_of, cut_field_size, head_words, is_head, has_tag, field_questions, run_questions, buffer_question, locations_from, switches_from, forbiddens_from, cuts_from, cut_field_words, cut_words_ok, cut_field_questions, cuts_questions, body_questions, run_words, record_words, names_location, cut_words, file_words, records_file_questions, read_records, read_model_call};
-ghost use Rattle.model_files.specs.Room.{RunReady, CutThere, CutsReady, filled_cut, HeadRead};
+ghost use Rattle.model_files.specs.Room.{locations_run, switches_run, forbiddens_run, RunReady, CutThere, CutsReady, filled_cut, HeadRead};
 
 use files::Field;
 use plant::Refusal;
@@ -73,20 +73,6 @@ fn field_questions(f: Field, tag: u8, len: usize) -> Result<(), Refusal>
     model::ask(wire::is_field(f, tag, len), Refusal::FieldLength)
 }
 
-// Of `count` fields, each with a payload of w words, from a position on.
-#[tactic(auto, using(plant::proofs::Refusing::refused_at, plant::proofs::Refusing::passed_more, plant::proofs::Asks::first_none), unfolding(files::specs::ModelFile::run_questions))]
-fn run_questions(file: &[u8], from: usize, count: usize, tag: u8, w: usize) -> Result<(), Refusal>
-    requires { w ≤ 37 }
-    ensures { asked result ≡ run_questions file.now from count tag w }
-{
-    let len = wire::payload_length(w);
-    let size = wire::field_length(w);
-    for i in 0..count {
-        field_questions(wire::next_field(file, from + i * size), tag, len)?;
-    }
-    Ok(())
-}
-
 // n, L, E and B allowed, and the words of such a model not more than there is room for?
 #[tactic(auto, using(plant::proofs::Refusing::refused_first, plant::proofs::Refusing::passed_first))]
 fn sizes_questions(head: &[i32], room: usize) -> Result<(), Refusal>
@@ -136,6 +122,73 @@ fn cuts_from(head: &[i32]) -> usize
         records::forbidden_size(records::variables(head)),
         records::forbidden_boxes(head),
     )
+}
+
+// ---- runs of records
+
+// Records of one kind, one after the other: how many, each of w words, from a place of the words on; and their fields, of one tag, from
+// a position of the file on.
+#[derive(Clone, Copy)]
+struct Run {
+    count: usize,
+    w: usize,
+    place: usize,
+    tag: u8,
+    from: usize,
+}
+
+fn locations_run(head: &[i32]) -> Run
+    requires { Head head.now }
+    ensures { result ≡ locations_run head.now }
+{
+    Run {
+        count: records::locations(head),
+        w: records::location_size(records::variables(head)),
+        place: records::location_at(head, 0),
+        tag: 2,
+        from: locations_from(),
+    }
+}
+
+fn switches_run(head: &[i32]) -> Run
+    requires { Head head.now }
+    ensures { result ≡ switches_run head.now }
+{
+    Run {
+        count: records::switches(head),
+        w: records::switch_size(records::variables(head)),
+        place: records::switch_at(head, 0),
+        tag: 3,
+        from: switches_from(head),
+    }
+}
+
+fn forbiddens_run(head: &[i32]) -> Run
+    requires { Head head.now }
+    ensures { result ≡ forbiddens_run head.now }
+{
+    Run {
+        count: records::forbidden_boxes(head),
+        w: records::forbidden_size(records::variables(head)),
+        place: records::forbidden_at(head, 0),
+        tag: 4,
+        from: forbiddens_from(head),
+    }
+}
+
+// Of each field in turn.
+#[tactic(auto, using(plant::proofs::Refusing::refused_at, plant::proofs::Refusing::passed_more, plant::proofs::Asks::first_none), unfolding(files::specs::ModelFile::run_questions))]
+fn run_questions(file: &[u8], run: Run) -> Result<(), Refusal>
+    requires { run.w ≤ 37 }
+    ensures { asked result ≡ run_questions file.now run.from run.count run.tag run.w }
+{
+    let len = wire::payload_length(run.w);
+    let size = wire::field_length(run.w);
+    for i in 0..run.count {
+        let field = wire::next_field(file, run.from + i * size);
+        field_questions(field, run.tag, len)?;
+    }
+    Ok(())
 }
 
 // ---- the questions of the cuts' fields
@@ -197,42 +250,23 @@ fn body_questions(file: &[u8], head: &[i32]) -> Result<(), Refusal>
     requires { Head head.now }
     ensures { asked result ≡ body_questions file.now head.now }
 {
-    let n = records::variables(head);
-    run_questions(
-        file,
-        locations_from(),
-        records::locations(head),
-        2,
-        records::location_size(n),
-    )?;
-    run_questions(
-        file,
-        switches_from(head),
-        records::switches(head),
-        3,
-        records::switch_size(n),
-    )?;
-    run_questions(
-        file,
-        forbiddens_from(head),
-        records::forbidden_boxes(head),
-        4,
-        records::forbidden_size(n),
-    )?;
+    run_questions(file, locations_run(head))?;
+    run_questions(file, switches_run(head))?;
+    run_questions(file, forbiddens_run(head))?;
     cuts_questions(file, cuts_from(head), records::locations(head))
 }
 
 // ---- the words of a file
 
-// Copies the payloads of `count` fields of w words each, from a position on, to a place of the words.
-fn copy_run(file: &[u8], from: usize, count: usize, w: usize, words: &mut [i32], to: usize)
-    requires { RunReady file.now from count w words.old to }
-    ensures { words.new ≡ onto (take to words.old ++ run_words file.now from count w) words.old }
+// Copies the payloads of a run's fields to the place of its records.
+fn copy_run(file: &[u8], run: Run, words: &mut [i32])
+    requires { RunReady file.now run words.old }
+    ensures { words.new ≡ onto (take run.place words.old ++ run_words file.now run.from run.count run.w) words.old }
 {
-    let size = wire::field_length(w);
-    for i in 0..count {
-        let start = from + i * size + wire::HEADER_SIZE;
-        wire::copy_words(file, start, w, words, to + i * w);
+    let size = wire::field_length(run.w);
+    for i in 0..run.count {
+        let start = run.from + i * size + wire::HEADER_SIZE;
+        wire::copy_words(file, start, run.w, words, run.place + i * run.w);
     }
 }
 
@@ -241,32 +275,10 @@ fn fill_records(file: &[u8], head: &[i32], words: &mut [i32])
     requires { HeadRead file.now head.now words.old × (body_questions file.now head.now ≡ 0) }
     ensures { words.new ≡ onto (record_words file.now head.now) words.old }
 {
-    let n = records::variables(head);
     words[..records::HEAD_SIZE].copy_from_slice(head);
-    copy_run(
-        file,
-        locations_from(),
-        records::locations(head),
-        records::location_size(n),
-        words,
-        records::location_at(head, 0),
-    );
-    copy_run(
-        file,
-        switches_from(head),
-        records::switches(head),
-        records::switch_size(n),
-        words,
-        records::switch_at(head, 0),
-    );
-    copy_run(
-        file,
-        forbiddens_from(head),
-        records::forbidden_boxes(head),
-        records::forbidden_size(n),
-        words,
-        records::forbidden_at(head, 0),
-    )
+    copy_run(file, locations_run(head), words);
+    copy_run(file, switches_run(head), words);
+    copy_run(file, forbiddens_run(head), words)
 }
 
 // ---- the words of the cuts

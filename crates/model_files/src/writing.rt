@@ -5,13 +5,13 @@ ghost use Rattle.files.specs.Fields.{field_length};
 ghost use Rattle.plant.specs.Model.{L#, cut_variable};
 ghost use Rattle.plant.specs.Refusals.{asked, numbered};
 ghost use Rattle.plant.proofs.Whole.{Whole};
-ghost use Rattle.files.specs.ModelFile.{first_tag, cut_field_size, record_field, model_file, cuts_from, write_model_questions, write_model_call};
+ghost use Rattle.files.specs.ModelFile.{first_tag, record_field, model_file, cuts_from, write_model_questions, write_model_call};
 ghost use Rattle.files.specs.UncutModelFile.{records_file};
 ghost use Rattle.model_files.specs.Room.{record_fields, RunRoom, CutRoom, FileRoom};
 ghost use Rattle.files.proofs.ModelLength.{cut_field_of, cut_fields};
 
 use crate::{
-    CUT_FIELD_SIZE, HEAD_FIELD_SIZE, cuts_from, forbiddens_from, locations_from, switches_from,
+    CUT_FIELD_SIZE, HEAD_FIELD_SIZE, Run, cuts_from, forbiddens_run, locations_run, switches_run,
 };
 use plant::Refusal;
 
@@ -88,14 +88,15 @@ fn put_record(model: &[i32], tag: u8, from: usize, w: usize, file: &mut [u8], to
     wire::put_words(model, from, w, file, to + wire::HEADER_SIZE)
 }
 
-// Writes the fields of `count` records of w words each, which stand one after the other from a place of the model on.
-fn put_run(model: &[i32], tag: u8, from: usize, count: usize, w: usize, file: &mut [u8], to: usize)
-    requires { RunRoom model.now from count w file.old to }
-    ensures { file.new ≡ onto (take to file.old ++ record_fields tag model.now from count w) file.old }
+// Writes the fields of a run's records.
+fn put_run(model: &[i32], run: Run, file: &mut [u8])
+    requires { RunRoom model.now run file.old }
+    ensures { file.new ≡ onto (take run.from file.old ++ record_fields model.now run) file.old }
 {
-    let size = wire::field_length(w);
-    for i in 0..count {
-        put_record(model, tag, from + i * w, w, file, to + i * size);
+    let size = wire::field_length(run.w);
+    for i in 0..run.count {
+        let from = run.place + i * run.w;
+        put_record(model, run.tag, from, run.w, file, run.from + i * size);
     }
 }
 
@@ -104,36 +105,11 @@ fn put_records(model: &[i32], file: &mut [u8])
     requires { FileRoom model.now file.old }
     ensures { file.new ≡ onto (records_file model.now) file.old }
 {
-    let n = records::variables(model);
     let tag = first_tag(records::edition(model));
     put_record(model, tag, 0, HEAD_FIELD_SIZE, file, 0);
-    put_run(
-        model,
-        2,
-        records::location_at(model, 0),
-        records::locations(model),
-        records::location_size(n),
-        file,
-        locations_from(),
-    );
-    put_run(
-        model,
-        3,
-        records::switch_at(model, 0),
-        records::switches(model),
-        records::switch_size(n),
-        file,
-        switches_from(model),
-    );
-    put_run(
-        model,
-        4,
-        records::forbidden_at(model, 0),
-        records::forbidden_boxes(model),
-        records::forbidden_size(n),
-        file,
-        forbiddens_from(model),
-    )
+    put_run(model, locations_run(model), file);
+    put_run(model, switches_run(model), file);
+    put_run(model, forbiddens_run(model), file)
 }
 
 // ---- the cuts

@@ -9,13 +9,13 @@ use Rattle.model_files.proofs.Runs.{run_there, run_room}
 use Rattle.model_files.proofs.copy_run.Goals as goal
 use Rattle.model_files.proofs.copy_run.Goals.{In-loop-i}
 
-there : (c : In-loop-i) → let a = c.args in a.from + c.loop-i.i * c.field_length-size.result + 3 + payload_length a.w ≤ length a.file.now
+there : (c : In-loop-i) → let a = c.args in a.run.from + c.loop-i.i * c.field_length-size.result + 3 + payload_length a.run.w ≤ length a.file.now
 there c = run_there c.requires c.loop-i-test.true c.field_length-size.ensures
 
 pub loop-i-init : goal.loop-i-init
 loop-i-init c =
     let a = c.args in
-    run_start a.file.now a.from a.w a.to a.words.now (omega (arith, c.requires.room))
+    run_start a.file.now a.run.from a.run.w a.run.place a.words.now (omega (arith, c.requires.room))
 
 pub overflow_mul-start : goal.overflow_mul-start
 overflow_mul-start c = record { fits = omega (arith, c.well_formed, there c) }
@@ -33,4 +33,4 @@ pub loop-i-preserved : goal.loop-i-preserved
 loop-i-preserved c =
     let a = c.args in
     let l = c.loop-i in
-    run_turn a.file.now a.from a.w a.to l.i _ _ a.words.now l.words _ l.invariant (omega (arith, c.requires.room)) (rw c.field_length-size.ensures refl) refl c.copy_words.ensures
+    run_turn a.file.now a.run.from a.run.w a.run.place l.i _ _ a.words.now l.words _ l.invariant (omega (arith, c.requires.room)) (rw c.field_length-size.ensures refl) refl c.copy_words.ensures

@@ -1,7 +1,7 @@
 -- The words as they stand in the file, the location in 64 bits.
 use native.Mathlib.Omega.{arith}
 use Rattle.std.proofs.lemmas.Int.{ints, to_z-of_z}
-use Rattle.integers.proofs.Signed.{bits_eq, as_signed, got32, got64}
+use Rattle.integers.proofs.Signed.{bits_eq, as_signed}
 use Rattle.files.specs.ModelFile.{cut_words_ok}
 use Rattle.model_files.proofs.CutTurns.{location_word, variable_word}
 use Rattle.model_files.proofs.cut_words_ok.Goals as goal

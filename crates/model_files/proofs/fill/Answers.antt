@@ -1,8 +1,5 @@
 -- The words of the records, then those of the cuts behind them.
-use mathlib.Core.Path.{ap, ◌∙◌}
 use native.Mathlib.Omega.{arith}
-use lib.ListN.{length}
-use Rattle.files.proofs.FirstField.{length_head}
 use Rattle.files.proofs.ModelReading.{body_passed, all_filled}
 use Rattle.model_files.proofs.Filling.{five, cuts_ready}
 use Rattle.model_files.proofs.fill.Goals as goal

@@ -1,13 +1,7 @@
 -- The head words are filled in, then those of the three runs, each behind the one before.
-use mathlib.Core.Path.{sym, ap, ◌∙◌}
-use mathlib.Core.List.{List}
+use mathlib.Core.Path.{sym, ◌∙◌}
 use native.Mathlib.Omega.{arith}
 use lib.Seq.{length-take-le}
-use lib.IntN.{ℤ}
-use lib.ListN.{length}
-use Rattle.integers.specs.Words.{onto}
-use Rattle.plant.proofs.Positions.{head_first}
-use Rattle.files.proofs.FirstField.{length_head}
 use Rattle.files.proofs.ModelReading.{body_passed, filled}
 use Rattle.model_files.proofs.Filling.{five, head_room, head_put, locations_ready, switches_ready, forbiddens_ready}
 use Rattle.plant.proofs.Heads.{locations_at}
@@ -25,34 +19,24 @@ copy_from_slice-requires c = length-take-le 5 c.args.words.now (head_room c.requ
 pub copy_run-requires : goal.copy_run-requires
 copy_run-requires c =
     let p = c.requires in
-    rw (c.locations_from.ensures, c.locations.ensures, c.location_size.ensures, c.variables-n.ensures, c.location_at.ensures)
-    (locations_ready _ _ p.0.head (body_passed _ _ p.1) _ (omega (arith, p.0.room)))
+    rw c.locations_run.ensures (locations_ready _ _ p.0.head (body_passed _ _ p.1) _ (omega (arith, p.0.room)))
 
 pub copy_run-requires-2 : goal.copy_run-requires-2
 copy_run-requires-2 c =
     let p = c.requires in
-    rw (c.switches_from.ensures, c.switches.ensures, c.switch_size.ensures, c.variables-n.ensures, c.switch_at.ensures)
-    (switches_ready _ _ p.0.head (body_passed _ _ p.1) _ (omega (arith, p.0.room)))
-
-pub forbidden_size-requires : goal.forbidden_size-requires
-forbidden_size-requires c = omega (arith, c.variables-n.ensures, c.requires.0.head.n_small)
-
-pub forbidden_at-requires : goal.forbidden_at-requires
-forbidden_at-requires c = (c.requires.0.head, omega arith)
+    rw c.switches_run.ensures (switches_ready _ _ p.0.head (body_passed _ _ p.1) _ (omega (arith, p.0.room)))
 
 pub copy_run-requires-3 : goal.copy_run-requires-3
 copy_run-requires-3 c =
     let p = c.requires in
-    rw (c.forbiddens_from.ensures, c.forbidden_boxes.ensures, c.forbidden_size.ensures, c.variables-n.ensures, c.forbidden_at.ensures)
-    (forbiddens_ready _ _ p.0.head (body_passed _ _ p.1) _ (omega (arith, p.0.room)))
+    rw c.forbiddens_run.ensures (forbiddens_ready _ _ p.0.head (body_passed _ _ p.1) _ (omega (arith, p.0.room)))
 
 pub returns : goal.returns
 returns c =
     let a = c.args in
     let p = c.requires.0 in
-    let n = c.variables-n.ensures in
     filled a.file.now a.head.now (five p) a.words.now _ _ _ _
     (head_put p c.copy_from_slice.ensures.after)
-    (rw (c.locations_from.ensures, c.locations.ensures, c.location_size.ensures, n, c.location_at.ensures, locations_at a.head.now) at c.copy_run.ensures)
-    (rw (c.switches_from.ensures, c.switches.ensures, c.switch_size.ensures, n, c.switch_at.ensures) at c.copy_run-2.ensures)
-    (rw (c.forbiddens_from.ensures, c.forbidden_boxes.ensures, c.forbidden_size.ensures, n, c.forbidden_at.ensures) at c.copy_run-3.ensures)
+    (rw (c.locations_run.ensures, locations_at a.head.now) at c.copy_run.ensures)
+    (rw c.switches_run.ensures at c.copy_run-2.ensures)
+    (rw c.forbiddens_run.ensures at c.copy_run-3.ensures)

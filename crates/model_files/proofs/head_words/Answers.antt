@@ -1,8 +1,6 @@
 -- Four words of the first field, and the edition behind them.
 use mathlib.Core.Path.{◌∙◌}
-use Prim.Native.Nat.{◌≤◌}
 use native.Mathlib.Omega.{arith}
-use lib.ListN.{length}
 use Rattle.integers.proofs.Buffers.{onto_all}
 use Rattle.integers.proofs.Signed.{got32}
 use Rattle.files.specs.ModelFile.{head_words}

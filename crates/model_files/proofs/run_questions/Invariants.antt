@@ -4,4 +4,4 @@ use Rattle.files.specs.ModelFile.{run_questions}
 use Rattle.model_files.proofs.run_questions.Given as goal
 
 abbrev pub invariant-loop-i : goal.invariant-loop-i
-invariant-loop-i l = run_questions l.file l.from l.i l.tag l.w ≡ 0
+invariant-loop-i l = run_questions l.file l.run.from l.i l.run.tag l.run.w ≡ 0

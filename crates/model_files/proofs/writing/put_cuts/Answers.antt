@@ -1,7 +1,7 @@
 -- Each turn writes the field of one location more.
 use native.Mathlib.Omega.{arith}
 use Rattle.integers.proofs.Filling.{written_none, written_more}
-use Rattle.model_files.proofs.ModelWriting.{cuts_room, cut_place, cut_room, cuts_written}
+use Rattle.model_files.proofs.ModelWriting.{cuts_room, cut_room, cuts_written}
 use Rattle.model_files.proofs.writing.put_cuts.Goals as goal
 
 pub loop-l-init : goal.loop-l-init

@@ -5,4 +5,4 @@ use Rattle.model_files.specs.Room.{field_of}
 use Rattle.model_files.proofs.writing.put_run.Given as goal
 
 abbrev pub invariant-loop-i : goal.invariant-loop-i
-invariant-loop-i l = Written (field_of l.tag l.model l.from l.w) l.initial.file l.to l.i (l.to + l.i * l.size) l.file
+invariant-loop-i l = Written (field_of l.model l.run) l.initial.file l.run.from l.i (l.run.from + l.i * l.size) l.file
