@@ -10,6 +10,7 @@ ghost use Rattle.plant.proofs.Whole.{Whole};
 ghost use Rattle.files.specs.TableFile.{pieces_from, room_questions};
 ghost use Rattle.table_files.specs.TableRoom.{size_by};
 
+use model::ask;
 use plant::Refusal;
 
 mod reading;
@@ -44,7 +45,7 @@ fn field_size(any_cut: bool, n: usize) -> usize
     place_size(any_cut) + 2 * n
 }
 
-// How many pieces a face of location l has: one where places don't name the piece.
+// How many pieces a face of location l has: one where places don't name the piece, without a look at its cut.
 fn per_face(model: &[i32], any_cut: bool, l: usize) -> usize
     requires { Whole model.now × (any_cut ≡ P.any_cut model.now) × (l < L# model.now) }
     ensures { result ≡ P.per_face model.now l }
@@ -69,5 +70,5 @@ fn room_questions(model: &[i32], room: usize) -> Result<(), Refusal>
     ensures { asked result ≡ room_questions model.now room }
 {
     model::questions(model)?;
-    model::ask(tables::table_size(model) <= room, Refusal::TableWords)
+    ask(tables::table_size(model) <= room, Refusal::TableWords)
 }

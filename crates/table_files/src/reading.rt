@@ -69,11 +69,7 @@ fn index_within(file: &[u8], start: usize, any_cut: bool, most: usize) -> bool
     requires { (start + payload_length (size_by any_cut) ≤ length file.now) × (most ≤ 1536) }
     ensures { result ≡ within (pos 0) (pos most) (index_word file.now start any_cut) }
 {
-    if any_cut {
-        number_within(file, start + 2 * wire::WORD_SIZE, most)
-    } else {
-        true
-    }
+    !any_cut || number_within(file, start + 2 * wire::WORD_SIZE, most)
 }
 
 // That number, 0 without the word.
@@ -105,11 +101,11 @@ fn names_piece(model: &[i32], any_cut: bool, file: &[u8], start: usize) -> bool
     requires { Whole model.now × (any_cut ≡ P.any_cut model.now) × (start + payload_length (size_by any_cut) ≤ length file.now) }
     ensures { result ≡ names_piece model.now any_cut file.now start }
 {
-    let faces = 2 * records::variables(model);
     if !number_within(file, start, records::locations(model) - 1) {
         return false;
     }
     let per = per_face(model, any_cut, number_at(file, start));
+    let faces = 2 * records::variables(model);
     let face = number_within(file, start + wire::WORD_SIZE, faces - 1);
     face & index_within(file, start, any_cut, per - 1)
 }
