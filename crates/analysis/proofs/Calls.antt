@@ -5,17 +5,23 @@ use Prim.Native.Nat.{ℕ, zero, suc, ◌<◌}
 use native.Mathlib.Omega.{arith}
 use lib.IntN.{ℤ, pos}
 use lib.ListN.{length, drop, replicate}
+use lib.Seq.{take_all}
 use Rattle.std.specs.Prelude.{Result, Ok, Err}
-use Rattle.integers.specs.Words.{onto}
+use Rattle.integers.specs.Words.{equal, onto}
 use Rattle.plant.specs.declared.Answer.{Answer}
 use Rattle.plant.specs.declared.Refusal.{Refusal}
 use Rattle.plant.specs.Refusals.{number, asked, numbered}
-use Rattle.plant.specs.Tables.{table_size}
-use Rattle.plant.specs.Calls.{verdict_by, analysis, answer_table, passes_of, Analysed, answered}
+use Rattle.plant.specs.Tables.{table_size, pass}
+use Rattle.plant.specs.Calls.{unchanged, verdict_by, analysis, answer_table, passes_of, Analysed, answered}
 use Rattle.plant.proofs.Refusing.{number_positive}
 use Rattle.plant.proofs.Keeps.{after_length}
 
 -- ---- the checker
+
+-- all of the words are the table
+pub unchanged_is : (m t : List ℤ) → length t ≡ table_size m → unchanged m t ≡ equal (pass m t) t
+unfolding unchanged
+unchanged_is m t size = ap (equal (pass m t)) (take_all (table_size m) t (omega arith))
 
 positive : (k : ℕ) → 0 < k → ◌≡◌ {A = Result Unit ℕ} (Err k) (verdict_by k)
 positive zero h = absurd (omega arith)

@@ -1,11 +1,10 @@
--- The first words of those that are held.
-use mathlib.Core.Path.{◌≡◌, sym}
+-- The first words of those that are lent.
+use mathlib.Core.Path.{◌≡◌}
 use mathlib.Core.List.{List}
 use Prim.Native.Nat.{ℕ, ◌≤◌}
-use native.Mathlib.Omega.{arith}
 use lib.IntN.{ℤ}
 use lib.ListN.{length, take}
 use lib.Seq.{length-take-le}
 
-pub prefix : (words : List ℤ) (n : ℕ) {most : ℕ} → length words ≡ most → n ≤ most → n ≡ length (take n words)
-prefix words n e h = sym (length-take-le n words (omega arith))
+pub lent : (n : ℕ) (words : List ℤ) → n ≤ length words → length (take n words) ≡ n
+lent n words h = length-take-le n words h

@@ -18,6 +18,7 @@ use tables::{FEW_WORDS, FEWEST_WORDS, MOST_WORDS};
 // ---- the ceiling
 
 // How many passes settle every answer, or the refusal of the model's question that is not yes.
+#[tactic(auto, using(plant::proofs::Refusing::number_suc), unfolding(plant::specs::Calls::ceiling_call))]
 pub fn ceiling(model: &[i32]) -> Result<u64, Refusal>
     ensures { numbered result ≡ ceiling_call model.now }
 {
@@ -37,6 +38,7 @@ fn fixpoint<'a>(model: &'a [i32], places: &[usize], table: &'a [i32], after: &mu
 }
 
 // 33 and 34 of a table that passes 32, with N words held for the pass. They are cleared at each call.
+#[tactic(auto, using(plant::proofs::Refusing::refused_first, plant::proofs::Refusing::passed_first, crate::proofs::Calls::unchanged_is), unfolding(plant::specs::Calls::certificate_questions))]
 fn certificate_in<'a, const N: usize>(
     model: &'a [i32],
     places: &[usize],
@@ -54,6 +56,7 @@ fn certificate_in<'a, const N: usize>(
 }
 
 // The same, with fewer words held for a smaller table.
+#[tactic(auto, using(plant::proofs::Passing::head_ready, tables::proofs::Faces::table_most))]
 fn certificate_held<'a>(model: &'a [i32], places: &[usize], table: &'a [i32]) -> Result<(), Refusal>
     requires { Sized model.now table.now × Places model.now places.now × (table_ok model.now table.now ≡ true) }
     ensures { asked result ≡ certificate_questions model.now table.now }
@@ -68,6 +71,7 @@ fn certificate_held<'a>(model: &'a [i32], places: &[usize], table: &'a [i32]) ->
 }
 
 // 33 and 34 of a table that passes 32.
+#[tactic(auto, using(plant::proofs::Passing::whole))]
 pub fn certificate_questions<'a>(model: &'a [i32], table: &'a [i32]) -> Result<(), Refusal>
     requires { Sized model.now table.now × (table_ok model.now table.now ≡ true) }
     ensures { asked result ≡ certificate_questions model.now table.now }
@@ -78,6 +82,7 @@ pub fn certificate_questions<'a>(model: &'a [i32], table: &'a [i32]) -> Result<(
 }
 
 // The questions of a table's words, 32 to 34.
+#[tactic(auto, using(plant::proofs::Passing::whole, plant::proofs::Refusing::refused_first, plant::proofs::Refusing::passed_first), unfolding(plant::specs::Calls::table_questions))]
 fn table_questions<'a>(model: &'a [i32], table: &'a [i32]) -> Result<(), Refusal>
     requires { Sized model.now table.now }
     ensures { asked result ≡ table_questions model.now table.now }
@@ -89,6 +94,7 @@ fn table_questions<'a>(model: &'a [i32], table: &'a [i32]) -> Result<(), Refusal
 }
 
 // Accepts exactly if the model's questions, 20 and 32 to 34 are all yes.
+#[tactic(auto, using(plant::proofs::Passing::whole, plant::proofs::Refusing::number_suc, plant::proofs::Refusing::refused_first, plant::proofs::Refusing::passed_first), unfolding(plant::specs::Calls::check_call, plant::specs::Calls::checker_questions))]
 pub fn check<'a>(model: &'a [i32], table: &'a [i32]) -> Result<(), Refusal>
     ensures { numbered result ≡ check_call model.now table.now }
 {
@@ -102,6 +108,7 @@ pub fn check<'a>(model: &'a [i32], table: &'a [i32]) -> Result<(), Refusal>
 
 // Counts passes from table 0 on until a part of table k touches, a pass leaves table k as it is, or k is the limit. Leaves
 // table k; `work` is where a pass is made, and the caller clears it.
+#[tactic(auto, using(plant::proofs::Passed::passed, crate::proofs::Counting::going_length, crate::proofs::Counting::going_ok))]
 fn counted_passes(
     model: &[i32],
     places: &[usize],
@@ -131,6 +138,7 @@ fn counted_passes(
 }
 
 // The questions of an analysis, the model's, 20 and 21.
+#[tactic(auto, using(plant::proofs::Passing::whole, plant::proofs::Refusing::refused_first, plant::proofs::Refusing::passed_first), unfolding(plant::specs::Calls::analysis_questions))]
 pub fn questions<'a>(model: &'a [i32], table: &'a [i32], work: &'a [i32]) -> Result<(), Refusal>
     ensures { asked result ≡ analysis_questions model.now table.now work.now }
 {
@@ -141,6 +149,7 @@ pub fn questions<'a>(model: &'a [i32], table: &'a [i32], work: &'a [i32]) -> Res
 }
 
 // The answer after its questions. The table buffer then begins with the answer's table, and the work buffer is all zero.
+#[tactic(auto, using(plant::proofs::Passing::whole, plant::proofs::AnalysisAsked::model_asked, plant::proofs::AnalysisAsked::table_room, plant::proofs::AnalysisAsked::work_room, crate::proofs::Sizes::lent))]
 pub fn analyse_passed(model: &[i32], limit: u32, table: &mut [i32], work: &mut [i32]) -> Answer
     requires { analysis_questions model.now table.old work.old ≡ 0 }
     ensures { record { answer = Ok result; table = table.new; work = work.new } ≡ answered model.now (C.analysis model.now limit) table.old work.old }
@@ -154,6 +163,7 @@ pub fn analyse_passed(model: &[i32], limit: u32, table: &mut [i32], work: &mut [
 }
 
 // The questions, and then the answer; a refusal changes nothing.
+#[tactic(auto, using(plant::proofs::Refusing::number_suc), unfolding(plant::specs::Calls::analyse_call))]
 pub fn analyse(
     model: &[i32],
     limit: u32,

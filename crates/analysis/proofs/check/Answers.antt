@@ -5,22 +5,9 @@ use Rattle.std.proofs.lemmas.Grind.{common_steps}
 use Rattle.plant.specs.Ask.{◌then◌}
 use Rattle.plant.specs.Calls.{verdict_by, checker_questions, check_call}
 use Rattle.plant.proofs.Passed.{passed}
-use Rattle.plant.proofs.Passing.{whole}
 use Rattle.plant.proofs.Front.{questions_front}
-use Rattle.plant.proofs.Refusing.{number_positive}
 use Rattle.analysis.proofs.Calls.{verdict_is}
 use Rattle.analysis.proofs.check.Goals as goal
-
-pub returns-in_err-questions : goal.returns-in_err-questions
-unfolding check_call checker_questions ◌then◌
-returns-in_err-questions c = grind (arith, common_steps, number_positive)
-
-pub table_size-end-requires : goal.table_size-end-requires
-table_size-end-requires c = grind (arith, whole)
-
-pub returns-in_err-ask : goal.returns-in_err-ask
-unfolding check_call checker_questions ◌then◌
-returns-in_err-ask c = grind (arith, common_steps, number_positive)
 
 pub returns : goal.returns
 unfolding check_call checker_questions ◌then◌

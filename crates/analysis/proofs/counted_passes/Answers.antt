@@ -1,23 +1,15 @@
 -- Before each turn the table is table k, and the answer is the one that the search gives from there on (`Going`).
 use mathlib.Core.Path.{◌≡◌}
 use Rattle.std.proofs.Common.{arith}
-use Rattle.std.proofs.lemmas.Grind.{common_steps}
-use Rattle.plant.specs.Tables.{table_size, pass}
-use Rattle.plant.proofs.Passed.{passed}
-use Rattle.analysis.proofs.Counting.{going_first, going_length, going_ok, going_unknown, going_safe, going_limit, going_more}
+use Rattle.plant.specs.Tables.{pass}
+use Rattle.analysis.proofs.Counting.{going_first, going_unknown, going_safe, going_limit, going_more}
 use Rattle.analysis.proofs.counted_passes.Goals as goal
 
 pub loop-links-init : goal.loop-links-init
-loop-links-init c = let e = c.fill.ensures.after (λ y h. h) in rw e (going_first _ _ _ _ c.requires.0.size c.requires.2.size)
-
-pub touching-requires : goal.touching-requires
-touching-requires c = grind (arith, common_steps, passed, going_length, going_ok)
+loop-links-init c = let clear = c.fill.ensures.after (λ y h. h) in rw clear (going_first _ _ _ _ c.requires.0.size c.requires.2.size)
 
 pub returns-then-touching : goal.returns-then-touching
 returns-then-touching c = going_unknown _ _ _ _ _ c.loop-links.invariant (cc)
-
-pub fixpoint-requires : goal.fixpoint-requires
-fixpoint-requires c = grind (arith, common_steps, passed, going_length, going_ok)
 
 pub returns-then-fixpoint : goal.returns-then-fixpoint
 returns-then-fixpoint c = going_safe _ _ _ _ _ c.loop-links.invariant (cc) (cc)
