@@ -1,1 +1,2 @@
 pub mod Walls
+pub mod Places

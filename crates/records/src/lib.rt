@@ -1,7 +1,8 @@
 // Reading a model's words: its numbers of variables, locations, switches and forbidden boxes, its edition, where the records stand, and
 // what they hold. These functions serve the crates above and are no calls of outsiders: what they are lent has passed its questions so
 // far.
-#![tactic(auto)]
+// The proofs open the definitions that the contracts cite, and go by where the records stand (proofs/Places).
+#![tactic(auto, using(crate::proofs::Places::places), unfolding(plant::specs::Model::location_at, plant::specs::Model::switch_at, plant::specs::Model::forbidden_at, plant::specs::Model::cut_at, plant::specs::Model::model_size, plant::specs::Box::box_at, plant::specs::Model::invariant, plant::specs::Model::rate, plant::specs::Model::start_flag, plant::specs::Model::start_box, plant::specs::Model::source, plant::specs::Model::target, plant::specs::Model::wall_variable, plant::specs::Model::source_side, plant::specs::Model::target_side, plant::specs::Model::reset_mask, plant::specs::Model::masked, plant::specs::Model::guard, plant::specs::Model::reset, plant::specs::Model::forbidden_location, plant::specs::Model::forbidden_box, plant::specs::Model::cut_variable, plant::specs::Model::cut_value, plant::specs::Questions::source_wall, plant::specs::Questions::target_wall, plant::specs::Model::cut_of, plant::specs::Model::cut_from))]
 
 ghost use Rattle.std.specs.Prelude.{◌≡◌, ◌+◌, ◌*◌, ◌≤◌, ◌<◌, T, length};
 ghost use Rattle.std.specs.Int.Signed.{non_neg};
@@ -166,46 +167,54 @@ pub fn start_box(model: &[i32], l: usize) -> &[i32]
 
 // ---- the record of a switch
 
+// Its word k of the six numbers before its boxes.
+fn switch_number(model: &[i32], e: usize, k: usize) -> usize
+    requires { Numbered model.now e × (k < 6) }
+    ensures { result ≡ W.num model.now (M.switch_at model.now e + k) }
+{
+    integers::number(model, switch_at(model, e) + k)
+}
+
 pub fn source(model: &[i32], e: usize) -> usize
     requires { Numbered model.now e }
     ensures { result ≡ M.source model.now e }
 {
-    integers::number(model, switch_at(model, e))
+    switch_number(model, e, 0)
 }
 
 pub fn target(model: &[i32], e: usize) -> usize
     requires { Numbered model.now e }
     ensures { result ≡ M.target model.now e }
 {
-    integers::number(model, switch_at(model, e) + 1)
+    switch_number(model, e, 1)
 }
 
 pub fn wall_variable(model: &[i32], e: usize) -> usize
     requires { Numbered model.now e }
     ensures { result ≡ M.wall_variable model.now e }
 {
-    integers::number(model, switch_at(model, e) + 2)
+    switch_number(model, e, 2)
 }
 
 pub fn source_side(model: &[i32], e: usize) -> usize
     requires { Numbered model.now e }
     ensures { result ≡ M.source_side model.now e }
 {
-    integers::number(model, switch_at(model, e) + 3)
+    switch_number(model, e, 3)
 }
 
 pub fn target_side(model: &[i32], e: usize) -> usize
     requires { Numbered model.now e }
     ensures { result ≡ M.target_side model.now e }
 {
-    integers::number(model, switch_at(model, e) + 4)
+    switch_number(model, e, 4)
 }
 
 pub fn reset_mask(model: &[i32], e: usize) -> usize
     requires { Numbered model.now e }
     ensures { result ≡ M.reset_mask model.now e }
 {
-    integers::number(model, switch_at(model, e) + 5)
+    switch_number(model, e, 5)
 }
 
 // Bit i of a reset mask.
