@@ -29,9 +29,7 @@ fn passes_of(answer: Answer) -> u32
     ensures { result ≡ passes_of answer }
 {
     match answer {
-        Answer::Safe(k) => k,
-        Answer::Unknown(k) => k,
-        Answer::Unfinished(k) => k,
+        Answer::Safe(k) | Answer::Unknown(k) | Answer::Unfinished(k) => k,
     }
 }
 
