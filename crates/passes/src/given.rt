@@ -5,7 +5,7 @@ ghost use Rattle.plant.proofs.Whole.{Whole, Placed};
 ghost use Rattle.tables.specs.Places.{Places};
 ghost use Rattle.passes.specs.Checked.{Checked};
 
-#[derive(Clone, Copy)]
+#[derive(Drop)]
 pub(crate) struct Given<'a> {
     pub(crate) model: &'a [i32],
     pub(crate) places: &'a [usize],

@@ -15,9 +15,9 @@ use plant::Cut;
 
 impl<'a> Given<'a> {
     // The step of switch e from a box of its source's face: writes the box on which it lands, and answers whether there is one.
-    fn step(self, e: usize, bounds: &[i32], out: &mut [i32]) -> bool
-        requires { let m = self.model.now in (e < E# m) × Levels (n# m) bounds.now × (2 * n# m ≤ length out.old) }
-        ensures { let m = self.entry.model.now in Handed (n# m) result out.new out.old (switch_step_at m e (present bounds.now)) }
+    fn step(&self, e: usize, bounds: &[i32], out: &mut [i32]) -> bool
+        requires { let m = self.now.model.now in (e < E# m) × Levels (n# m) bounds.now × (2 * n# m ≤ length out.old) }
+        ensures { let m = self.now.model.now in Handed (n# m) result out.new out.old (switch_step_at m e (present bounds.now)) }
     {
         let model = self.model;
         let n = records::variables(model);
@@ -29,9 +29,9 @@ impl<'a> Given<'a> {
     }
 
     // Joins a box to the pieces of the face on which switch e lands, in a location with this cut.
-    fn join_landed(self, e: usize, cut: Option<Cut>, part: &[i32], out: &mut [i32])
-        requires { let m = self.model.now in (e < E# m) × (cut ≡ cut_of m (target m e)) × (length part.now ≡ 2 * n# m) × Ordered (n# m) part.now × IsTable m out.old }
-        ensures { out.new ≡ with_landed self.entry.model.now e (present part.now) out.old }
+    fn join_landed(&self, e: usize, cut: Option<Cut>, part: &[i32], out: &mut [i32])
+        requires { let m = self.now.model.now in (e < E# m) × (cut ≡ cut_of m (target m e)) × (length part.now ≡ 2 * n# m) × Ordered (n# m) part.now × IsTable m out.old }
+        ensures { out.new ≡ with_landed self.now.model.now e (present part.now) out.old }
     {
         let model = self.model;
         let n = records::variables(model);
@@ -45,9 +45,9 @@ impl<'a> Given<'a> {
     }
 
     // Joins the step of switch e from a box of its source's face to the pieces of the face on which it lands.
-    fn land(self, e: usize, cut: Option<Cut>, bounds: &[i32], out: &mut [i32])
-        requires { let m = self.model.now in (e < E# m) × (cut ≡ cut_of m (target m e)) × Levels (n# m) bounds.now × IsTable m out.old }
-        ensures { let m = self.entry.model.now in out.new ≡ with_landed m e (switch_step_at m e (present bounds.now)) out.old }
+    fn land(&self, e: usize, cut: Option<Cut>, bounds: &[i32], out: &mut [i32])
+        requires { let m = self.now.model.now in (e < E# m) × (cut ≡ cut_of m (target m e)) × Levels (n# m) bounds.now × IsTable m out.old }
+        ensures { let m = self.now.model.now in out.new ≡ with_landed m e (switch_step_at m e (present bounds.now)) out.old }
     {
         let mut after = [0i32; 12];
         let end = 2 * records::variables(self.model);
@@ -57,9 +57,9 @@ impl<'a> Given<'a> {
     }
 
     // The words of piece k of the face that switch e leaves, which has `count` pieces.
-    fn source_piece(self, e: usize, count: usize, k: usize) -> &'a [i32]
-        requires { Leaves self.model.now e count k }
-        ensures { let m = self.entry.model.now in let t = self.entry.table.now in IsPart (n# m) result.now (T.part_of m t (source m e) (source_piece m e k + 1)) }
+    fn source_piece(&self, e: usize, count: usize, k: usize) -> &'a [i32]
+        requires { Leaves self.now.model.now e count k }
+        ensures { let m = self.now.model.now in let t = self.now.table.now in IsPart (n# m) result.now (T.part_of m t (source m e) (source_piece m e k + 1)) }
     {
         let model = self.model;
         let n = records::variables(model);
@@ -71,9 +71,9 @@ impl<'a> Given<'a> {
 
     // Joins the step of switch e from piece k of its source's face, if it is there: an absent one lands nothing, and nothing more is
     // looked at.
-    fn land_from(self, e: usize, count: usize, k: usize, cut: Option<Cut>, out: &mut [i32])
-        requires { let m = self.model.now in Leaves m e count k × (cut ≡ cut_of m (target m e)) × IsTable m out.old }
-        ensures { out.new ≡ with_switch self.entry.model.now self.entry.table.now e k out.old }
+    fn land_from(&self, e: usize, count: usize, k: usize, cut: Option<Cut>, out: &mut [i32])
+        requires { let m = self.now.model.now in Leaves m e count k × (cut ≡ cut_of m (target m e)) × IsTable m out.old }
+        ensures { out.new ≡ with_switch self.now.model.now self.now.table.now e k out.old }
     {
         let from = self.source_piece(e, count, k);
         if from[0] == 1 {
@@ -83,9 +83,9 @@ impl<'a> Given<'a> {
     }
 
     // Joins the steps of switch e from all pieces of its source's face.
-    fn land_each(self, e: usize, out: &mut [i32])
-        requires { let m = self.model.now in let t = self.table.now in (e < E# m) × (out.old ≡ table_by m (joined_below m t e)) }
-        ensures { let m = self.entry.model.now in let t = self.entry.table.now in out.new ≡ table_by m (joined_below m t (e + 1)) }
+    fn land_each(&self, e: usize, out: &mut [i32])
+        requires { let m = self.now.model.now in let t = self.now.table.now in (e < E# m) × (out.old ≡ table_by m (joined_below m t e)) }
+        ensures { let m = self.now.model.now in let t = self.now.table.now in out.new ≡ table_by m (joined_below m t (e + 1)) }
     {
         let cut = records::cut(self.model, records::target(self.model, e));
         let count = tables::per_face(self.model, records::source(self.model, e));
@@ -95,9 +95,9 @@ impl<'a> Given<'a> {
     }
 
     // Joins all switch steps in a model with cuts.
-    fn switches_cut(self, out: &mut [i32])
-        requires { let m = self.model.now in let t = self.table.now in out.old ≡ table_by m (walls_joined m t) }
-        ensures { out.new ≡ T.pass self.entry.model.now self.entry.table.now }
+    fn switches_cut(&self, out: &mut [i32])
+        requires { let m = self.now.model.now in let t = self.now.table.now in out.old ≡ table_by m (walls_joined m t) }
+        ensures { out.new ≡ T.pass self.now.model.now self.now.table.now }
     {
         for e in 0..records::switches(self.model) {
             self.land_each(e, out);
@@ -105,9 +105,9 @@ impl<'a> Given<'a> {
     }
 
     // Joins all switch steps in a model without a cut: each face has one piece, and no cut is read.
-    fn switches_uncut(self, out: &mut [i32])
-        requires { let m = self.model.now in let t = self.table.now in (out.old ≡ table_by m (walls_joined m t)) × NoCut m }
-        ensures { out.new ≡ T.pass self.entry.model.now self.entry.table.now }
+    fn switches_uncut(&self, out: &mut [i32])
+        requires { let m = self.now.model.now in let t = self.now.table.now in (out.old ≡ table_by m (walls_joined m t)) × NoCut m }
+        ensures { out.new ≡ T.pass self.now.model.now self.now.table.now }
     {
         for e in 0..records::switches(self.model) {
             self.land_from(e, 1, 0, None, out);
@@ -115,9 +115,9 @@ impl<'a> Given<'a> {
     }
 
     // Joins all switch steps to the pieces that have their wall steps.
-    pub(crate) fn switches(self, out: &mut [i32])
-        requires { let m = self.model.now in let t = self.table.now in out.old ≡ table_by m (walls_joined m t) }
-        ensures { out.new ≡ T.pass self.entry.model.now self.entry.table.now }
+    pub(crate) fn switches(&self, out: &mut [i32])
+        requires { let m = self.now.model.now in let t = self.now.table.now in out.old ≡ table_by m (walls_joined m t) }
+        ensures { out.new ≡ T.pass self.now.model.now self.now.table.now }
     {
         let locations = records::locations(self.model);
         if self.places[locations] == 2 * records::variables(self.model) * locations {

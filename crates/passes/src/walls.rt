@@ -17,7 +17,7 @@ use super::parts;
 use plant::{Cut, End, Interval};
 
 // A location, as its wall steps go: its number of variables, its invariant, its rate box and its cut.
-#[derive(Clone, Copy)]
+#[derive(Drop)]
 struct Place<'a> {
     n: usize,
     invariant: &'a [i32],
@@ -63,13 +63,20 @@ impl<'a> Place<'a> {
     }
 
     // Joins to a present face, bound by bound, the box after the delays t to the value b of variable d.
-    fn widen_after(self, bounds: &[i32], d: usize, b: i64, t: Interval, face: &mut [i32])
-        requires { AfterJoin self bounds.now b t × (length face.old ≡ face_size self.n) × (word face.old 0 ≡ pos 1) }
-        ensures { face.new ≡ face_words self.entry.n (present (hull self.entry.n (box_at self.entry.n face.old 1) (after self.entry bounds.now d b t))) }
+    fn widen_after(&self, bounds: &[i32], d: usize, b: i64, t: Interval, face: &mut [i32])
+        requires { AfterJoin self.now bounds.now b t × (length face.old ≡ face_size self.now.n) × (word face.old 0 ≡ pos 1) }
+        ensures { face.new ≡ face_words self.now.n (present (hull self.now.n (box_at self.now.n face.old 1) (after self.now bounds.now d b t))) }
     {
-        for i in 0..self.n {
-            let lo = steps::low_after(self.invariant, self.rate, bounds, d, b, t, i) as i32;
-            let hi = steps::high_after(self.invariant, self.rate, bounds, d, b, t, i) as i32;
+        // Named outside the loop: behind `self` they would be read again after each word that is written.
+        let Place {
+            n,
+            invariant,
+            rate,
+            ..
+        } = *self;
+        for i in 0..n {
+            let lo = steps::low_after(invariant, rate, bounds, d, b, t, i) as i32;
+            let hi = steps::high_after(invariant, rate, bounds, d, b, t, i) as i32;
             let low = 2 * i + 1;
             let high = low + 1;
             face[low] = face[low].min(lo);
@@ -78,9 +85,9 @@ impl<'a> Place<'a> {
     }
 
     // Joins to the pieces of a face the box after the delays t to the value b of variable d.
-    fn join_after(self, bounds: &[i32], d: usize, b: i64, t: Interval, pieces: &mut [i32])
-        requires { AfterJoin self bounds.now b t × AreFaces self.n (pieces_per_face self.cut) pieces.old }
-        ensures { pieces.new ≡ with_face self.entry d (face_after self.entry.n self.entry.invariant.now self.entry.rate.now bounds.now d b (Some t)) pieces.old }
+    fn join_after(&self, bounds: &[i32], d: usize, b: i64, t: Interval, pieces: &mut [i32])
+        requires { AfterJoin self.now bounds.now b t × AreFaces self.now.n (pieces_per_face self.now.cut) pieces.old }
+        ensures { pieces.new ≡ with_face self.now d (face_after self.now.n self.now.invariant.now self.now.rate.now bounds.now d b (Some t)) pieces.old }
     {
         let n = self.n;
         let size = 2 * n;
@@ -92,9 +99,9 @@ impl<'a> Place<'a> {
 
     // Joins to the pieces of face f the wall step from a box, whose window ends at `end`. The step's box is never empty: a present
     // face in an uncut location is widened by it without a copy.
-    fn join_wall(self, bounds: &[i32], end: End, f: usize, pieces: &mut [i32])
-        requires { WallJoin self bounds.now end f pieces.old }
-        ensures { pieces.new ≡ with_face self.entry (variable_of f) (step self.entry bounds.now f) pieces.old }
+    fn join_wall(&self, bounds: &[i32], end: End, f: usize, pieces: &mut [i32])
+        requires { WallJoin self.now bounds.now end f pieces.old }
+        ensures { pieces.new ≡ with_face self.now (variable_of f) (step self.now bounds.now f) pieces.old }
     {
         let d = f / 2;
         let b = integers::word(self.invariant, f);
@@ -110,9 +117,9 @@ impl<'a> Place<'a> {
     }
 
     // Joins to the pieces of each face the wall step from a box. Its window is made once, for all walls.
-    fn join_walls(self, bounds: &[i32], block: &mut [i32])
-        requires { IsInside self bounds.now × IsBlock self block.old }
-        ensures { block.new ≡ with_walls self.entry (present bounds.now) block.old }
+    fn join_walls(&self, bounds: &[i32], block: &mut [i32])
+        requires { IsInside self.now bounds.now × IsBlock self.now block.old }
+        ensures { block.new ≡ with_walls self.now (present bounds.now) block.old }
     {
         let end = delays::window_end(self.n, self.invariant, self.rate, bounds);
         let faces = 2 * self.n;
@@ -125,9 +132,9 @@ impl<'a> Place<'a> {
     }
 
     // Joins to the pieces of each face the wall step from a part, if it is there.
-    fn join_part(self, part: &[i32], block: &mut [i32])
-        requires { PartOk self.n (IsInside self) part.now × IsBlock self block.old }
-        ensures { block.new ≡ with_walls self.entry (face_read self.entry.n part.now 0) block.old }
+    fn join_part(&self, part: &[i32], block: &mut [i32])
+        requires { PartOk self.now.n (IsInside self.now) part.now × IsBlock self.now block.old }
+        ensures { block.new ≡ with_walls self.now (face_read self.now.n part.now 0) block.old }
     {
         if part[0] == 1 {
             self.join_walls(records::box_at(part, 1, self.n), block);
@@ -135,9 +142,9 @@ impl<'a> Place<'a> {
     }
 
     // Joins to the pieces of each face the wall step from the start part of location l, if there is one: holds words for it.
-    fn join_started(self, model: &[i32], l: usize, block: &mut [i32])
-        requires { (model_questions model.now ≡ 0) × (l < L# model.now) × IsPlace model.now l self × IsBlock self block.old }
-        ensures { block.new ≡ with_walls self.entry (start_part model.now l) block.old }
+    fn join_started(&self, model: &[i32], l: usize, block: &mut [i32])
+        requires { (model_questions model.now ≡ 0) × (l < L# model.now) × IsPlace model.now l self.now × IsBlock self.now block.old }
+        ensures { block.new ≡ with_walls self.now (start_part model.now l) block.old }
     {
         let mut start = [0i32; 12];
         let end = 2 * self.n;
@@ -147,9 +154,9 @@ impl<'a> Place<'a> {
     }
 
     // The same, once the start flag is asked: without flag 1 no words are held, and none cleared.
-    fn join_start(self, model: &[i32], l: usize, block: &mut [i32])
-        requires { (model_questions model.now ≡ 0) × (l < L# model.now) × IsPlace model.now l self × IsBlock self block.old }
-        ensures { block.new ≡ with_walls self.entry (start_part model.now l) block.old }
+    fn join_start(&self, model: &[i32], l: usize, block: &mut [i32])
+        requires { (model_questions model.now ≡ 0) × (l < L# model.now) × IsPlace model.now l self.now × IsBlock self.now block.old }
+        ensures { block.new ≡ with_walls self.now (start_part model.now l) block.old }
     {
         if records::start_flag(model, l) == 1 {
             self.join_started(model, l, block);
@@ -160,9 +167,9 @@ impl<'a> Place<'a> {
 impl Given<'_> {
     // Joins to the pieces of location l, `count` of them, before which so many stand in the table, the wall steps from all parts of
     // the location: its start part, and its pieces.
-    fn join_parts(self, l: usize, before: usize, count: usize, block: &mut [i32])
-        requires { let m = self.model.now in let t = self.table.now in (l < L# m) × (before ≡ pieces_before m l) × (count ≡ pieces m l) × (block.old ≡ location_by m l (piece_of m t l)) }
-        ensures { let m = self.entry.model.now in let t = self.entry.table.now in block.new ≡ location_by m l (walls_joined m t l) }
+    fn join_parts(&self, l: usize, before: usize, count: usize, block: &mut [i32])
+        requires { let m = self.now.model.now in let t = self.now.table.now in (l < L# m) × (before ≡ pieces_before m l) × (count ≡ pieces m l) × (block.old ≡ location_by m l (piece_of m t l)) }
+        ensures { let m = self.now.model.now in let t = self.now.table.now in block.new ≡ location_by m l (walls_joined m t l) }
     {
         let place = Place::read(self.model, l, count);
         place.join_start(self.model, l, block);
@@ -173,9 +180,9 @@ impl Given<'_> {
     }
 
     // The whole table: its words are copied at once, and the wall steps of each location joined to them.
-    pub(crate) fn walls(self, out: &mut [i32])
-        requires { length out.old ≡ table_size self.model.now }
-        ensures { let m = self.entry.model.now in let t = self.entry.table.now in out.new ≡ table_by m (walls_joined m t) }
+    pub(crate) fn walls(&self, out: &mut [i32])
+        requires { length out.old ≡ table_size self.now.model.now }
+        ensures { let m = self.now.model.now in let t = self.now.table.now in out.new ≡ table_by m (walls_joined m t) }
     {
         let n = records::variables(self.model);
         let size = out.len();

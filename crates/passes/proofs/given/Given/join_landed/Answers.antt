@@ -31,9 +31,9 @@ record Stands (m out : List ℤ) (e at words : ℕ) : Type 0 where
   small : at + words ≤ 19968
   inside : at + words ≤ length out
 
-stands : (c : After-face_size) → Stands c.args.self.model.now c.args.out.now c.args.e c.piece_at-at.result (c.pieces_per_face-each.result * c.face_size.result)
+stands : (c : After-face_size) → Stands c.args.self.now.model.now c.args.out.now c.args.e c.piece_at-at.result (c.pieces_per_face-each.result * c.face_size.result)
 stands c =
-    let g = c.args.self in
+    let g = c.args.self.now in
     let p = g.placed c.args.e c.requires.0 in
     let words = ap₂ (λ (k w : ℕ). k * w) (count_is g c.requires.0 c.requires.1 c.wall_variable-d.ensures c.target_side.ensures c.pieces_per_face-each.ensures) (c.face_size.ensures ∙ ap face_size c.variables-n.ensures) in
     let first = first_is g c.requires.0 c.requires.1 c.wall_variable-d.ensures c.target_side.ensures c.pieces_per_face-each.ensures in
@@ -48,11 +48,11 @@ stands c =
     }
 
 pub overflow_mul-f-2 : goal.overflow_mul-f-2
-overflow_mul-f-2 c = omega (arith, few c.args.self c.requires.0 c.requires.1 c.wall_variable-d.ensures c.target_side.ensures c.pieces_per_face-each.ensures)
+overflow_mul-f-2 c = omega (arith, few c.args.self.now c.requires.0 c.requires.1 c.wall_variable-d.ensures c.target_side.ensures c.pieces_per_face-each.ensures)
 
 pub piece_at-at-requires : goal.piece_at-at-requires
 piece_at-at-requires c =
-    let g = c.args.self in (
+    let g = c.args.self.now in (
       before_small g c.target-l.ensures (omega (arith, (g.placed c.args.e c.requires.0).target_is)),
       few g c.requires.0 c.requires.1 c.wall_variable-d.ensures c.target_side.ensures c.pieces_per_face-each.ensures,
       omega (arith, g.whole.head.n_small),
@@ -73,7 +73,7 @@ slice_bounds-join_pieces-end c = omega (arith, (stands c).inside)
 pub join_pieces-requires : goal.join_pieces-requires
 unfolding per_face
 join_pieces-requires c =
-    let g = c.args.self in
+    let g = c.args.self.now in
     let m = g.model.now in
     let e = c.args.e in
     let p = g.placed e c.requires.0 in
@@ -85,7 +85,7 @@ join_pieces-requires c =
 pub returns : goal.returns
 unfolding per_face
 returns c =
-    let g = c.args.self in
+    let g = c.args.self.now in
     let p = g.placed c.args.e c.requires.0 in
     let s = stands (goal.at.returns c).After-face_size in
     landed g.model.now c.args.e (present c.args.part.now) p.target_is (target_face_lem g c.args.e c.requires.0) p.target_side_is c.args.out.now c.requires.4 s.at_is s.part_is (rw (c.variables-n.ensures, c.requires.1, c.wall_variable-d.ensures) at c.join_pieces.ensures)

@@ -7,14 +7,14 @@ use Rattle.passes.proofs.Landing.{joined_from, from_none, from_all, from_more, i
 use Rattle.passes.proofs.given.Given.land_each.Goals as goal
 
 pub target-requires : goal.target-requires
-target-requires c = (c.args.self.placed c.args.e c.requires.0).numbered
+target-requires c = (c.args.self.now.placed c.args.e c.requires.0).numbered
 
 pub loop-k-init : goal.loop-k-init
-loop-k-init c = let g = c.args.self in c.requires.1 ∙ from_none g.model.now g.table.now c.args.e
+loop-k-init c = let g = c.args.self.now in c.requires.1 ∙ from_none g.model.now g.table.now c.args.e
 
 pub land_from-requires : goal.land_from-requires
 land_from-requires c =
-    let g = c.args.self in
+    let g = c.args.self.now in
     let m = g.model.now in
     let count_is : c.per_face-count.result ≡ per_face m (source m c.args.e) = c.per_face-count.ensures ∙ ap (per_face m) c.source.ensures in (
       record { is_switch = c.requires.0; count_is = count_is; is_piece = omega (arith, count_is) },
@@ -23,11 +23,11 @@ land_from-requires c =
     )
 
 pub loop-k-preserved : goal.loop-k-preserved
-loop-k-preserved c = let g = c.args.self in c.land_from.ensures ∙ from_more g.model.now g.table.now c.args.e c.loop-k.k c.loop-k.invariant
+loop-k-preserved c = let g = c.args.self.now in c.land_from.ensures ∙ from_more g.model.now g.table.now c.args.e c.loop-k.k c.loop-k.invariant
 
 pub returns : goal.returns
 returns c =
-    let m = c.args.self.model.now in
-    let t = c.args.self.table.now in
+    let m = c.args.self.now.model.now in
+    let t = c.args.self.now.table.now in
     let e : c.loop-k.k ≡ per_face m (source m c.args.e) = omega (arith, c.per_face-count.ensures, ap (per_face m) c.source.ensures) in
     c.loop-k.invariant ∙ ap (λ (k : ℕ). table_by m (joined_from m t c.args.e k)) e ∙ from_all m t c.args.e

@@ -11,7 +11,7 @@ use Rattle.passes.proofs.given.Given.land_from.Goals as goal
 
 pub land-requires : goal.land-requires
 land-requires c =
-    let g = c.args.self in
+    let g = c.args.self.now in
     let from = c.source_piece-from in
     let there : word from.result.now 0 ≡ pos 1 = omega (arith, ints) in
     let levels = (source_levels g c.args.e c.args.k c.requires.0.is_switch c.requires.0.is_piece from.ensures).has there in
@@ -19,7 +19,7 @@ land-requires c =
 
 pub returns-then-from-eq1 : goal.returns-then-from-eq1
 returns-then-from-eq1 c =
-    let g = c.args.self in
+    let g = c.args.self.now in
     let from = c.source_piece-from in
     let there : word from.result.now 0 ≡ pos 1 = omega (arith, ints) in
     let box_is : c.box_at.result.now ≡ box_at (n# g.model.now) from.result.now 1 = c.box_at.ensures ∙ ap (λ (n : ℕ). box_at n from.result.now 1) c.variables-n.ensures in
@@ -27,7 +27,7 @@ returns-then-from-eq1 c =
 
 pub returns-else-from-eq1 : goal.returns-else-from-eq1
 returns-else-from-eq1 c =
-    let g = c.args.self in
+    let g = c.args.self.now in
     let from = c.source_piece-from in
     let gone = part_gone (n# g.model.now) from.result.now (λ e. c.if-from-eq1.false (omega (arith, ints, e))) in
     landed_from g.model.now g.table.now c.args.e c.args.k from.ensures.gives c.args.out.now (nothing_landed g.model.now c.args.e (step_none g.model.now g.table.now c.args.e c.args.k gone) c.requires.2)

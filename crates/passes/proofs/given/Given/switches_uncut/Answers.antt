@@ -10,11 +10,11 @@ use Rattle.passes.proofs.Landing.{switches_none, switches_all, from_one, is_tabl
 use Rattle.passes.proofs.given.Given.switches_uncut.Goals as goal
 
 pub loop-e-init : goal.loop-e-init
-loop-e-init c = let g = c.args.self in c.requires.0 ∙ switches_none g.model.now g.table.now
+loop-e-init c = let g = c.args.self.now in c.requires.0 ∙ switches_none g.model.now g.table.now
 
 pub land_from-requires : goal.land_from-requires
 land_from-requires c =
-    let g = c.args.self in
+    let g = c.args.self.now in
     let m = g.model.now in
     let e = c.loop-e.e in
     let is_switch : e < E# m = omega arith in
@@ -23,7 +23,7 @@ land_from-requires c =
 
 pub loop-e-preserved : goal.loop-e-preserved
 loop-e-preserved c =
-    let g = c.args.self in
+    let g = c.args.self.now in
     let m = g.model.now in
     let e = c.loop-e.e in
     let is_switch : e < E# m = omega arith in
@@ -31,7 +31,7 @@ loop-e-preserved c =
 
 pub returns : goal.returns
 returns c =
-    let m = c.args.self.model.now in
-    let t = c.args.self.table.now in
+    let m = c.args.self.now.model.now in
+    let t = c.args.self.now.table.now in
     let e : c.loop-e.e ≡ E# m = omega arith in
     c.loop-e.invariant ∙ ap (λ (k : ℕ). table_by m (joined_below m t k)) e ∙ switches_all m t

@@ -64,41 +64,41 @@ module _ (g : Given) where
 
 pub loop-l-init : goal.loop-l-init
 loop-l-init c =
-    let g = c.args.self in
+    let g = c.args.self.now in
     c.copy_from_slice.ensures.after ∙ copied_is g c.requires ∙ none_put (location_words g.model.now) (locations_of g.model.now g.table.now) (locations_sized g.model.now g.table.now) (held g)
 
 pub piece_at-at-requires : goal.piece_at-at-requires
-piece_at-at-requires c = let g = c.args.self in (before_small g refl (omega arith), omega arith, omega (arith, g.whole.head.n_small))
+piece_at-at-requires c = let g = c.args.self.now in (before_small g refl (omega arith), omega arith, omega (arith, g.whole.head.n_small))
 
 pub piece_at-end-requires : goal.piece_at-end-requires
-piece_at-end-requires c = let g = c.args.self in (before_small g refl (omega arith), omega arith, omega (arith, g.whole.head.n_small))
+piece_at-end-requires c = let g = c.args.self.now in (before_small g refl (omega arith), omega arith, omega (arith, g.whole.head.n_small))
 
 pub overflow_sub-next : goal.overflow_sub-next
-overflow_sub-next c = omega (arith, next_is c.args.self {l = c.loop-l.l} (omega arith))
+overflow_sub-next c = omega (arith, next_is c.args.self.now {l = c.loop-l.l} (omega arith))
 
 pub offset_bounds-out-at : goal.offset_bounds-out-at
 offset_bounds-out-at c =
-    let g = c.args.self in
+    let g = c.args.self.now in
     omega (arith, to g {l = c.loop-l.l} (omega arith) c.variables-n.ensures c.piece_at-at.ensures c.piece_at-end.ensures, small g {l = c.loop-l.l} (omega arith) c.variables-n.ensures c.piece_at-at.ensures c.piece_at-end.ensures)
 
 pub slice_bounds-join_parts-count : goal.slice_bounds-join_parts-count
-slice_bounds-join_parts-count c = omega (arith, to c.args.self {l = c.loop-l.l} (omega arith) c.variables-n.ensures c.piece_at-at.ensures c.piece_at-end.ensures)
+slice_bounds-join_parts-count c = omega (arith, to c.args.self.now {l = c.loop-l.l} (omega arith) c.variables-n.ensures c.piece_at-at.ensures c.piece_at-end.ensures)
 
 pub slice_bounds-join_parts-start : goal.slice_bounds-join_parts-start
-slice_bounds-join_parts-start c = omega (arith, to c.args.self {l = c.loop-l.l} (omega arith) c.variables-n.ensures c.piece_at-at.ensures c.piece_at-end.ensures)
+slice_bounds-join_parts-start c = omega (arith, to c.args.self.now {l = c.loop-l.l} (omega arith) c.variables-n.ensures c.piece_at-at.ensures c.piece_at-end.ensures)
 
 pub slice_bounds-join_parts-end : goal.slice_bounds-join_parts-end
-slice_bounds-join_parts-end c = omega (arith, inside c.args.self {l = c.loop-l.l} (omega arith) c.variables-n.ensures c.piece_at-at.ensures c.piece_at-end.ensures, c.requires)
+slice_bounds-join_parts-end c = omega (arith, inside c.args.self.now {l = c.loop-l.l} (omega arith) c.variables-n.ensures c.piece_at-at.ensures c.piece_at-end.ensures, c.requires)
 
 pub join_parts-requires : goal.join_parts-requires
 join_parts-requires c =
-    let g = c.args.self in
+    let g = c.args.self.now in
     let u : c.loop-l.l < L# g.model.now = omega arith in
     (u, before_is g {l = c.loop-l.l} refl (omega arith), omega (arith, next_is g u), old_words g u c.variables-n.ensures c.piece_at-at.ensures c.piece_at-end.ensures c.loop-l.invariant)
 
 pub loop-l-preserved : goal.loop-l-preserved
 loop-l-preserved c =
-    let g = c.args.self in
+    let g = c.args.self.now in
     let u : c.loop-l.l < L# g.model.now = omega arith in
     let a = c.piece_at-at.ensures in
     let b = c.piece_at-end.ensures in
@@ -107,7 +107,7 @@ loop-l-preserved c =
 
 pub returns : goal.returns
 returns c =
-    let g = c.args.self in
+    let g = c.args.self.now in
     let e : c.loop-l.l ≡ L# g.model.now = omega arith in
     all_put (location_words g.model.now) (locations_of g.model.now g.table.now) (locations_sized g.model.now g.table.now) (held g) (L# g.model.now) (c.loop-l.invariant ∙ ap (λ (k : ℕ). onto (cat k (locations_of g.model.now g.table.now)) (held g)) e) (table_sized g.model.now (held_long g))
     ∙ all_locations g.model.now g.table.now

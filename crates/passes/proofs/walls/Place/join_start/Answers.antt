@@ -12,4 +12,4 @@ start_flag-requires c = (whole c.args.model.now c.requires.0, c.requires.1)
 pub returns-else-start_flag-eq1 : goal.returns-else-start_flag-eq1
 returns-else-start_flag-eq1 c =
     let a = c.args in
-    part_none a.self c.requires.3 (start_gone a.model.now a.l (λ e. c.if-start_flag-eq1.false (omega (arith, ints, c.start_flag.ensures, e))))
+    part_none a.self.now c.requires.3 (start_gone a.model.now a.l (λ e. c.if-start_flag-eq1.false (omega (arith, ints, c.start_flag.ensures, e))))

@@ -20,4 +20,4 @@ pub returns-then-start_part : goal.returns-then-start_part
 returns-then-start_part c = rw (handed_box c.start_part.ensures c.if-start_part.true, ← c.requires.2.n_is) c.join_walls.ensures
 
 pub returns-else-start_part : goal.returns-else-start_part
-returns-else-start_part c = part_none c.args.self c.requires.3 (handed_none c.start_part.ensures c.if-start_part.false)
+returns-else-start_part c = part_none c.args.self.now c.requires.3 (handed_none c.start_part.ensures c.if-start_part.false)

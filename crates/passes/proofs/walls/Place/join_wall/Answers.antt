@@ -33,7 +33,7 @@ widen_after-requires c =
     let a = c.args in
     let b = c.word-b in
     let delays_are = simp (got64 b.result b.type_inv) at c.wall_delays.ensures in
-    let none : a.self.cut ≡ None = none_is a.self.cut (grind arith) in
+    let none : a.self.now.cut ≡ None = none_is a.self.now.cut (grind arith) in
     let there : word a.pieces.now 0 ≡ pos 1 = omega (arith, ints) in
     simp (got64 b.result b.type_inv) (
       after_ok c.requires b.ensures delays_are c.in-Some.is,
@@ -52,7 +52,7 @@ returns-then-is_none c =
     let a = c.args in
     let b = c.word-b in
     let delays_are = simp (got64 b.result b.type_inv) at c.wall_delays.ensures in
-    let none : a.self.cut ≡ None = none_is a.self.cut (grind arith) in
+    let none : a.self.now.cut ≡ None = none_is a.self.now.cut (grind arith) in
     let there : word a.pieces.now 0 ≡ pos 1 = omega (arith, ints) in
     wall_widened c.requires b.ensures delays_are c.in-Some.is none there (simp (got64 b.result b.type_inv) at c.widen_after.ensures)
 

@@ -75,28 +75,28 @@ module _ (p : Place) {bounds block : List ℤ} (r : InInvariant p.n p.invariant.
             (next_joined p.n p.cut block given r.1 f is_face h at_is end_is (e ∙ walls_given p bounds f part))
 
 pub overflow_mul-size : goal.overflow_mul-size
-overflow_mul-size c = omega (arith, size_few c.args.self c.requires c.pieces_per_face.ensures c.face_size.ensures)
+overflow_mul-size c = omega (arith, size_few c.args.self.now c.requires c.pieces_per_face.ensures c.face_size.ensures)
 
 pub loop-f-init : goal.loop-f-init
-loop-f-init c = none_joined c.args.self c.requires
+loop-f-init c = none_joined c.args.self.now c.requires
 
 pub overflow_mul-at : goal.overflow_mul-at
-overflow_mul-at c = omega (arith, small c.args.self c.requires c.pieces_per_face.ensures c.face_size.ensures c.loop-f-test.true)
+overflow_mul-at c = omega (arith, small c.args.self.now c.requires c.pieces_per_face.ensures c.face_size.ensures c.loop-f-test.true)
 
 pub overflow_add-next : goal.overflow_add-next
-overflow_add-next c = omega (arith, small c.args.self c.requires c.pieces_per_face.ensures c.face_size.ensures c.loop-f-test.true)
+overflow_add-next c = omega (arith, small c.args.self.now c.requires c.pieces_per_face.ensures c.face_size.ensures c.loop-f-test.true)
 
 pub offset_bounds-block-at : goal.offset_bounds-block-at
-offset_bounds-block-at c = omega (arith, small c.args.self c.requires c.pieces_per_face.ensures c.face_size.ensures c.loop-f-test.true)
+offset_bounds-block-at c = omega (arith, small c.args.self.now c.requires c.pieces_per_face.ensures c.face_size.ensures c.loop-f-test.true)
 
 pub slice_bounds-join_wall-end : goal.slice_bounds-join_wall-end
-slice_bounds-join_wall-end c = omega (arith, inside c.args.self c.requires c.pieces_per_face.ensures c.face_size.ensures c.loop-f-test.true)
+slice_bounds-join_wall-end c = omega (arith, inside c.args.self.now c.requires c.pieces_per_face.ensures c.face_size.ensures c.loop-f-test.true)
 
 pub join_wall-requires : goal.join_wall-requires
-join_wall-requires c = wall_join c.args.self c.requires c.pieces_per_face.ensures c.face_size.ensures c.loop-f-test.true c.loop-f.block c.loop-f.invariant c.window_end-end.ensures
+join_wall-requires c = wall_join c.args.self.now c.requires c.pieces_per_face.ensures c.face_size.ensures c.loop-f-test.true c.loop-f.block c.loop-f.invariant c.window_end-end.ensures
 
 pub loop-f-preserved : goal.loop-f-preserved
-loop-f-preserved c = wall_joined c.args.self c.requires c.pieces_per_face.ensures c.face_size.ensures c.loop-f-test.true c.loop-f.block c.loop-f.invariant c.join_wall.ensures
+loop-f-preserved c = wall_joined c.args.self.now c.requires c.pieces_per_face.ensures c.face_size.ensures c.loop-f-test.true c.loop-f.block c.loop-f.invariant c.join_wall.ensures
 
 pub returns : goal.returns
-returns c = all_joined c.args.self c.requires c.loop-f.f (omega arith) c.loop-f.invariant
+returns c = all_joined c.args.self.now c.requires c.loop-f.f (omega arith) c.loop-f.invariant

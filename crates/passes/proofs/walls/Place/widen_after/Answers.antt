@@ -12,19 +12,19 @@ use Rattle.passes.proofs.walls.Place.widen_after.Goals as goal
 pub loop-i-init : goal.loop-i-init
 loop-i-init c =
     let a = c.args in
-    let p = a.self in
+    let p = a.self.now in
     simp (to_z-of_z c.ranges.b) (widen_start (box_at p.n a.face.now 1) (after p a.bounds.now a.d a.b a.t) a.face.now (omega arith) c.requires.2)
 
 pub low_after-lo-requires : goal.low_after-lo-requires
 low_after-lo-requires c =
-    let p = c.args.self in
+    let p = c.args.self.now in
     let ok = c.requires.0 in
     let i = c.loop-i.i in
     (p.levels i (omega arith), p.rates i (omega arith), in_levels p.levels ok.bounds_in i (omega arith), ok.small, ok.bounds_in.inside.lower i (omega arith))
 
 pub high_after-hi-requires : goal.high_after-hi-requires
 high_after-hi-requires c =
-    let p = c.args.self in
+    let p = c.args.self.now in
     let ok = c.requires.0 in
     let i = c.loop-i.i in
     (p.levels i (omega arith), p.rates i (omega arith), in_levels p.levels ok.bounds_in i (omega arith), ok.small, ok.bounds_in.inside.higher i (omega arith))
@@ -33,20 +33,20 @@ pub overflow_cast-lo : goal.overflow_cast-lo
 overflow_cast-lo c =
     let a = c.args in
     let x = c.low_after-lo in
-    let below : c.loop-i.i < a.self.n = omega arith in
-    rw (got64 x.result x.type_inv) (low_fits c.requires.0 a.d below (simp (to_z-of_z c.ranges.b) at (x.ensures a.self.n)))
+    let below : c.loop-i.i < a.self.now.n = omega arith in
+    rw (got64 x.result x.type_inv) (low_fits c.requires.0 a.d below (simp (to_z-of_z c.ranges.b) at (x.ensures a.self.now.n)))
 
 pub overflow_cast-hi : goal.overflow_cast-hi
 overflow_cast-hi c =
     let a = c.args in
     let x = c.high_after-hi in
-    let below : c.loop-i.i < a.self.n = omega arith in
-    rw (got64 x.result x.type_inv) (high_fits c.requires.0 a.d below (simp (to_z-of_z c.ranges.b) at (x.ensures a.self.n)))
+    let below : c.loop-i.i < a.self.now.n = omega arith in
+    rw (got64 x.result x.type_inv) (high_fits c.requires.0 a.d below (simp (to_z-of_z c.ranges.b) at (x.ensures a.self.now.n)))
 
 pub loop-i-preserved : goal.loop-i-preserved
 loop-i-preserved c =
     let a = c.args in
-    let p = a.self in
+    let p = a.self.now in
     let l = c.loop-i in
     let x = c.low_after-lo in
     let y = c.high_after-hi in
@@ -59,6 +59,6 @@ loop-i-preserved c =
 pub returns : goal.returns
 returns c =
     let a = c.args in
-    let p = a.self in
+    let p = a.self.now in
     let e : c.loop-i.i ≡ p.n = omega arith in
     widen_end p.n (box_at p.n a.face.now 1) (after p a.bounds.now a.d a.b a.t) a.face.now _ (simp (to_z-of_z c.ranges.b, e) at c.loop-i.invariant) (omega arith)
