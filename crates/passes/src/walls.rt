@@ -67,9 +67,16 @@ impl<'a> Place<'a> {
         requires { AfterJoin self.now bounds.now b t × (length face.old ≡ face_size self.now.n) × (word face.old 0 ≡ pos 1) }
         ensures { face.new ≡ face_words self.now.n (present (hull self.now.n (box_at self.now.n face.old 1) (after self.now bounds.now d b t))) }
     {
-        for i in 0..self.n {
-            let lo = steps::low_after(self.invariant, self.rate, bounds, d, b, t, i) as i32;
-            let hi = steps::high_after(self.invariant, self.rate, bounds, d, b, t, i) as i32;
+        // Named outside the loop: behind `self` they would be read again after each word that is written.
+        let Place {
+            n,
+            invariant,
+            rate,
+            ..
+        } = *self;
+        for i in 0..n {
+            let lo = steps::low_after(invariant, rate, bounds, d, b, t, i) as i32;
+            let hi = steps::high_after(invariant, rate, bounds, d, b, t, i) as i32;
             let low = 2 * i + 1;
             let high = low + 1;
             face[low] = face[low].min(lo);
