@@ -1,37 +1,31 @@
 -- The cuts' fields as code comes by them: their words in the file, their questions one after the other, and a turn of the loop
 -- that asks them and of the one that copies them.
 use mathlib.Core.Path.{◌≡◌, refl, sym, ap, ap₂, ◌∙◌}
-use mathlib.Core.Bool.{Bool, true, false, cond, not, ◌&&◌}
+use mathlib.Core.Bool.{Bool, true, false, cond}
 use mathlib.Core.List.{List, [], ◌∷◌, ◌++◌}
-use Prim.Native.Nat.{ℕ, suc, ◌+◌, ◌-◌, ◌*◌, ◌≤◌, ◌<◌}
+use Prim.Native.Nat.{ℕ, suc, ◌+◌, ◌*◌, ◌≤◌, ◌<◌}
 use native.Mathlib.Numerals.{add-one, towards_suc}
 use native.Mathlib.Decide.{dec_lt}
 use native.Mathlib.Omega.{arith}
-use borrow.Author.Tests.{lt-leb, eq-eqb, ne_eqb}
-use lib.Dec.{eqb}
-use lib.IntN.{ℤ, pos, negsuc}
-use lib.Signed.{mag}
-use lib.ListN.{length, get_or, take, set}
+use borrow.Author.Tests.{lt-leb}
+use lib.IntN.{ℤ}
+use lib.ListN.{length, take, set}
 use lib.Seq.{sets}
-use mir.Syntax.{w32, w64}
-use mir.Val.{to_z, of_z}
-use mir.Facts.{to_z-of_z}
-use Rattle.integers.specs.Words.{word, num, eq_z, within, onto}
+use Rattle.integers.specs.Words.{word, num, onto}
 use Rattle.integers.specs.Counted.{cat}
-use Rattle.integers.proofs.Signed.{no_true, got32, widened, as_signed}
 use Rattle.integers.proofs.Buffers.{onto_start, cat_none, length-cat, cat_turn, sets_onto}
 use Rattle.files.specs.Bytes.{word_at, words_at}
 use Rattle.files.specs.Fields.{field_at, is_field}
 use Rattle.files.proofs.Words.{words_nth}
 use Rattle.files.proofs.Fields.{due}
-use Rattle.plant.specs.Ask.{ask, ◌then◌, first}
+use Rattle.plant.specs.Ask.{ask, first}
 use Rattle.plant.proofs.Asks.{ask_yes, first_none, first_each, first_intro}
 use Rattle.plant.specs.declared.Refusal.{Refusal}
 use Rattle.plant.specs.Refusals.{number}
 use Rattle.plant.proofs.Refusing.{refused_at, passed_more}
-use Rattle.files.specs.ModelFile.{cut_place, cut_field_words, least_location, cut_words_ok, cut_field_questions, end_questions, cuts_questions, names_location, file_cut, cut_words}
+use Rattle.files.specs.ModelFile.{cut_place, cut_field_words, least_location, cut_field_questions, end_questions, cuts_questions, names_location, file_cut, cut_words}
 use Rattle.model_files.specs.Room.{CutThere, CutsReady, filled_cut}
-use Rattle.files.proofs.Cuts.{CutYes, cut_yes, is_named, length_cut, each, Reached, reached_none, reached_more, reached_same, words_named, words_not_named}
+use Rattle.files.proofs.Cuts.{CutYes, cut_yes, length_cut, each, Reached, reached_none, reached_more, reached_same, words_named, words_not_named}
 use Rattle.files.proofs.CutsBack.{end_yes}
 
 -- ---- the words of the field at a position
@@ -52,9 +46,6 @@ module _ (s : List ℕ) (at : ℕ) where
 
   pub words_of_cut : words_at s (at + 3 + 4) 2 ≡ word (cut_field_words s at) 1 ∷ word (cut_field_words s at) 2 ∷ []
   words_of_cut = two_at s (at + 3 + 4) ∙ ap₂ (λ (a b : ℤ). a ∷ b ∷ []) (sym variable_word) (sym value_word)
-
-  pub by_location : {k : ℕ} (l : ℕ) → at < length s → k ≡ num (cut_field_words s at) 0 → eqb k l ≡ names_location s at l
-  by_location l h e = rw (lt-leb (length s) at h, e) refl
 
   -- ---- its questions
 

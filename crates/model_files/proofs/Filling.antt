@@ -6,11 +6,11 @@ use native.Mathlib.Omega.{arith}
 use lib.IntN.{ℤ}
 use lib.ListN.{length, drop}
 use Rattle.integers.specs.Words.{onto}
-use Rattle.plant.specs.Model.{n#, L#, E#, B#, location_size, switch_size, forbidden_size, location_at, switch_at, forbidden_at, cut_at, model_size}
+use Rattle.plant.specs.Model.{L#, cut_at, model_size}
 use Rattle.plant.proofs.Whole as model
 use Rattle.plant.proofs.Positions.{head_first}
 use Rattle.plant.proofs.Heads.{locations_at, switches_at, forbiddens_at, cuts_at, words_end}
-use Rattle.files.specs.ModelFile.{locations_from, switches_from, forbiddens_from, cuts_from}
+use Rattle.files.specs.ModelFile.{cuts_from}
 use Rattle.files.proofs.FirstField.{length_head}
 use Rattle.files.proofs.ModelReading.{BodyPassed}
 use Rattle.model_files.specs.Room.{locations_run, switches_run, forbiddens_run, RunReady, CutsReady, HeadRead}

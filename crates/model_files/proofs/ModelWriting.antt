@@ -1,18 +1,17 @@
 -- Laws of writing a model's file: the fields of a record and of a cut are put together, one loop writes a run of records and one the
 -- cuts, and how long the file is.
 use mathlib.Core.Path.{◌≡◌, refl, sym, ap, ap₂, ◌∙◌}
-use mathlib.Core.Bool.{Bool, true, false, not, cond}
+use mathlib.Core.Bool.{Bool, true, false, not}
 use mathlib.Core.Logic.{⊎_elim}
 use mathlib.Core.List.{List, [], ◌∷◌, ◌++◌, append_assoc}
 use Prim.Native.Nat.{ℕ, ◌+◌, ◌*◌, ◌≤◌, ◌<◌}
-use native.Mathlib.Nat.{mul-le-mul_right}
 use native.Mathlib.Omega.{arith}
 use lib.Dec.{leb, leb→le}
 use lib.IntN.{ℤ, pos, negsuc}
 use lib.ListN.{length, take, length-append}
 use Rattle.integers.specs.Words.{word, eq_z, onto}
 use Rattle.integers.specs.Counted.{cat}
-use Rattle.integers.proofs.Buffers.{onto_start, cat_ext, cat_more, cat_at, length-cat}
+use Rattle.integers.proofs.Buffers.{onto_start, cat_ext, cat_at, length-cat}
 use Rattle.integers.proofs.Counted.{split}
 use Rattle.files.specs.Bytes.{word_size, word_bytes, words_bytes, part}
 use Rattle.files.specs.Fields.{header_size, payload_length, field_length, header, field}
