@@ -59,20 +59,20 @@ pub fn qii_ceiling(model: &[i32], value: &mut u64) -> u32
     count_reply(analysis::ceiling(model).map(|k| k as usize), value)
 }
 
-// The figures of a quote that is refused.
-const NOTHING: Figures = Figures {
-    words: 0,
-    bytes: 0,
-    ceiling: 0,
-};
-
 // What any analysis of a model takes at most: the words of its table, the bytes of a file of it, the passes.
 pub fn qii_quote(model: &[i32], words: &mut u64, bytes: &mut u64, ceiling: &mut u64) -> u32
     ensures { record { code = result; words = words.new; bytes = bytes.new; ceiling = ceiling.new } ≡ quote_reply (quote_call model.now) }
 {
     let (code, figures) = match quote::quote(model) {
         Ok(figures) => (100, figures),
-        Err(refusal) => (refusal.number(), NOTHING),
+        Err(refusal) => {
+            let nothing = Figures {
+                words: 0,
+                bytes: 0,
+                ceiling: 0,
+            };
+            (refusal.number(), nothing)
+        }
     };
     *words = figures.words as u64;
     *bytes = figures.bytes as u64;

@@ -49,6 +49,7 @@ fn verdict(checked: Result<(), Refusal>) -> u32
 
 // The answer once all questions are yes, and the file of its table, with N words held for the table and as many for the passes. They
 // are cleared at each call.
+#[tactic(auto, using(plant::proofs::Passing::whole, plant::proofs::AnalysisAsked::all_yes))]
 fn answer_in<const N: usize>(model: &[i32], file: &mut [u8], limit: u32) -> Answer
     requires { (model_questions model.now ≡ 0) × (longest_table_file model.now ≤ length file.old) × (table_size model.now ≤ N) × (N ≤ MOST_WORDS) }
     ensures { record { number = packed (answer_reply result); file = file.new } ≡ decided model.now (C.analysis model.now limit) file.old }
@@ -62,6 +63,7 @@ fn answer_in<const N: usize>(model: &[i32], file: &mut [u8], limit: u32) -> Answ
 }
 
 // The same, with fewer words held for a smaller table.
+#[tactic(auto, using(plant::proofs::Passing::whole, plant::proofs::Passing::head_ready, tables::proofs::Faces::table_most))]
 fn answer_file(model: &[i32], file: &mut [u8], limit: u32) -> Answer
     requires { (model_questions model.now ≡ 0) × (longest_table_file model.now ≤ length file.old) }
     ensures { record { number = packed (answer_reply result); file = file.new } ≡ decided model.now (C.analysis model.now limit) file.old }
@@ -77,6 +79,7 @@ fn answer_file(model: &[i32], file: &mut [u8], limit: u32) -> Answer
 }
 
 // The words of a model that passes its questions: 39, then the answer.
+#[tactic(auto, using(plant::proofs::Passing::whole))]
 fn decide_words(model: &[i32], file: &mut [u8], limit: u32) -> Result<Answer, Refusal>
     requires { model_questions model.now ≡ 0 }
     ensures kept { OnErr result (file.new ≡ file.old) }
@@ -86,7 +89,7 @@ fn decide_words(model: &[i32], file: &mut [u8], limit: u32) -> Result<Answer, Re
     Ok(answer_file(model, file, limit))
 }
 
-// Decides a model file with N words held for the model. Refused by Words where these are not enough: then it changes nothing.
+// Decides a model file with N words held for the model. Refused by Words where these are not enough; a refusal changes nothing.
 fn decide_in<const N: usize>(model: &[u8], table: &mut [u8], limit: u32) -> Result<Answer, Refusal>
     requires { N ≤ MODEL_WORDS }
     ensures kept { OnErr result (table.new ≡ table.old) }
@@ -123,6 +126,7 @@ fn check_table_in<'a, const N: usize>(model: &'a [i32], file: &'a [u8]) -> Resul
 }
 
 // The same, with fewer words held for a smaller table.
+#[tactic(auto, using(plant::proofs::Passing::whole, plant::proofs::Passing::head_ready, tables::proofs::Faces::table_most))]
 fn check_table<'a>(model: &'a [i32], file: &'a [u8]) -> Result<(), Refusal>
     requires { model_questions model.now ≡ 0 }
     ensures { asked result ≡ certificate_file_questions model.now file.now }

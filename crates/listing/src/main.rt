@@ -68,6 +68,7 @@ fn print_line(out: &impl Print, file: &[u8], from: usize, count: usize) -> io::R
 const COUNT_SIZE: usize = 1;
 
 // A line for each of as many fields of a table's file behind the first.
+#[tactic(auto, using(files::proofs::Fields::field_lies))]
 fn print_pieces(out: &impl Print, file: &[u8], count: u32) -> io::Result<()> {
     let mut at = wire::field_length(COUNT_SIZE);
     for _ in 0..count {
