@@ -132,7 +132,7 @@ fn counted_passes(
         if k == limit {
             return Answer::Unfinished(k);
         }
-        table.copy_from_slice(work);
+        integers::copy(work, table);
         k += 1;
     }
 }

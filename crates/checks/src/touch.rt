@@ -22,14 +22,17 @@ pub fn link(model: &[i32]) -> Links
     requires { model_questions model.now ≡ 0 }
     ensures { Linked model.now (B# model.now) result.last result.before }
 {
-    let mut last = [0; 64];
-    let mut before = [0; 64];
+    // Built in place: two lists moved into it at the end would be held beside it.
+    let mut links = Links {
+        last: [0; 64],
+        before: [0; 64],
+    };
     for b in 0..records::forbidden_boxes(model) {
         let l = records::forbidden_location(model, b);
-        before[b] = last[l];
-        last[l] = b + 1;
+        links.before[b] = links.last[l];
+        links.last[l] = b + 1;
     }
-    Links { last, before }
+    links
 }
 
 // Writes the words of the start part of location l, a flag and a box of up to six variables.

@@ -134,7 +134,7 @@ fn latest(part: Range, rate: Range, into: Range) -> End
 
 // The delays from the part with the rate into the range.
 #[tactic(auto, unfolding(plant::specs::Delays::delays_into))]
-fn delays_into(part: Range, rate: Range, into: Range) -> Option<Interval>
+pub fn delays_into(part: Range, rate: Range, into: Range) -> Option<Interval>
     requires { Level part.low × Level part.high × Level into.low × Level into.high }
     ensures { result ≡ delays_into part.low part.high rate.low rate.high into.low into.high }
 {
@@ -148,7 +148,7 @@ fn delays_into(part: Range, rate: Range, into: Range) -> Option<Interval>
 }
 
 // The delays at which variable i of a part can be in the range: none, or small.
-fn variable_delays(rate: &[i32], part: &[i32], i: usize, into: Range) -> Option<Interval>
+pub fn variable_delays(rate: &[i32], part: &[i32], i: usize, into: Range) -> Option<Interval>
     requires { RateAt rate.now i × LevelAt part.now i × Level into.low × Level into.high }
     ensures value { result ≡ delays_into (low part.now i) (high part.now i) (low rate.now i) (high rate.now i) into.low into.high }
     ensures small { SmallDelays result }

@@ -1,5 +1,5 @@
 -- What include/qiifaduleh.h says of the calls on words and on files: the number, the values and every lent word or byte, for every
--- input. Each is the call's own definition with the reply in place of the enum: done, safe and accepted 100, unknown 101,
+-- input. Each is the call's own definition with the reply in place of what it gives: done, safe and accepted 100, unknown 101,
 -- unfinished 102, else the refusal's own number with the value 0. (The ceiling, the quote and the checker are lent nothing to
 -- change: their replies say all.)
 use Rattle.std.specs.Prelude.{◌≡◌, List, [], ◌∷◌, ℕ, ℤ}

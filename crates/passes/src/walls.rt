@@ -186,7 +186,7 @@ impl Given<'_> {
     {
         let n = records::variables(self.model);
         let size = out.len();
-        out.copy_from_slice(&self.table[..size]);
+        integers::copy(&self.table[..size], out);
         for l in 0..records::locations(self.model) {
             let before = self.places[l];
             let next = self.places[l + 1];

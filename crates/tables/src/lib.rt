@@ -136,7 +136,9 @@ fn place(n: usize, from: &[i32], face: &mut [i32])
     ensures { face.new ≡ face_words n (present from.now) }
 {
     face[0] = 1;
-    face[1..].copy_from_slice(&from[..2 * n]);
+    for (i, word) in face[1..].iter_mut().enumerate() {
+        *word = from[i];
+    }
 }
 
 // A present face is widened to the smallest box holding both.
@@ -183,7 +185,7 @@ fn join_between(n: usize, v: usize, low: i32, high: i32, from: &[i32], piece: &m
 
 // Joins a box to the two pieces of a face of wall variable d in a cut location: to the first what the box has up to the cut's value, to
 // the second what it has from it. On the walls of the cut's variable the first piece is the whole face, and the second is absent.
-fn join_both(n: usize, d: usize, cut: Cut, from: &[i32], pieces: &mut [i32])
+pub fn join_both(n: usize, d: usize, cut: Cut, from: &[i32], pieces: &mut [i32])
     requires { PiecesJoinable n (Some cut) from.now pieces.old }
     ensures { pieces.new ≡ joined_each n 2 pieces.old (cut_each n (Some cut) d (present from.now)) }
 {

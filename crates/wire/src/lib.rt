@@ -131,8 +131,8 @@ pub fn put_header(out: &mut [u8], to: usize, tag: u8, len: usize)
 // A place in a file.
 #[derive(Clone, Copy)]
 pub struct Cursor<'a> {
-    file: &'a [u8],
-    at: usize,
+    pub file: &'a [u8],
+    pub at: usize,
 }
 
 impl<'a> Cursor<'a> {

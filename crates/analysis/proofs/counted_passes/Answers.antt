@@ -19,5 +19,5 @@ returns-then-k-limit c = going_limit _ _ _ _ _ c.loop-links.invariant (cc) (cc) 
 
 pub loop-links-preserved : goal.loop-links-preserved
 loop-links-preserved c =
-    let is_pass : c.copy_from_slice.new.self ≡ pass c.args.model.now c.loop-links.table = cc in
+    let is_pass : c.copy.new.to ≡ pass c.args.model.now c.loop-links.table = cc in
     rw is_pass (going_more _ _ _ _ _ c.loop-links.invariant (cc) (cc) (omega arith) _ (cc))

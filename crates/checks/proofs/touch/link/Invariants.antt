@@ -3,4 +3,4 @@ use Rattle.checks.specs.Links.{Linked}
 use Rattle.checks.proofs.touch.link.Given as goal
 
 abbrev pub invariant-loop-b : goal.invariant-loop-b
-invariant-loop-b l = Linked l.model l.b l.last l.before
+invariant-loop-b l = Linked l.model l.b l.links.last l.links.before

@@ -65,7 +65,7 @@ module _ (g : Given) where
 pub loop-l-init : goal.loop-l-init
 loop-l-init c =
     let g = c.args.self.now in
-    c.copy_from_slice.ensures.after ∙ copied_is g c.requires ∙ none_put (location_words g.model.now) (locations_of g.model.now g.table.now) (locations_sized g.model.now g.table.now) (held g)
+    c.copy.ensures ∙ copied_is g c.requires ∙ none_put (location_words g.model.now) (locations_of g.model.now g.table.now) (locations_sized g.model.now g.table.now) (held g)
 
 pub piece_at-at-requires : goal.piece_at-at-requires
 piece_at-at-requires c = let g = c.args.self.now in (before_small g refl (omega arith), omega arith, omega (arith, g.whole.head.n_small))

@@ -1,0 +1,7 @@
+-- So far i words are copied.
+use mathlib.Core.Path.{◌≡◌}
+use lib.ListN.{take}
+use Rattle.integers.proofs.copy.Given as goal
+
+abbrev pub invariant-loop-i : goal.invariant-loop-i
+invariant-loop-i l = take l.i l.to ≡ take l.i l.from
