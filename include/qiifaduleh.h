@@ -614,7 +614,7 @@ enum qii_refusal {
 #define QII_TABLE_BYTES_MAX 96775
 
 /* The stack of a thread that makes any call, and of one that makes any but decide and check. Of it
-   decide and check use up to 195,000 bytes, qii_check 86,000, each of the others less than 4,000
+   decide and check use up to 195,000 bytes, qii_check 85,000, each of the others less than 3,000
    (measured by tests/c/stack.c); the rest is for the thread itself and for the caller. Not counted
    are a program's own thread-local memory, which can lie on the thread's stack, and what a
    sanitizer takes: add them. */

@@ -84,7 +84,9 @@ impl<'a> Place<'a> {
         }
     }
 
-    // Joins to the pieces of a face the box after the delays t to the value b of variable d.
+    // Joins to the pieces of a face the box after the delays t to the value b of variable d. Not inlined: the walls of an uncut location
+    // that are reached already go without it, and have its registers.
+    #[inline(never)]
     fn join_after(&self, bounds: &[i32], d: usize, b: i64, t: Interval, pieces: &mut [i32])
         requires { AfterJoin self.now bounds.now b t × AreFaces self.now.n (pieces_per_face self.now.cut) pieces.old }
         ensures { pieces.new ≡ with_face self.now d (face_after self.now.n self.now.invariant.now self.now.rate.now bounds.now d b (Some t)) pieces.old }
