@@ -48,8 +48,8 @@ fn verdict(checked: Result<(), Refusal>) -> u32
 // ---- decide
 
 // The answer once all questions are yes, and the file of its table, with N words held for the table and as many for the passes. They
-// are cleared at each call. Not inlined: in a frame of its own each size lies at a multiple of 16 bytes, where a table is copied a
-// quarter faster, and a small plant gets a small frame.
+// are cleared at each call. Not inlined: in a frame of its own each size lies at a multiple of 16 bytes, where a table is copied
+// faster, and a small plant gets a small frame.
 #[inline(never)]
 #[tactic(auto, using(plant::proofs::Passing::whole, plant::proofs::AnalysisAsked::all_yes))]
 fn answer_in<const N: usize>(model: &[i32], file: &mut [u8], limit: u32) -> Answer

@@ -136,9 +136,7 @@ fn place(n: usize, from: &[i32], face: &mut [i32])
     ensures { face.new ≡ face_words n (present from.now) }
 {
     face[0] = 1;
-    for (i, word) in face[1..].iter_mut().enumerate() {
-        *word = from[i];
-    }
+    integers::copy(&from[..2 * n], &mut face[1..]);
 }
 
 // A present face is widened to the smallest box holding both.
